@@ -1,4 +1,5 @@
 -- What the pages that are held and those that are given are together, page by page.
+use Rattle.std.proofs.Common.{arith}
 use Rattle.std.proofs.Common.{◌≡◌, ℕ, zero, suc, ◌&&◌, List, [], ◌∷◌, Bool, true, false, Option, Some, None, refl, ap, sym, ◌∙◌}
 use Rattle.std.specs.Prelude.{is_none, is_some}
 use Rattle.std.specs.Option.{option_or}
@@ -9,8 +10,7 @@ use Rattle.dm_assembly_desk.specs.Merging.{union_of, added_mask, agrees_at, agre
 use Rattle.dm_assembly_desk.proofs.Masks.{half, odd, none_named, names_mask}
 
 and_none : (b : Bool) → (b && false) ≡ false
-and_none true = refl
-and_none false = refl
+and_none b = grind arith
 
 -- what is added_mask are just the pages of the file that aren't held
 pub names_added : (own pages : Pages) (m : ℕ) →
@@ -23,8 +23,7 @@ names_added (p ∷ ps) (q ∷ qs) (suc (suc m)) =
     ap (λ (x : ℕ). names x (suc m)) (half (added_mask ps qs) (is_none p && is_some q)) ∙ names_added ps qs (suc m)
 
 else_none : (o : Option (List ℕ)) → o ≡ option_or o None
-else_none None = refl
-else_none (Some b) = refl
+else_none o = grind arith
 
 -- each page is what was held, else what the file has
 pub page_merged : (own pages : Pages) (m : ℕ) → page (union_of own pages) m ≡ option_or (page own m) (page pages m)
@@ -36,12 +35,7 @@ page_merged (p ∷ ps) (q ∷ qs) (suc (suc m)) = page_merged ps qs (suc m)
 
 same_bytes : (p q : Option (List ℕ)) (one other : List ℕ) → agrees_at p q ≡ true → p ≡ Some one → q ≡ Some other →
     one ≡ other
-same_bytes None q one other same is is_other = absurd cc
-same_bytes (Some x) None one other same is is_other = absurd cc
-same_bytes (Some x) (Some y) one other same is is_other =
-    let x_is : x ≡ one = cc in
-    let y_is : y ≡ other = cc in
-    sym x_is ∙ (bytes_eq-Decides x y).0 same ∙ y_is
+same_bytes p q one other same is is_other = grind (arith, bytes_eq-Decides)
 
 -- a page that is held and given has the same bytes
 pub agreed : (own given : Pages) (m : ℕ) (one other : List ℕ) → agree own given ≡ true → page own m ≡ Some one →

@@ -1,21 +1,19 @@
 -- What the verdict on pages says, and what is held where they are added.
-use Rattle.std.proofs.Common.{◌≡◌, ℕ, ◌+◌, ◌*◌, ◌<◌, ◌≤◌, Bool, true, false, cond, leb, eq-eqb, List, [], ◌∷◌, length, Option, Some, None, Result, Ok, Err, refl, sym, ap, subst, ◌∙◌, arith, ◌&&◌}
-use Rattle.std.specs.Prelude.{◌≢◌, not, is_some, is_none, IfSome, unwrap_or, ◌==◌}
+use Rattle.std.proofs.Common.{◌≡◌, ℕ, ◌+◌, ◌*◌, ◌<◌, ◌≤◌, Bool, true, false, cond, leb, List, [], ◌∷◌, length, Option, Some, None, Result, Ok, Err, sym, ap, subst, ◌∙◌, arith}
+use Rattle.std.specs.Prelude.{◌≢◌, not, is_some, IfSome, unwrap_or}
 use Rattle.std.specs.List.{AllByRecursion, list_all}
 use Rattle.std.specs.Cmp.{nat_cmp_total}
 use Rattle.std.specs.Option.{option_or}
 use Rattle.std.specs.Ordering.{nat_cmp, eq_by_cmp}
 use Rattle.std.specs.FinMap.{get, len, get-insert}
-use Rattle.std.proofs.lemmas.Bool.{eqb-true, and_parts}
-use Rattle.std.proofs.lemmas.Bool.Decides.{nat_tests}
-use Rattle.dm_store.specs.Saved.{Outcome, Done, Faulted, Refused}
+use Rattle.dm_store.specs.Saved.{Outcome}
 use Rattle.dm_assembly_desk.specs.Pages.{Pages, page, mask}
 use Rattle.dm_assembly_desk.specs.Files.{IsEntry, IsShort}
 use Rattle.dm_assembly_desk.specs.Documents.{Documents, AreEntries, own_pages, page_at, KeepsPages}
 use Rattle.dm_assembly_desk.specs.Views.{DeskView}
-use Rattle.dm_assembly_desk.specs.Merging.{union_of, added_mask, agree, may_join}
+use Rattle.dm_assembly_desk.specs.Merging.{union_of, added_mask}
 use Rattle.dm_assembly_desk.specs.Holding.{Carries, Ends, answer_by}
-use Rattle.dm_assembly_desk.specs.Adding.{kind_of, add_kind, added_to, pages_with, with_pages, reply_of, verdict_by, Adds}
+use Rattle.dm_assembly_desk.specs.Adding.{add_kind, pages_with, with_pages, reply_of, verdict_by, Adds}
 use Rattle.dm_assembly_desk.specs.declared.reply.Kind.{Kind}
 use Rattle.dm_assembly_desk.specs.declared.reply.Kind.TheVariants.{New, Again, Complete}
 use Rattle.dm_assembly_desk.specs.declared.reply.Imported.{Imported}
@@ -33,38 +31,15 @@ abbrev chosen : Bool → Bool → Bool → Kind → Result Kind AddFault
 chosen joins none full kind =
     cond (not joins) (Err adds.Conflict) (cond none (Ok Again) (cond full (Err adds.Full) (Ok kind)))
 
-all_join : (joins none full : Bool) (kind given : Kind) → chosen joins none full kind ≡ Ok given → joins ≡ true
-all_join true none full kind given is = refl
-all_join false none full kind given is = absurd cc
-
-not_full : (joins none full : Bool) (kind given : Kind) → chosen joins none full kind ≡ Ok given → given ≢ Again →
-    full ≡ false
-not_full true true full kind given is other = absurd (other (let same : Again ≡ given = cc in sym same))
-not_full true false true kind given is other = absurd cc
-not_full true false false kind given is other = refl
-not_full false none full kind given is other = absurd cc
-
-as_many : (o : Option Pages) (given : Pages) → may_join o given ≡ true → IfSome o (λ own. length own ≡ length given)
-as_many None given is = tt
-as_many (Some own) given is = eqb-true _ _ (and_parts (length own == length given) (agree own given) is).0
-
-has_room : (o : Option Pages) (capacity count : ℕ) → (is_none o && leb capacity count) ≡ false → o ≡ None →
-    count < capacity
-has_room None capacity count is none = grind (arith, nat_tests, is)
-has_room (Some own) capacity count is none = absurd cc
-
 module _ (capacity : ℕ) (held : Documents) (id : ℕ) (given : Pages) (kind : Kind)
     (judged : add_kind capacity held id given ≡ Ok kind) where
   -- the pages are as many as those that are held
   pub same_count : IfSome (get held id) (λ own. length own ≡ length given)
-  same_count = as_many (get held id) given (all_join (may_join (get held id) given) (added_to held id given == 0)
-      (is_none (get held id) && leb capacity (len held)) (kind_of (pages_with held id given)) kind judged)
+  same_count = grind arith
 
   -- some are added: there is room for the document, or it is held
   pub room : kind ≢ Again → get held id ≡ None → len held < capacity
-  room other = has_room (get held id) capacity (len held) (not_full (may_join (get held id) given)
-      (added_to held id given == 0) (is_none (get held id) && leb capacity (len held))
-      (kind_of (pages_with held id given)) kind judged other)
+  room other = grind arith
 
 -- what a kind says of the pages that are held and those that are given
 abbrev pub KindSays : Kind → Pages → Pages → Type 0
@@ -72,36 +47,13 @@ KindSays Again own given = added_mask own given ≡ 0
 KindSays New own given = (added_mask own given ≢ 0) × (list_all is_some (union_of own given) ≡ false)
 KindSays Complete own given = (added_mask own given ≢ 0) × (list_all is_some (union_of own given) ≡ true)
 
-not_zero : (n : ℕ) → (n == 0) ≡ false → n ≢ 0
-not_zero n e same = let t : (n == 0) ≡ true = eq-eqb n 0 same in cc
-
-by_all : (own given : Pages) (all : Bool) → list_all is_some (union_of own given) ≡ all → added_mask own given ≢ 0 →
-    KindSays (cond all Complete New) own given
-by_all own given true is some = (some, is)
-by_all own given false is some = (some, is)
-
-by_tests : (own given : Pages) (joins none full : Bool) (kind : Kind) → (added_mask own given == 0) ≡ none →
-    chosen joins none full (kind_of (union_of own given)) ≡ Ok kind → KindSays kind own given
-by_tests own given true true full kind test is =
-    let same : Again ≡ kind = cc in
-    subst (λ (k : Kind). KindSays k own given) same (eqb-true _ _ test)
-by_tests own given true false true kind test is = absurd cc
-by_tests own given true false false kind test is =
-    let same : kind_of (union_of own given) ≡ kind = cc in
-    subst (λ (k : Kind). KindSays k own given) same
-    (by_all own given (list_all is_some (union_of own given)) refl (not_zero (added_mask own given) test))
-by_tests own given false none full kind test is = absurd cc
-
 pub kind_says : (capacity : ℕ) (held : Documents) (id : ℕ) (given : Pages) (kind : Kind) →
     add_kind capacity held id given ≡ Ok kind → KindSays kind (own_pages held id) given
-kind_says capacity held id given kind judged =
-    by_tests (own_pages held id) given (may_join (get held id) given) (added_to held id given == 0)
-    (is_none (get held id) && leb capacity (len held)) kind refl judged
+kind_says capacity held id given kind judged = grind arith
 
 short_at : (given : Pages) (held : Option Pages) → IfSome held (λ pages. length pages ≡ length given) →
     length (unwrap_or held []) ≤ length given
-short_at given None h = omega arith
-short_at given (Some pages) h = omega (arith, h)
+short_at given held h = grind arith
 
 -- no more pages are held of the document than are given, held or not
 pub no_longer : (capacity : ℕ) (held : Documents) (id : ℕ) (given : Pages) (kind : Kind) →
@@ -109,17 +61,11 @@ pub no_longer : (capacity : ℕ) (held : Documents) (id : ℕ) (given : Pages) (
 no_longer capacity held id given kind judged =
     short_at given (get held id) (same_count capacity held id given kind judged)
 
--- pages that may be added to those that are held are as many
-pub joined_short : (o : Option Pages) (given : Pages) → true ≡ may_join o given → length (unwrap_or o []) ≤ length given
-joined_short o given is = short_at given o (as_many o given (sym is))
-
 -- ---- the pages then have an entry
 
 more_held : (p q : Option (List ℕ)) (a b : ℕ) → a ≤ b →
     2 * a + cond (is_some p) 1 0 ≤ 2 * b + cond (is_some (option_or p q)) 1 0
-more_held None None a b le = omega arith
-more_held None (Some bytes) a b le = omega arith
-more_held (Some bytes) q a b le = omega arith
+more_held p q a b le = grind arith
 
 mask_merged : (ps qs : Pages) → mask ps ≤ mask (union_of ps qs)
 mask_merged [] qs = omega arith
@@ -127,8 +73,7 @@ mask_merged (p ∷ ps) [] = omega arith
 mask_merged (p ∷ ps) (q ∷ qs) = more_held p q (mask ps) (mask (union_of ps qs)) (mask_merged ps qs)
 
 short_or : (p q : Option (List ℕ)) → IsShort p → IsShort q → IsShort (option_or p q)
-short_or None q one other = other
-short_or (Some bytes) q one other = one
+short_or p q one other = grind arith
 
 short_merged : (ps qs : Pages) → AllByRecursion IsShort ps → AllByRecursion IsShort qs →
     AllByRecursion IsShort (union_of ps qs)
@@ -139,17 +84,7 @@ short_merged (p ∷ ps) (q ∷ qs) one other = (short_or p q one.0 other.0, shor
 merged_at : (id : ℕ) (given : Pages) (held : Option Pages) → IsEntry id given →
     ((pages : Pages) → held ≡ Some pages → IsEntry id pages) → IfSome held (λ pages. length pages ≡ length given) →
     IsEntry id (union_of (unwrap_or held []) given)
-merged_at id given None sound held same = sound
-merged_at id given (Some pages) sound held same =
-    let before = held pages refl in
-    let long : length (union_of pages given) ≡ length given = length_both pages given (omega (arith, same)) in
-    record {
-      id_fits = sound.id_fits;
-      least = omega (arith, long, sound.least);
-      most = omega (arith, long, sound.most);
-      some_held = omega (arith, before.some_held, mask_merged pages given);
-      short = short_merged pages given before.short sound.short;
-    }
+merged_at id given is sound held same = grind (arith, length_both, mask_merged, short_merged)
 
 pub merged_entry : (capacity : ℕ) (held : Documents) (id : ℕ) (given : Pages) (kind : Kind) → AreEntries held →
     IsEntry id given → add_kind capacity held id given ≡ Ok kind → IsEntry id (pages_with held id given)
@@ -165,8 +100,7 @@ same_page o given pages m is = ap (λ (x : Option Pages). page (unwrap_or x []) 
 -- page m of the document that pages were given of
 pub page_given : (held : Documents) (id : ℕ) (given : Pages) (m : ℕ) →
     page_at (with_pages held id given) id m ≡ option_or (page_at held id m) (page given m)
-page_given held id given m = same_page (get (with_pages held id given) id) given (unwrap_or (get held id) []) m
-    (get_here held id (pages_with held id given))
+page_given held id given m = grind (arith, same_page, get_here)
 
 -- page m of any document, once pages of one were given
 pub page_with : (held : Documents) (id : ℕ) (given : Pages) (other m : ℕ) →
@@ -175,32 +109,17 @@ pub page_with : (held : Documents) (id : ℕ) (given : Pages) (other m : ℕ) �
 page_with held id given other m =
     ap (λ (o : Option Pages). page (unwrap_or o []) m)
     (get-insert nat_cmp_total held id (pages_with held id given) other)
-    ∙ (elim (eq_by_cmp nat_cmp other id) as
-    (λ b. page (unwrap_or (cond b (Some (pages_with held id given)) (get held other)) []) m ≡ cond b
-    (option_or (page_at held id m) (page given m)) (page_at held other m)) [
-      | true ↦ page_merged (unwrap_or (get held id) []) given m
-      | false ↦ refl
-    ])
+    ∙ (grind (arith, page_merged))
 
 pub page_elsewhere : (held : Documents) (id : ℕ) (given : Pages) (other m : ℕ) → other ≢ id →
     page_at (with_pages held id given) other m ≡ page_at held other m
-page_elsewhere held id given other m differs =
-    page_with held id given other m
-    ∙ ap (λ b. cond b (option_or (page_at held id m) (page given m)) (page_at held other m)) (apart other id differs)
+page_elsewhere held id given other m differs = grind (arith, page_with, apart)
 
 or_kept : (had given : Option (List ℕ)) (bytes : List ℕ) → had ≡ Some bytes → option_or had given ≡ Some bytes
-or_kept None given bytes is = absurd cc
-or_kept (Some had) given bytes is = is
+or_kept had given bytes is = cc
 
 pub kept_with : (held : Documents) (id : ℕ) (given : Pages) → KeepsPages held (with_pages held id given)
-kept_with held id given other m bytes is =
-    page_with held id given other m
-    ∙ (elim (eq_by_cmp nat_cmp other id) as (λ b. eq_by_cmp nat_cmp other id ≡ b →
-    cond b (option_or (page_at held id m) (page given m)) (page_at held other m) ≡ Some bytes) [
-      | true ↦ λ e. or_kept (page_at held id m) (page given m) bytes
-          (ap (λ (k : ℕ). page_at held k m) (sym (same_key other id e)) ∙ is)
-      | false ↦ λ e. is
-    ] refl)
+kept_with held id given other m bytes is = grind (arith, page_with, or_kept, same_key)
 
 -- ---- a verdict that is carried out
 
@@ -209,15 +128,9 @@ module _ (old : DeskView) (id : ℕ) (given : Pages) where
   Carried judged result new =
       Carries (Err adds.Memory) (Err adds.Save) id (verdict_by old.held id given judged) old result new
 
-  pub adds_none : (fault : AddFault) → add_kind old.capacity old.held id given ≡ Err fault →
-      Adds id given old (Err fault) old
-  adds_none fault judged = subst (λ (a : Result Kind AddFault). Carried a (Err fault) old) (sym judged) (refl, refl)
-
   again : (kind : Kind) (reply : Imported) → kind ≡ Again → reply ≡ reply_of old.held id given kind →
       Carried (Ok kind) (Ok reply) old
-  again Again reply is same = (ap (λ (r : Imported). Ok r) same, refl)
-  again New reply is same = absurd cc
-  again Complete reply is same = absurd cc
+  again kind reply is same = grind arith
 
   pub adds_nothing : (kind : Kind) (reply : Imported) → add_kind old.capacity old.held id given ≡ Ok kind →
       kind ≡ Again → reply ≡ reply_of old.held id given kind → Adds id given old (Ok reply) old
@@ -229,9 +142,7 @@ module _ (old : DeskView) (id : ℕ) (given : Pages) where
     some : (kind : Kind) → kind ≢ Again →
         result ≡ answer_by (Ok (reply_of old.held id given kind)) (Err adds.Memory) (Err adds.Save) outcome →
         Carried (Ok kind) result new
-    some Again other is = absurd (other refl)
-    some New other is = (outcome, is, ends)
-    some Complete other is = (outcome, is, ends)
+    some kind other is = grind arith
 
     pub adds_some : (kind : Kind) → add_kind old.capacity old.held id given ≡ Ok kind → kind ≢ Again →
         result ≡ answer_by (Ok (reply_of old.held id given kind)) (Err adds.Memory) (Err adds.Save) outcome →
@@ -247,19 +158,12 @@ module _ (id : ℕ) (given : Pages) (old new : DeskView) where
 
   ends_kept : (outcome : Outcome) → Ends id (with_pages old.held id given) outcome old new →
       KeepsPages old.held new.held
-  ends_kept Done e = λ other m bytes held.
-      ap (λ (d : Documents). page_at d other m) (ap (λ (d : DeskView). d.held) e.shows)
-      ∙ kept_with old.held id given other m bytes held
-  ends_kept Faulted e = same_kept (ap (λ (d : DeskView). d.held) e.shows)
-  ends_kept Refused e = same_kept (ap (λ (d : DeskView). d.held) e.shows)
+  ends_kept outcome e = grind (arith, kept_with, same_kept)
 
   by_kept : (judged : Result Kind AddFault) (result : Result Imported AddFault) →
       Carries (Err adds.Memory) (Err adds.Save) id (verdict_by old.held id given judged) old result new →
       KeepsPages old.held new.held
-  by_kept (Err fault) result h = same_kept (ap (λ (d : DeskView). d.held) h.1)
-  by_kept (Ok Again) result h = same_kept (ap (λ (d : DeskView). d.held) h.1)
-  by_kept (Ok New) result h = ends_kept h.0 h.2
-  by_kept (Ok Complete) result h = ends_kept h.0 h.2
+  by_kept judged result h = grind (arith, same_kept, ends_kept)
 
   pub adds_kept : (result : Result Imported AddFault) → Adds id given old result new → KeepsPages old.held new.held
   adds_kept result h = by_kept (add_kind old.capacity old.held id given) result h
@@ -271,36 +175,15 @@ says_save (Err adds.Save) = true
 says_save _ = false
 
 no_save : (joins none full : Bool) (kind : Kind) → chosen joins none full kind ≡ Err adds.Save → ⊥
-no_save true true full kind is = cc
-no_save true false true kind is = cc
-no_save true false false kind is = cc
-no_save false none full kind is = cc
+no_save joins none full kind is = grind arith
 
 module _ (id : ℕ) (given : Pages) (old new : DeskView) (running : old.is_failed ≡ false)
     (result : Result Imported AddFault) where
-  stays : (answer : Result Imported AddFault) → says_save answer ≡ false → result ≡ answer → new ≡ old →
-      new.is_failed ≡ says_save result
-  stays answer says is same = ap (λ (d : DeskView). d.is_failed) same ∙ running ∙ sym (ap says_save is ∙ says)
-
-  ended : (outcome : Outcome) (reply : Imported) →
-      result ≡ answer_by (Ok reply) (Err adds.Memory) (Err adds.Save) outcome →
-      Ends id (with_pages old.held id given) outcome old new → new.is_failed ≡ says_save result
-  ended Done reply is e = ap (λ (d : DeskView). d.is_failed) e.shows ∙ running ∙ sym (ap says_save is)
-  ended Faulted reply is e = ap (λ (d : DeskView). d.is_failed) e.shows ∙ sym (ap says_save is)
-  ended Refused reply is e = ap (λ (d : DeskView). d.is_failed) e.shows ∙ running ∙ sym (ap says_save is)
 
   by_failed : (judged : Result Kind AddFault) → (judged ≡ Err adds.Save → ⊥) →
       Carries (Err adds.Memory) (Err adds.Save) id (verdict_by old.held id given judged) old result new →
       new.is_failed ≡ says_save result
-  by_failed (Err adds.Save) never h = absurd (never refl)
-  by_failed (Err adds.Conflict) never h = stays (Err adds.Conflict) refl h.0 h.1
-  by_failed (Err adds.Full) never h = stays (Err adds.Full) refl h.0 h.1
-  by_failed (Err adds.Memory) never h = stays (Err adds.Memory) refl h.0 h.1
-  by_failed (Ok Again) never h = stays (Ok (reply_of old.held id given Again)) refl h.0 h.1
-  by_failed (Ok New) never h = ended h.0 (reply_of old.held id given New) h.1 h.2
-  by_failed (Ok Complete) never h = ended h.0 (reply_of old.held id given Complete) h.1 h.2
+  by_failed judged never h = grind arith
 
   pub adds_failed : Adds id given old result new → new.is_failed ≡ says_save result
-  adds_failed h = by_failed (add_kind old.capacity old.held id given)
-      (no_save (may_join (get old.held id) given) (added_to old.held id given == 0)
-      (is_none (get old.held id) && leb old.capacity (len old.held)) (kind_of (pages_with old.held id given))) h
+  adds_failed h = grind (arith, by_failed, no_save, leb)

@@ -1,8 +1,8 @@
 -- The entries of a map are found in it.
-use Rattle.std.proofs.Common.{◌≡◌, ℕ, cond, false, List, [], ◌∷◌, Some, ap, ◌∙◌, arith}
+use Rattle.std.proofs.Common.{◌≡◌, ℕ, cond, List, [], ◌∷◌, Some, ap, ◌∙◌, arith}
 use Rattle.std.specs.List.{AllByRecursion}
 use Rattle.std.specs.List.Sorted.{IsStrictlySortedBy}
-use Rattle.std.specs.Ordering.{nat_cmp, eq_by_cmp}
+use Rattle.std.specs.Ordering.{nat_cmp}
 use Rattle.std.specs.declared.cmp.Ordering.TheVariants.{Less}
 use Rattle.std.specs.Map.{keys_of}
 use Rattle.std.specs.FinMap.{entries, get, find, get-entries}
@@ -17,10 +17,7 @@ Found all es = AllByRecursion (λ e. find nat_cmp e.0 all ≡ Some e.1) es
 found_later : (first : ℕ × Pages) (all es : List (ℕ × Pages)) →
     AllByRecursion (λ k. nat_cmp first.0 k ≡ Less) (keys_of es) → Found all es → Found (first ∷ all) es
 found_later first all [] h f = tt
-found_later first all (e ∷ es) h f =
-    let other : eq_by_cmp nat_cmp e.0 first.0 ≡ false =
-    apart e.0 first.0 (λ is. absurd (omega (arith, above first.0 e.0 h.0))) in
-    (ap (λ b. cond b (Some first.1) (find nat_cmp e.0 all)) other ∙ f.0, found_later first all es h.1 f.1)
+found_later first all (e ∷ es) h f = grind (arith, apart, above, found_later first all es h.1 f.1)
 
 pub all_found : (es : List (ℕ × Pages)) → IsStrictlySortedBy nat_cmp (keys_of es) → Found es es
 all_found [] h = tt

@@ -1,5 +1,5 @@
 -- What a store holds of documents: one list of them has one joint file; what was loaded of it; and that of none.
-use Rattle.std.proofs.Common.{◌≡◌, ℕ, zero, suc, ◌+◌, ◌<◌, ◌≤◌, List, [], ◌∷◌, length, take, Option, Some, None, Result, Ok, get_or, refl, sym, ap, subst, ◌∙◌, arith}
+use Rattle.std.proofs.Common.{◌≡◌, ℕ, zero, suc, ◌+◌, ◌<◌, ◌≤◌, List, [], ◌∷◌, length, take, Option, Some, Result, Ok, get_or, refl, sym, ap, subst, ◌∙◌, arith}
 use Rattle.std.specs.Prelude.{◌≢◌, IsSomeAnd, option_map, slice_get}
 use Rattle.std.specs.List.{AllByRecursion}
 use Rattle.std.specs.List.Sorted.{IsStrictlySortedBy}
@@ -27,8 +27,7 @@ module _ (bytes loaded : List ℕ) (is : loaded ≡ take (42636295 + 1) bytes) w
   whole_old held s =
       let short : length (take (suc 42636295) bytes) ≤ 42636295 =
       omega (arith, ap (λ (bs : List ℕ). length bs) is, s.short) in
-      let all : bytes ≡ loaded = sym (all_taken 42636295 bytes short) ∙ sym is in
-      subst (λ (bs : List ℕ). SpellsAll bs held) (sym all) s
+      let all : bytes ≡ loaded = sym (all_taken 42636295 bytes short) ∙ sym is in grind arith
 
   loaded_old : (held : Documents) → SpellsAll bytes held → SpellsAll loaded held
   loaded_old held s = subst (λ (bs : List ℕ). SpellsAll bs held)
@@ -80,10 +79,7 @@ entries_is a b e = cc
 
 reads_held : (held : Documents) (bytes : List ℕ) → SpellsAll bytes held →
     entries_at (len held) 0 (entries_of (entries held)) ≡ Some (entries held)
-reads_held held bytes s =
-    ap (λ (n : ℕ). entries_at n 0 (entries_of (entries held))) (len-entries held)
-    ∙ entries_again 0 (entries held)
-    (each_entry held (entries held) s.entries (all_found (entries held) (keys_rise held))) (held_rising held)
+reads_held held bytes s = grind (arith, len-entries, entries_again, each_entry, all_found, keys_rise, held_rising)
 
 pub one_old : (bytes : List ℕ) (a b : Documents) → SpellsAll bytes a → SpellsAll bytes b → a ≡ b
 one_old bytes a b s t =
@@ -99,8 +95,7 @@ one_old bytes a b s t =
 
 pub one_content : (content : Option (List ℕ)) (a b : Documents) → HoldsJointFile content a → HoldsJointFile content b →
     a ≡ b
-one_content None a b h k = h ∙ sym k
-one_content (Some bytes) a b h k = one_old bytes a b h k
+one_content content a b h k = grind (arith, one_old)
 
 -- ---- all keys of a set
 
@@ -134,12 +129,8 @@ few_below next limit (k ∷ ks) from rising fits le =
 pub all_of_them : (content : Contents) (ks : List ℕ) → ((i : ℕ) → get_or ks i 0 < 65536) →
     ks ≡ take (65536 + 1) (keys content) → ks ≡ keys content
 all_of_them content ks fits is =
-    let rising : IsStrictlySortedBy nat_cmp ks = subst (IsStrictlySortedBy nat_cmp) (sym is)
-    (rising_front (65536 + 1) (keys content) (keys_rise content)) in
-    let few = few_below 0 65536 ks (from_zero ks) rising fits (omega arith) in
-    let short : length (keys content) ≤ 65536 + 1 =
-    omega (arith, few, ap (λ (xs : List ℕ). length xs) is, length-take (65536 + 1) (keys content)) in
-    is ∙ take_all (65536 + 1) (keys content) short
+    grind (arith, rising_front (65536 + 1) (keys content) (keys_rise content), keys_rise content, few_below 0 65536 ks
+    (from_zero ks), from_zero ks, length-take (65536 + 1) (keys content), take_all (65536 + 1) (keys content))
 
 -- ---- an emptied old file
 
@@ -149,11 +140,7 @@ no_entries (x ∷ es) e = absurd (omega arith)
 
 pub emptied : joint_file empty ≡ 68 ∷ 77 ∷ 80 ∷ 71 ∷ 1 ∷ 0 ∷ 0 ∷ []
 unfolding joint_file
-emptied =
-    let none : len {X = Pages} {R = nat_cmp} empty ≡ 0 = len-empty nat_cmp Pages in
-    let es : entries {X = Pages} {R = nat_cmp} empty ≡ [] = no_entries (entries empty) (sym (len-entries empty) ∙
-    none) in
-    rw (none, es) refl
+emptied = grind (arith, len-empty, no_entries, len-entries)
 
 pub holds_none : SpellsAll (joint_file empty) empty
 holds_none = record {

@@ -1,5 +1,5 @@
 -- The pages of a document of which one alone is given.
-use Rattle.std.proofs.Common.{◌≡◌, ℕ, zero, suc, ◌-◌, ◌<◌, ◌≤◌, List, [], ◌∷◌, length, map, take, Bor, Option, Some, None, refl, ap, ◌∙◌, arith, replicate}
+use Rattle.std.proofs.Common.{◌≡◌, ℕ, zero, suc, ◌-◌, ◌<◌, ◌≤◌, List, [], ◌∷◌, length, map, take, Bor, Option, Some, None, refl, ap, arith, replicate}
 use Rattle.std.specs.Prelude.{◌≢◌, slice_set}
 use Rattle.std.specs.List.{AllByRecursion}
 use Rattle.dm_append_label.specs.Pages.{PageView}
@@ -22,11 +22,7 @@ placed (suc n) (suc k) (suc i) o le = ap (λ (ps : Pages). None ∷ ps) (placed 
 -- one place of sixteen is filled, and as many are lent as the document has pages
 pub lone_lent : (p : PageView) (m n : ℕ) (b : Bor (List ℕ)) → m ≡ p.m → n ≡ p.n → b.now ≡ p.bytes → n ≤ 16 →
     map lent_bytes (take n (slice_set (replicate 16 None) (m - 1) (Some b))) ≡ lone p
-lone_lent p m n b m_is n_is b_is le =
-    placed n 16 (m - 1) (Some b) le
-    ∙ ap (λ (k : ℕ). slice_set (replicate k None) (m - 1) (Some b.now)) n_is
-    ∙ ap (λ (k : ℕ). slice_set (replicate p.n None) (k - 1) (Some b.now)) m_is
-    ∙ ap (λ (bs : List ℕ). slice_set (replicate p.n None) (p.m - 1) (Some bs)) b_is
+lone_lent p m n b m_is n_is b_is le = cc (placed n 16 (m - 1) (Some b) le)
 
 pub length-set_at : (ps : Pages) (i : ℕ) (o : Option (List ℕ)) → length (slice_set ps i o) ≡ length ps
 length-set_at [] i o = refl
@@ -55,16 +51,7 @@ length-blank (suc n) = ap suc (length-blank n)
 pub lone_entry : (p : PageView) → p.id < 64516 → 2 ≤ p.n → p.n ≤ 16 → 1 ≤ p.m → p.m ≤ p.n → length p.bytes ≤ 2600 →
     IsEntry p.id (lone p)
 lone_entry p fits least most first last short =
-    let blank : Pages = replicate p.n None in
-    let count : length blank ≡ p.n = length-blank p.n in
-    let len : length (lone p) ≡ p.n = length-set_at blank (p.m - 1) (Some p.bytes) ∙ count in
-    record {
-      id_fits = fits;
-      least = omega (arith, len, least);
-      most = omega (arith, len, most);
-      some_held = some_set blank (p.m - 1) p.bytes (omega (arith, count, first, last));
-      short = short_set blank (p.m - 1) (Some p.bytes) short (short_blank p.n);
-    }
+    grind (arith, length-blank, length-set_at, some_set, short_set, short_blank)
 
 -- ---- page by page
 
@@ -87,11 +74,8 @@ one_else (suc n) (suc i) (suc m) b other = one_else n i m b (λ e. other (ap suc
 
 -- the page is given
 pub lone_here : (p : PageView) → 1 ≤ p.m → p.m ≤ p.n → page (lone p) p.m ≡ Some p.bytes
-lone_here p first last =
-    let at : p.m ≡ suc (p.m - 1) = omega arith in
-    ap (page (lone p)) at ∙ one_here p.n (p.m - 1) p.bytes (omega arith)
+lone_here p first last = grind (arith, one_here)
 
 -- no other page is
 pub lone_else : (p : PageView) (m : ℕ) → 1 ≤ p.m → m ≢ p.m → page (lone p) m ≡ None
-lone_else p zero first other = refl
-lone_else p (suc m) first other = one_else p.n (p.m - 1) m p.bytes (λ e. other (omega (arith, e, first)))
+lone_else p m first other = grind (arith, one_else)

@@ -4,8 +4,8 @@ use Rattle.std.specs.Prelude.{option_map, IsTrue, IsSome, is_some}
 use Rattle.std.specs.Ordering.{nat_cmp, eq_by_cmp}
 use Rattle.std.specs.Cmp.{nat_cmp_total}
 use Rattle.std.specs.FinMap.{get, insert, remove, len, get-insert, get-remove, len-insert, len-remove}
-use Rattle.dm_store.specs.Saved.{SavePlan, SavesFine, FaultOld, FaultNew, SavesOpen, Outcome, Done, Faulted, Refused, HeldAfterFault, Follows, outcome_of, Saves}
-use Rattle.dm_store.specs.Sets.{SavedSet, Contents, SavesKey, RemovesKey, outcome_of_remove}
+use Rattle.dm_store.specs.Saved.{SavePlan, SavesFine, FaultOld, FaultNew, SavesOpen, Outcome, Done, Faulted, Refused, HeldAfterFault, outcome_of}
+use Rattle.dm_store.specs.Sets.{SavedSet, Contents, Saves, SavesKey, RemovesKey, outcome_of_remove}
 use Rattle.dm_store.specs.declared.set.RemoveFault.{RemoveFault}
 use Rattle.dm_store.specs.declared.set.RemoveFault.TheVariants as removing
 use Rattle.dm_store.specs.declared.store.ReplaceFault.{ReplaceFault}
@@ -61,8 +61,7 @@ files_remove content held id h = record {
         ]
 
 less_or_same : (b : Bool) (n : ℕ) → cond b (Rattle.std.proofs.Common.◌-◌ n 1) n ≤ n
-less_or_same true n = omega arith
-less_or_same false n = omega arith
+less_or_same b n = grind arith
 
 pub few_remove : (held : Documents) (id capacity : ℕ) → len held ≤ capacity → len (remove held id) ≤ capacity
 few_remove held id capacity le =
@@ -124,26 +123,15 @@ module _ (old : DeskView) (id : ℕ) (content : Contents) (held : Documents) (se
 
   pub ordered : (outcome : Outcome) → set.is_honest ≡ old.saved.is_honest →
       (IsTrue old.saved.is_honest → Saves old.saved content outcome set) → IsInOrder (shown held outcome old set)
-  ordered Done same saves = record {
-    room = t.order.room;
-    few = t.few;
-    entries = t.entries;
-    saved = λ _ honest. let was : IsTrue old.saved.is_honest = subst IsTrue same honest in holds_now (saves was) was;
-  }
-  ordered Faulted same saves = record {
-    room = t.order.room;
-    few = t.order.few;
-    entries = t.order.entries;
-    saved = λ failed. absurd cc;
-  }
+  ordered Done same saves = grind arith
+  ordered Faulted same saves = grind arith
   ordered Refused same saves = t.order
 
 -- ---- pages that are held
 
 few_insert : (o : Option Pages) (n capacity : ℕ) → n ≤ capacity → (o ≡ None → n < capacity) →
     cond (is_some o) n (n + 1) ≤ capacity
-few_insert None n capacity le room = omega (arith, room refl)
-few_insert (Some pages) n capacity le room = le
+few_insert o n capacity le room = grind arith
 
 module _ (old : DeskView) (id : ℕ) (pages : Pages) (set : SavedSet) (order : IsInOrder old)
     (running : old.is_failed ≡ false) (entry : IsEntry id pages)
@@ -161,64 +149,33 @@ module _ (old : DeskView) (id : ℕ) (pages : Pages) (set : SavedSet) (order : I
   pub held_ends : (answer : Result (Unit {0}) ReplaceFault) → SavesKey old.saved id (file id pages) answer set →
       Ends id (insert old.held id pages) (outcome_of answer) old
       (shown (insert old.held id pages) (outcome_of answer) old set)
-  held_ends answer s = ends old id (insert old.saved.content id (file id pages)) (insert old.held id pages) set to_hold
-      (outcome_of answer) (λ refused. s.refused refused)
-      (subst (λ (o : Option Pages). SavesDocument old.saved id o (outcome_of answer) set)
-      (sym (get_here old.held id pages)) s) (λ _. s)
+  held_ends answer s = search (arith, ends, to_hold, get_here)
 
   pub held_order : (answer : Result (Unit {0}) ReplaceFault) → SavesKey old.saved id (file id pages) answer set →
       IsInOrder (shown (insert old.held id pages) (outcome_of answer) old set)
   held_order answer s = ordered old id (insert old.saved.content id (file id pages)) (insert old.held id pages) set
       to_hold (outcome_of answer) s.same_honesty (λ _. s)
 
-no_plan : (plan : SavePlan) → Follows plan Refused plan
-no_plan SavesFine = refl
-no_plan FaultOld = refl
-no_plan FaultNew = refl
-no_plan SavesOpen = refl
-
 -- a save that is refused before it is begun
 pub not_begun : (s : SavedSet) (content : Contents) → Saves s content Refused s
-not_begun s content = record {
-  same_honesty = refl;
-  same_memory = refl;
-  same_load_plan = refl;
-  follows = no_plan s.save_plan;
-  done = λ e. absurd cc;
-  refused = λ _. refl;
-  faulted = λ e. absurd cc;
-}
+not_begun s content = grind arith
 
 -- ---- a document that is let go
 
 is_there : (content : Contents) (held : Documents) (id : ℕ) → HoldsFiles content held → IsSome (get held id) →
     IsSome (get content id)
-is_there content held id h some = subst IsSome (sym (h.files id)) (mapped (get held id) some)
-  where
-    mapped : (o : Option Pages) → IsSome o → IsSome (option_map (file id) o)
-    mapped None some = absurd cc
-    mapped (Some pages) some = refl
+is_there content held id h some = grind arith
 
 pub same_honesty : (old : SavedSet) (id : ℕ) (answer : Result (Unit {0}) RemoveFault) (set : SavedSet) →
     RemovesKey old id answer set → set.is_honest ≡ old.is_honest
-same_honesty old id answer set r =
-    elim (get old.content id) as (λ o. get old.content id ≡ o → set.is_honest ≡ old.is_honest) [
-      | None ↦ λ is. ap (λ (s : SavedSet). s.is_honest) (r.absent is)
-      | Some bytes ↦ λ is. (r.there (subst IsSome (sym is) refl)).same_honesty
-    ] refl
+same_honesty old id answer set r = grind arith
 
 pub refused_same : (old : SavedSet) (id : ℕ) (set : SavedSet) → RemovesKey old id (Err removing.Memory) set → set ≡ old
-refused_same old id set r =
-    elim (get old.content id) as (λ o. get old.content id ≡ o → set ≡ old) [
-      | None ↦ λ is. r.absent is
-      | Some bytes ↦ λ is. (r.there (subst IsSome (sym is) refl)).refused refl
-    ] refl
+refused_same old id set r = grind arith
 
 refused_to_remove : (old : SavedSet) (id : ℕ) (set : SavedSet) (answer : Result (Unit {0}) RemoveFault) →
     RemovesKey old id answer set → outcome_of_remove answer ≡ Refused → set ≡ old
-refused_to_remove old id set (Ok done) r e = absurd cc
-refused_to_remove old id set (Err removing.Device) r e = absurd cc
-refused_to_remove old id set (Err removing.Memory) r e = refused_same old id set r
+refused_to_remove old id set answer r e = grind arith
 
 gone_here : (held : Documents) (id : ℕ) → get (remove held id) id ≡ None
 gone_here held id = get-remove nat_cmp_total held id id ∙ ap (λ b. cond b None (get held id)) (itself id)
@@ -240,11 +197,7 @@ module _ (old : DeskView) (id : ℕ) (set : SavedSet) (order : IsInOrder old) (r
 
   pub gone_ends : Ends id (remove old.held id) (outcome_of_remove answer) old
       (shown (remove old.held id) (outcome_of_remove answer) old set)
-  gone_ends = ends old id (remove old.saved.content id) (remove old.held id) set to_let_go (outcome_of_remove answer)
-      (refused_to_remove old.saved id set answer removes)
-      (subst (λ (o : Option Pages). SavesDocument old.saved id o (outcome_of_remove answer) set)
-      (sym (gone_here old.held id)) (answer, refl, removes)) removed
+  gone_ends = search (arith, ends, to_let_go, refused_to_remove, gone_here, removed)
 
   pub gone_order : IsInOrder (shown (remove old.held id) (outcome_of_remove answer) old set)
-  gone_order = ordered old id (remove old.saved.content id) (remove old.held id) set to_let_go
-      (outcome_of_remove answer) (same_honesty old.saved id answer set removes) removed
+  gone_order = search (arith, ordered, to_let_go, same_honesty, removed)

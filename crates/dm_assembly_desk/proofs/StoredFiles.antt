@@ -1,11 +1,11 @@
 -- A set that holds the files of documents, for which there is room, gives no desk only for lack of memory.
-use Rattle.std.proofs.Common.{◌≡◌, ℕ, suc, ◌≤◌, true, false, cond, List, [], ◌∷◌, length, Option, Some, None, refl, sym, ap, subst, ◌∙◌, arith}
+use Rattle.std.proofs.Common.{◌≡◌, ℕ, suc, ◌≤◌, List, [], ◌∷◌, length, Option, Some, refl, sym, ap, subst, ◌∙◌, arith}
 use Rattle.std.specs.Prelude.{IsTrue, option_map}
-use Rattle.std.specs.Ordering.{nat_cmp, eq_by_cmp}
+use Rattle.std.specs.Ordering.{nat_cmp}
 use Rattle.std.specs.Cmp.{nat_cmp_total}
 use Rattle.std.specs.List.Sorted.{IsStrictlySortedBy}
 use Rattle.std.specs.Map.{keys_of}
-use Rattle.std.specs.FinMap.{entries, get, len, find, get-entries, get-from_entries, len-entries, same_map, nat_cmp-IsAntisymmetric}
+use Rattle.std.specs.FinMap.{entries, len, find, get-entries, get-from_entries, len-entries, same_map, nat_cmp-IsAntisymmetric}
 use Rattle.dm_store.specs.Saved.{LoadsFine, LoadsOpen}
 use Rattle.dm_store.specs.Sets.{SavedSet, Contents}
 use Rattle.dm_store.proofs.SortedMaps.{as_map, len_is}
@@ -31,13 +31,7 @@ found_file : (es : List (ℕ × Pages)) (id : ℕ) →
     find nat_cmp id (files_of es) ≡ option_map (file id) (find nat_cmp id es)
 unfolding files_of
 found_file [] id = refl
-found_file (e ∷ es) id =
-    elim (eq_by_cmp nat_cmp id e.0) as (λ b. eq_by_cmp nat_cmp id e.0 ≡ b →
-    cond b (Some (file e.0 e.1)) (find nat_cmp id (files_of es)) ≡ option_map (file id)
-    (cond b (Some e.1) (find nat_cmp id es))) [
-      | true ↦ λ is. ap (λ (k : ℕ). Some (file k e.1)) (sym (same_key id e.0 is))
-      | false ↦ λ is. found_file es id
-    ] refl
+found_file (e ∷ es) id = grind (arith, files_of, same_key, found_file es id)
 
 keys_of_files : (es : List (ℕ × Pages)) → keys_of (files_of es) ≡ keys_of es
 unfolding files_of
@@ -63,20 +57,14 @@ as_many content held h =
 
 there_is : (id : ℕ) (o : Option Pages) (bytes : List ℕ) → option_map (file id) o ≡ Some bytes →
     (pages : Pages) × (o ≡ Some pages) × (bytes ≡ file id pages)
-there_is id None bytes e = absurd cc
-there_is id (Some pages) bytes e = (pages, refl, cc)
+there_is id o bytes e = grind arith
 
 pub no_fault : (id : ℕ) (pages : Pages) (fault : FileFault) → IsEntry id pages → ¬ HasFileFault id (file id pages) fault
-no_fault id pages NotPages sound h = h (file_marked id pages)
-no_fault id pages Version sound h = file_not_other id pages h.1
-no_fault id pages Damaged sound h = h.2 (pages, record { sound = sound; spelled = refl })
+no_fault id pages fault sound h = grind (arith, file_marked, file_not_other)
 
 pub no_first_fault : (content : Contents) (held : Documents) (fault : FileFault) → HoldsFiles content held →
     ¬ FirstFault content fault
-no_first_fault content held fault h first =
-    let t = there_is first.key (get held first.key) first.bytes (sym (h.files first.key) ∙ first.there) in
-    no_fault first.key t.0 fault (h.entries first.key t.0 t.1)
-    (subst (λ (bs : List ℕ). HasFileFault first.key bs fault) t.2 first.faulty)
+no_first_fault content held fault h first = grind (arith, there_is, no_fault)
 
 not_open : LoadsFine ≡ LoadsOpen → ⊥
 not_open e = cc (e)

@@ -1,6 +1,6 @@
 -- What is held where pages of a document are put, and what taking them back leaves.
-use Rattle.std.proofs.Common.{◌≡◌, ℕ, Bool, true, false, cond, Some, None, refl, sym, ap, ◌∙◌}
-use Rattle.std.specs.Ordering.{nat_cmp, eq_by_cmp}
+use Rattle.std.proofs.Common.{arith}
+use Rattle.std.proofs.Common.{◌≡◌, ℕ, Bool, true, cond, Some, None, ap, ◌∙◌}
 use Rattle.std.specs.Cmp.{nat_cmp_total}
 use Rattle.std.specs.FinMap.{get, insert, remove, get-insert, get-remove, same_map, nat_cmp-IsAntisymmetric}
 use Rattle.dm_assembly_desk.specs.Pages.{Pages}
@@ -11,26 +11,16 @@ same : (m n : Documents) → ((q : ℕ) → get m q ≡ get n q) → m ≡ n
 same m n h = same_map nat_cmp_total nat_cmp-IsAntisymmetric m n h
 
 cond_same : {A : Type 0} (b : Bool) (x y : A) → (b ≡ true → y ≡ x) → cond b x y ≡ y
-cond_same true x y h = sym (h refl)
-cond_same false x y h = refl
+cond_same b x y h = grind arith
 
 twice : {A : Type 0} (b : Bool) (x y z : A) → cond b x (cond b y z) ≡ cond b x z
-twice true x y z = refl
-twice false x y z = refl
+twice b x y z = grind arith
 
 pub undo_first : (held : Documents) (id : ℕ) (w : Pages) → get held id ≡ None → remove (insert held id w) id ≡ held
-undo_first held id w none = same _ _ (λ q.
-    get-remove nat_cmp_total (insert held id w) id q ∙
-    ap (cond (eq_by_cmp nat_cmp q id) None) (get-insert nat_cmp_total held id w q)
-    ∙ twice (eq_by_cmp nat_cmp q id) None (Some w) (get held q)
-    ∙ cond_same (eq_by_cmp nat_cmp q id) None (get held q) (λ e. ap (get held) (same_key q id e) ∙ none))
+undo_first held id w none = grind (arith, same, get-remove, nat_cmp_total, get-insert, twice, cond_same, same_key)
 
 pub undo_insert : (held : Documents) (id : ℕ) (w v : Pages) → get held id ≡ Some v → insert (insert held id w) id v ≡ held
-undo_insert held id w v is = same _ _ (λ q.
-    get-insert nat_cmp_total (insert held id w) id v q ∙
-    ap (cond (eq_by_cmp nat_cmp q id) (Some v)) (get-insert nat_cmp_total held id w q)
-    ∙ twice (eq_by_cmp nat_cmp q id) (Some v) (Some w) (get held q)
-    ∙ cond_same (eq_by_cmp nat_cmp q id) (Some v) (get held q) (λ e. ap (get held) (same_key q id e) ∙ is))
+undo_insert held id w v is = grind (arith, same, get-insert, nat_cmp_total, twice, cond_same, same_key)
 
 pub get_here : (held : Documents) (id : ℕ) (w : Pages) → get (insert held id w) id ≡ Some w
 get_here held id w = get-insert nat_cmp_total held id w id ∙ ap (λ b. cond b (Some w) (get held id)) (itself id)

@@ -39,18 +39,9 @@ piece_more n r c len value xs ys zs fits begun joined count each =
 pub in_row : (m : Square) (r from len k : ℕ) (line piece : List Bool) → IsWhole m → r < m.side → from + len ≤ m.side
     → k < len → line ≡ between (r * m.side) ((r + 1) * m.side) m.modules → piece ≡ between from (from + len) line
     → get_or piece k false ≡ module_at m r (from + k)
-in_row m r from len k line piece whole row_in fits h is part =
-    let below : (r + 1) * m.side ≡ r * m.side + m.side = omega arith in
-    ap (λ (x : List Bool). get_or x k false) part
-    ∙ get_or-between line from (from + len) k false (omega arith)
-    ∙ ap (λ (x : List Bool). get_or x (from + k) false) is
-    ∙ get_or-between m.modules (r * m.side) ((r + 1) * m.side) (from + k) false (omega (arith, below))
+in_row m r from len k line piece whole row_in fits h is part = grind (arith, get_or-between)
 
 -- the length of a row of a square
 pub row_length : (m : Square) (r : ℕ) (line : List Bool) → IsWhole m → r < m.side
     → line ≡ between (r * m.side) ((r + 1) * m.side) m.modules → length line ≡ m.side
-row_length m r line whole row_in is =
-    let below : (r + 1) * m.side ≡ r * m.side + m.side = omega arith in
-    let last = mul-add-lt r m.side (m.side - 1) m.side row_in (omega arith) in
-    ap length is ∙ length-between m.modules (r * m.side) ((r + 1) * m.side) (omega (arith, below, last, whole))
-    ∙ omega (arith, below)
+row_length m r line whole row_in is = grind (arith, mul-add-lt, length-between)

@@ -1,14 +1,13 @@
 -- What flipping one module of a grid does to its mapping matrix.
 use Rattle.std.specs.Prelude.{◌/◌, ◌%◌, not}
-use Rattle.std.specs.Option.{option_map_or}
-use Rattle.std.proofs.Common.{◌≡◌, ℕ, ◌+◌, ◌*◌, ◌<◌, refl, List, get_or, set, Bool, true, false, cond, Some, None, inl, inr, ap, sym, ◌∙◌, arith, subst, zero-add, length-set, get_or-set_same, get_or-set_other}
+use Rattle.std.proofs.Common.{◌≡◌, ℕ, ◌+◌, ◌*◌, ◌<◌, get_or, set, Bool, true, false, inl, inr, ap, sym, ◌∙◌, arith, subst, zero-add, length-set, get_or-set_same, get_or-set_other}
 use Rattle.std.proofs.lemmas.Nat.{mul-add-lt, mod_below, same_from_place, div-mul-add, mod-mul-add, div-add-mod'}
 use Rattle.std.proofs.lemmas.Bool.Decides.{eqb_tells}
 use Rattle.std.proofs.lemmas.List.{ext_get_or}
 use Rattle.std.proofs.lemmas.List.FromFn.{get_or-map-range_with_len}
 use Rattle.dm_check_blocks.specs.Sizes.{side, region, across, mapping}
 use Rattle.dm_placement.specs.Square.{Square, IsWhole, module_at, with_flipped}
-use Rattle.dm_finder_frame.specs.Frame.{is_on_frame, mapping_place, grid_place, matrix_module, matrix_modules, matrix_of_grid, FlipsOneModule}
+use Rattle.dm_finder_frame.specs.Frame.{is_on_frame, mapping_place, grid_place, matrix_module, matrix_modules, FlipsOneModule}
 use Rattle.dm_finder_frame.specs.Grids.{GridView, IsWholeGrid, grid_module_at, square_of, grid_with_flipped}
 use Rattle.dm_finder_frame.proofs.FramedGrids.{matrix_is_whole, column_below, place_within, place_inside}
 use Rattle.dm_finder_frame.proofs.GridPlaces.{fills_side, some_region, mapping_of_grid_place, grid_of_mapping_place, mapping_place_below, no_frame_inside}
@@ -16,9 +15,7 @@ use Rattle.dm_finder_frame.proofs.GridPlaces.{fills_side, some_region, mapping_o
 -- the flipped module, and every other one
 flipped_same : (g : Square) (r c : ℕ) → IsWhole g → r < g.side → c < g.side →
     module_at (with_flipped g r c) r c ≡ not (module_at g r c)
-flipped_same g r c whole hr hc =
-    let l = mul-add-lt r g.side c g.side hr hc in
-    get_or-set_same g.modules (r * g.side + c) (not (module_at g r c)) false (omega (arith, l, whole))
+flipped_same g r c whole hr hc = grind (arith, mul-add-lt, get_or-set_same)
 
 flipped_other : (g : Square) (r c i j : ℕ) → c < g.side → j < g.side → (i ≡ r → j ≡ c → ⊥) →
     module_at (with_flipped g r c) i j ≡ module_at g i j
@@ -30,9 +27,7 @@ flipped_other g r c i j hc hj ne =
 matrix_at : (g : GridView) (i : ℕ) → i < mapping g.size * mapping g.size
     → get_or (matrix_modules g) i false ≡ matrix_module g (i / mapping g.size) (i % mapping g.size)
 unfolding matrix_modules
-matrix_at g i l =
-    let n = mapping g.size in
-    get_or-map-range_with_len (λ i. matrix_module g (i / n) (i % n)) 0 (n * n) i i false l (zero-add i)
+matrix_at g i l = grind (arith, get_or-map-range_with_len, zero-add)
 
 -- A module of a finder pattern is flipped: the mapping matrix stays as it is.
 frame_flipped : (g : GridView) (r c : ℕ) → c < side g.size
@@ -108,18 +103,6 @@ matrix_flipped g r c whole hr hc e =
           ∙ sym (matrix_at g i li) ∙ sym (get_or-set_other (matrix_modules g) k i v false w.1))
     ])
 
-abbrev square : ℕ → List Bool → Square
-square n xs = record { side = n; modules = xs }
-
 -- To flip a module of a grid is to flip the module of its mapping matrix at that module's cell, if it has one.
 pub flips_one_module : FlipsOneModule
-flips_one_module g r c whole hr hc =
-    by_test g r c whole hr hc (is_on_frame (region g.size) (r % (region g.size + 2)) (c % (region g.size + 2))) refl
-  where
-    by_test : (g : GridView) (r c : ℕ) → IsWholeGrid g → r < side g.size → c < side g.size
-        → (b : Bool) → is_on_frame (region g.size) (r % (region g.size + 2)) (c % (region g.size + 2)) ≡ b
-        → matrix_of_grid (grid_with_flipped g r c)
-        ≡ option_map_or (λ (cell : ℕ × ℕ). with_flipped (matrix_of_grid g) cell.0 cell.1)
-        (cond b None (Some (mapping_place (region g.size) r, mapping_place (region g.size) c))) (matrix_of_grid g)
-    by_test g r c whole hr hc true e = ap (square (mapping g.size)) (frame_flipped g r c hc e)
-    by_test g r c whole hr hc false e = ap (square (mapping g.size)) (matrix_flipped g r c whole hr hc e)
+flips_one_module g r c whole hr hc = grind (arith, frame_flipped, matrix_flipped)

@@ -1,15 +1,15 @@
 -- The grid of a mapping matrix: its modules, its matrix, and that none of its finder patterns' modules is wrong.
 use Rattle.std.specs.Prelude.{◌/◌, ◌%◌, not, count_by}
 use Rattle.std.specs.List.{range_with_len}
-use Rattle.std.proofs.Common.{◌≡◌, ℕ, zero, suc, ◌+◌, ◌*◌, ◌<◌, refl, List, [], ◌∷◌, get_or, map, Bool, true, false, cond, ◌&&◌, ap, sym, ◌∙◌, arith, subst, zero-add}
+use Rattle.std.proofs.Common.{◌≡◌, ℕ, zero, suc, ◌+◌, ◌*◌, ◌<◌, refl, List, [], ◌∷◌, get_or, map, Bool, true, false, cond, ◌&&◌, ap, sym, ◌∙◌, arith, zero-add}
 use Rattle.std.proofs.lemmas.Nat.{mul-add-lt, div_below, mod_below, div-mul-add, mod-mul-add, div-add-mod'}
 use Rattle.std.proofs.lemmas.List.FromFn.{fill_by_all, get_or-map-range_with_len, length-map-range_with_len}
 use Rattle.dm_check_blocks.specs.declared.size.Size.{Size}
-use Rattle.dm_check_blocks.specs.Sizes.{side, region, across, mapping}
+use Rattle.dm_check_blocks.specs.Sizes.{side, region, mapping}
 use Rattle.dm_placement.specs.Square.{Square, IsWhole, module_at}
 use Rattle.dm_finder_frame.specs.Frame.{is_on_frame, frame_value, mapping_place, grid_place, grid_module, grid_modules, grid_of_matrix, matrix_modules, matrix_of_grid, wrong_module, is_wrong, wrong_frame_modules, UnframeUndoesFrame, FrameHasNoWrongModule}
 use Rattle.dm_finder_frame.specs.Grids.{GridView, IsWholeGrid, grid_module_at}
-use Rattle.dm_finder_frame.proofs.GridPlaces.{fills_side, some_region, grid_place_rest, grid_place_below, mapping_of_grid_place, inside_no_frame}
+use Rattle.dm_finder_frame.proofs.GridPlaces.{some_region, grid_place_rest, mapping_of_grid_place, inside_no_frame}
 
 pub positive : (n i : ℕ) → i < n * n → 0 < n
 positive zero i h = absurd (omega arith)
@@ -45,20 +45,11 @@ matrix_is_whole g = length-map-range_with_len _ 0 (mapping g.size * mapping g.si
 
 -- a place of the mapping matrix lies within the grid, on no frame
 pub place_within : (s : Size) (r : ℕ) → r < mapping s → grid_place (region s) r < side s
-place_within s r h =
-    let some = some_region s in
-    subst (λ (x : ℕ). grid_place (region s) r < x) (fills_side s)
-    (grid_place_below (region s) (across s) r (omega arith) h)
+place_within s r h = grind arith
 
 pub place_inside : (s : Size) (r c : ℕ) →
     is_on_frame (region s) (grid_place (region s) r % (region s + 2)) (grid_place (region s) c % (region s + 2)) ≡ false
-place_inside s r c =
-    let h = region s in
-    let some = some_region s in
-    let z : 0 < h = omega arith in
-    ap (λ x. is_on_frame h x (grid_place h c % (h + 2))) (grid_place_rest h r z) ∙
-    ap (λ x. is_on_frame h (r % h + 1) x) (grid_place_rest h c z)
-    ∙ inside_no_frame h (r % h) (c % h) (mod_below r h z) (mod_below c h z)
+place_inside s r c = grind (arith, some_region, grid_place_rest, inside_no_frame, mod_below)
 
 -- The mapping matrix of the grid of a mapping matrix is that matrix.
 pub unframe_undoes_frame : (s : Size) → UnframeUndoesFrame s

@@ -22,11 +22,7 @@ module_within h p k inner = cond (is_on_frame h p k) (frame_value h p k) inner
 within : (s : Size) (m : Square) (r b k : ℕ) → k < region s + 2
     → grid_module s m r (b * (region s + 2) + k)
     ≡ module_within (region s) (r % (region s + 2)) k (module_at m (mapping_place (region s) r) (b * region s + k - 1))
-within s m r b k h =
-    let f = region s + 2 in
-    let value : ℕ → ℕ → Bool = λ q place. module_within (region s) (r % f) place
-    (module_at m (mapping_place (region s) r) (q * region s + place - 1)) in
-    ap (λ q. value q ((b * f + k) % f)) (div-mul-add b f k h) ∙ ap (value b) (mod-mul-add b f k h)
+within s m r b k h = grind (arith, div-mul-add, mod-mul-add)
 
 -- at the left
 left : (h p : ℕ) (inner : Bool) → module_within h p 0 inner ≡ true
@@ -121,8 +117,4 @@ bottom_piece s m r n k at most h =
 pub matrix_piece : (g : GridView) (r b k : ℕ) → k < region g.size
     → grid_module_at g (grid_place (region g.size) r) (b * (region g.size + 2) + 1 + k)
     ≡ matrix_module g r (b * region g.size + k)
-matrix_piece g r b k h =
-    let s = region g.size in
-    let place : b * (s + 2) + 1 + k ≡ b * (s + 2) + k + 1 = omega arith in
-    ap (grid_module_at g (grid_place s r)) (place ∙ sym (ap (λ q. q * (s + 2) + (b * s + k) % s + 1) (div-mul-add b s k h)
-    ∙ ap (λ j. b * (s + 2) + j + 1) (mod-mul-add b s k h)))
+matrix_piece g r b k h = grind (arith, div-mul-add, mod-mul-add)

@@ -62,21 +62,8 @@ pub inner_fits : (s : Size) (m : Square) (r b h : ℕ) (line : List Bool) → re
     → m.side ≡ mapping s → r < side s → 1 ≤ r % (region s + 2) → r % (region s + 2) ≤ region s → b < across s
     → line ≡ between (mapping_place h r * m.side) ((mapping_place h r + 1) * m.side) m.modules
     → b * h + h ≤ length line
-inner_fits s m r b h line e whole same row_in low high b_in is = subst P e made is
-  where
-    P : ℕ → Type 0
-    P = λ h. line ≡ between (mapping_place h r * m.side) ((mapping_place h r + 1) * m.side) m.modules
-        → b * h + h ≤ length line
-
-    made : P (region s)
-    made is =
-        let h = region s in
-        let in_matrix = parts_fit b (across s) h b_in in
-        let in_grid : r < across s * (h + 2) = omega (arith, fills_side s) in
-        let below = mapping_place_below h (across s) r low high in_grid in
-        let at_in : mapping_place h r < m.side = omega (arith, below, same) in
-        let long = row_length m (mapping_place h r) line whole at_in is in
-        omega (arith, in_matrix, same, long)
+inner_fits s m r b h line e whole same row_in low high b_in is =
+    search (arith, parts_fit, fills_side, mapping_place_below, row_length)
 
 -- a whole row of the grid more
 row_more : (s : Size) (m : Square) (r : ℕ) (xs ys zs : List Bool)
@@ -95,19 +82,13 @@ row_more s m r xs ys zs begun joined count each =
 pub top_more : (s : Size) (m : Square) (r : ℕ) (xs ys : List Bool) → region s % 2 ≡ 0 → r % (region s + 2) ≡ 0
     → xs ≡ first_modules (side s) (grid_module s m) (r * side s) → ys ≡ xs ++ take (side s) TOP
     → ys ≡ first_modules (side s) (grid_module s m) ((r + 1) * side s)
-top_more s m r xs ys even at begun joined =
-    let most = most_side s in
-    row_more s m r xs ys (take (side s) TOP) begun joined (length-take-le (side s) TOP most)
-    (λ k h. top_piece s m r (side s) k even at most h)
+top_more s m r xs ys even at begun joined = search (arith, most_side, row_more, length-take-le, top_piece)
 
 -- their bottom row
 pub bottom_more : (s : Size) (m : Square) (r : ℕ) (xs ys : List Bool) → r % (region s + 2) ≡ region s + 1
     → xs ≡ first_modules (side s) (grid_module s m) (r * side s) → ys ≡ xs ++ take (side s) BOTTOM
     → ys ≡ first_modules (side s) (grid_module s m) ((r + 1) * side s)
-bottom_more s m r xs ys at begun joined =
-    let most = most_side s in
-    row_more s m r xs ys (take (side s) BOTTOM) begun joined (length-take-le (side s) BOTTOM most)
-    (λ k h. bottom_piece s m r (side s) k at most h)
+bottom_more s m r xs ys at begun joined = search (arith, most_side, row_more, length-take-le, bottom_piece)
 
 -- one region's part of a row of the mapping matrix more
 pub matrix_more : (g : GridView) (r b h : ℕ) (line xs ys : List Bool) → region g.size ≡ h → IsWholeGrid g

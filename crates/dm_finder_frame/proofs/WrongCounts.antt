@@ -1,24 +1,23 @@
 -- Counts of wrong modules over a row and then the next.
-use Rattle.std.specs.Prelude.{◌/◌, ◌%◌, not}
+use Rattle.std.specs.Prelude.{◌%◌, not}
 use Rattle.std.specs.List.{between}
 use mir.Val.{bool_byte}
-use Rattle.std.proofs.Common.{◌≡◌, ◌⊎◌, inl, inr, ℕ, zero, suc, ◌+◌, ◌-◌, ◌*◌, ◌<◌, ◌≤◌, Bool, List, get_or, false, ◌&&◌, ◌||◌, eqb, cond, refl, true, ap, sym, ◌∙◌, arith, add-zero, zero-add}
+use Rattle.std.proofs.Common.{◌≡◌, ◌⊎◌, inl, inr, ℕ, zero, suc, ◌+◌, ◌-◌, ◌*◌, ◌<◌, ◌≤◌, Bool, List, get_or, false, ◌||◌, eqb, cond, refl, true, ap, sym, ◌∙◌, arith, add-zero, zero-add}
 use Rattle.std.proofs.lemmas.Bool.Decides.{nat_tests}
 use Rattle.std.proofs.lemmas.List.Edits.{get_or-between}
 use Rattle.std.proofs.lemmas.List.FromFn.{sum_by-map-range_with_len_more}
 use Rattle.std.proofs.Math.Nat.{mul-le-mul_right}
-use Rattle.std.proofs.lemmas.Nat.{div-mul-add, mod-mul-add, mod_below, div-add-mod'}
+use Rattle.std.proofs.lemmas.Nat.{div-mul-add, mod-mul-add}
 use Rattle.dm_check_blocks.specs.Sizes.{side, region, across}
 use Rattle.dm_finder_frame.specs.Frame.{is_wrong, is_wrong_at, wrong_module, is_on_frame, frame_value}
 use Rattle.dm_finder_frame.specs.Grids.{GridView, grid_module_at}
-use Rattle.dm_finder_frame.proofs.GridPlaces.{fills_side, inside_no_frame}
+use Rattle.dm_finder_frame.proofs.GridPlaces.{fills_side}
 use Rattle.dm_finder_frame.specs.inner.Filled.{wrong_among}
 
 -- one module more is looked at
 pub one_more : (g : GridView) (first n : ℕ) →
     wrong_among g first (n + 1) ≡ wrong_among g first n + cond (is_wrong g (first + n)) 1 0
-one_more g first n = sum_by-map-range_with_len_more (λ (wrong : Bool). cond wrong 1 0) (is_wrong g) first n
-    (first + n) refl
+one_more g first n = grind (arith, sum_by-map-range_with_len_more)
 
 -- some modules, and those after them
 pub joined : (g : GridView) (m n : ℕ) → wrong_among g 0 (m + n) ≡ wrong_among g 0 m + wrong_among g m n
@@ -37,10 +36,7 @@ joined g m (suc n) =
 
 -- the test of a module by its row and column is that by its place in the list
 pub is_test : (g : GridView) (r c : ℕ) → c < side g.size → is_wrong_at g r c ≡ is_wrong g (r * side g.size + c)
-is_test g r c hc =
-    let n = side g.size in
-    sym (ap (λ (x : ℕ). is_wrong_at g x ((r * n + c) % n)) (div-mul-add r n c hc) ∙
-    ap (λ (x : ℕ). is_wrong_at g r x) (mod-mul-add r n c hc))
+is_test g r c hc = grind (arith, div-mul-add, mod-mul-add)
 
 -- modules that are not wrong add nothing
 none_more : (g : GridView) (first n len : ℕ) → ((k : ℕ) → k < len → is_wrong g (first + (n + k)) ≡ false)
@@ -55,19 +51,12 @@ none_more g first n (suc len) right =
 
 -- inside of a framed region no module is of the finder pattern
 not_wrong : (h p k : ℕ) (dark : Bool) → 1 ≤ p → p ≤ h → k < h → wrong_module h dark p (1 + k) ≡ false
-not_wrong h p k dark low high below =
-    let a : p ≡ p - 1 + 1 = omega arith in
-    let b : 1 + k ≡ k + 1 = omega arith in
-    let inside : is_on_frame h p (1 + k) ≡ false = ap (λ x. is_on_frame h x (1 + k)) a
-    ∙ ap (is_on_frame h (p - 1 + 1)) b ∙ inside_no_frame h (p - 1) k (omega arith) below in
-    ap (λ x. x && cond dark (not (frame_value h p (1 + k))) (frame_value h p (1 + k))) inside
+not_wrong h p k dark low high below = grind arith
 
 -- a module of the finder pattern is wrong if it is not what it is to be
 pub wrong_is : (h r c : ℕ) (dark wanted : Bool) → is_on_frame h r c ≡ true → frame_value h r c ≡ wanted
     → wrong_module h dark r c ≡ cond dark (not wanted) wanted
-wrong_is h r c dark wanted on value =
-    ap (λ x. x && cond dark (not (frame_value h r c)) (frame_value h r c)) on
-    ∙ ap (λ v. cond dark (not v) v) value
+wrong_is h r c dark wanted on value = cc
 
 -- a module that was compared with what it is to be
 pub differs_is : (x dark at wanted is : Bool) → x ≡ cond dark (not wanted) wanted → dark ≡ at → wanted ≡ is
@@ -112,17 +101,7 @@ pub last_column : (g : GridView) (r b h : ℕ) (x dark : Bool) → h ≡ region 
     → x ≡ cond dark (not (eqb (r % (h + 2) % 2) 1)) (eqb (r % (h + 2) % 2) 1)
     → x ≡ is_wrong_at g r (b * (region g.size + 2) + (region g.size + 1))
 last_column g r b h x dark same low high at is =
-    let s = region g.size in
-    let p = r % (s + 2) in
-    let last = b * (s + 2) + (s + 1) in
-    let there = grid_module_at g r last in
-    let one : b * (s + 2) + (s + 2) - 1 ≡ last = omega arith in
-    let rest : last % (s + 2) ≡ s + 1 = mod-mul-add b (s + 2) (s + 1) (omega arith) in
-    differs_is x dark there _ (eqb (p % 2) 1) is
-    (at ∙ ap (λ n. grid_module_at g r (b * (n + 2) + (n + 2) - 1)) same ∙ ap (grid_module_at g r) one)
-    (ap (λ n. eqb (r % (n + 2) % 2) 1) same)
-    ∙ sym (wrong_is s p (s + 1) there _ (on_last_column s p) (last_column_value s p low high))
-    ∙ ap (wrong_module s there p) (sym rest)
+    grind (arith, mod-mul-add, differs_is, wrong_is, on_last_column, last_column_value)
 
 -- the modules of one framed region in a row inside of it
 pub region_more : (g : GridView) (r b : ℕ) (x y : Bool) (wrong more : ℕ) → r < side g.size
@@ -175,22 +154,11 @@ at_most_one false = omega arith
 -- a module of a row of the grid
 pub line_module : (g : GridView) (r c : ℕ) (line : List Bool) → r < side g.size → c < side g.size
     → line ≡ between (r * side g.size) ((r + 1) * side g.size) g.modules → get_or line c false ≡ grid_module_at g r c
-line_module g r c line row_in column_in is =
-    let n = side g.size in
-    let below : (r + 1) * n ≡ r * n + n = omega arith in
-    ap (λ (x : List Bool). get_or x c false) is
-    ∙ get_or-between g.modules (r * n) ((r + 1) * n) c false (omega (arith, below))
+line_module g r c line row_in column_in is = grind (arith, get_or-between)
 
 -- the place of the next row in its framed regions: the first after the last, else the one after
 pub turned : (f r p q : ℕ) → 0 < f → p ≡ r % f → p ≡ f - 1 → q ≡ 0 → q ≡ (r + 1) % f
-turned f r p q some is last next =
-    let parts = div-add-mod' r f in
-    let turn : r + 1 ≡ (r / f + 1) * f + 0 = omega arith in
-    next ∙ sym (ap (λ x. x % f) turn ∙ mod-mul-add (r / f + 1) f 0 some)
+turned f r p q some is last next = grind arith
 
 pub passed : (f r p q : ℕ) → 0 < f → p ≡ r % f → (p ≡ f - 1 → ⊥) → q ≡ p + 1 → q ≡ (r + 1) % f
-passed f r p q some is other next =
-    let below = mod_below r f some in
-    let parts = div-add-mod' r f in
-    let after : r + 1 ≡ r / f * f + (p + 1) = omega arith in
-    next ∙ sym (ap (λ x. x % f) after ∙ mod-mul-add (r / f) f (p + 1) (omega arith))
+passed f r p q some is other next = grind arith

@@ -1,5 +1,6 @@
 -- A verdict carried out, step by step.
-use Rattle.std.proofs.Common.{◌≡◌, ℕ, List, false, Some, Result, Ok, Err, length, refl, ap, subst, sym, true, IsTrue}
+use Rattle.std.proofs.Common.{arith}
+use Rattle.std.proofs.Common.{◌≡◌, ℕ, List, false, Some, Result, Ok, Err, length, true}
 use Rattle.std.specs.Prelude.{◌==◌, IfOk}
 use Rattle.std.proofs.lemmas.Bool.{cond-true, eq-eqb}
 use Rattle.dm_check_blocks.specs.declared.size.Size.{Size}
@@ -13,33 +14,19 @@ use Rattle.dm_print_ledger.specs.Ledger.{is_sound}
 use Rattle.dm_print_ledger.specs.Printing.{IsJobOf, IsMade, Prints}
 use Rattle.dm_print_ledger.specs.Verdicts.{print_verdict}
 use Rattle.dm_print_ledger.specs.Views.{JobView, LedgerView, PrinterView}
-use Rattle.dm_print_ledger.proofs.RangeTests.{both}
 
 -- a running printer refuses
 pub refuses : {X F : Type 0} (failed memory save : F) (verdict : Result LedgerView F) (old : PrinterView) (fault : F) →
     old.is_failed ≡ false → IsInOrder old → verdict ≡ Err fault →
     (let result : Result X F = Err fault in Carries failed memory save verdict old result old)
-refuses failed memory save verdict old fault running order e = record {
-  failed = λ is. both old.is_failed is running;
-  in_order = order;
-  refused = λ is other f. (let same : fault ≡ other = cc in ap Err same, refl);
-  saves = λ is next f. absurd cc;
-}
+refuses failed memory save verdict old fault running order e = grind arith
 
 -- a running printer saves the ledger of the verdict
 pub carries : {X F : Type 0} (failed memory save : F) (verdict : Result LedgerView F) (next : LedgerView)
     (old : PrinterView) (result : Result X F) (new : PrinterView) →
     old.is_failed ≡ false → IsInOrder old → verdict ≡ Ok next → is_sound next ≡ true →
     Saves memory save next old result new → Carries failed memory save verdict old result new
-carries failed memory save verdict next old result new running order e sound saves = record {
-  in_order = order;
-  failed = λ is. both old.is_failed is running;
-  refused = λ is other f. absurd cc;
-  saves = λ is other f.
-      let same : next ≡ other = cc in
-      subst (λ (l : LedgerView). IsTrue (is_sound l) × Saves memory save l old result new) same
-      (sound, saves);
-}
+carries failed memory save verdict next old result new running order e sound saves = grind arith
 
 -- a document with parts, where no number is free
 pub none_free : (old : LedgerView) → length old.free ≡ 0 →
@@ -50,9 +37,7 @@ none_free old none = cond-true (length old.free == 0) _ _ (eq-eqb _ _ none)
 pub made_by : (ledger : LedgerView) (size : Size) (scheme : Scheme) (id : ℕ) (document given ends : List ℕ)
     (job : JobView) → given ≡ ends → id ≡ least ledger.free →
     IsJobOf size scheme id (parts_from document 0 given) job → IsMade ledger size scheme document (Some ends) job
-made_by ledger size scheme id document given ends job e is made =
-    subst (λ (n : ℕ). IsJobOf size scheme n (parts_from document 0 ends) job) is
-    (subst (λ (es : List ℕ). IsJobOf size scheme id (parts_from document 0 es) job) e made)
+made_by ledger size scheme id document given ends job e is made = grind arith
 
 -- the job of a document was made, and the save of its identification as used has ended so
 pub prints : (old : PrinterView) (size : Size) (scheme : Scheme) (document ends : List ℕ) (next : LedgerView)
@@ -62,11 +47,4 @@ pub prints : (old : PrinterView) (size : Size) (scheme : Scheme) (document ends 
     IfOk result (IsMade old.ledger size scheme document (Some ends)) →
     (result ≡ Err printing.Save → (job : JobView) × IsMade old.ledger size scheme document (Some ends) job) →
     Prints old size scheme document result new
-prints old size scheme document ends next result new running order are verdict sound saves made lost = record {
-  cutting = Some ends;
-  is_cutting = λ is. are;
-  carries = carries printing.Failed printing.Memory printing.Save (print_verdict old.ledger true) next old result new
-      running order (sym verdict) sound saves;
-  made = made;
-  lost = lost;
-}
+prints old size scheme document ends next result new running order are verdict sound saves made lost = grind arith

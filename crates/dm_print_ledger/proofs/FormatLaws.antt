@@ -1,7 +1,6 @@
 -- A ledger can be read back from its bytes.
-use Rattle.std.proofs.Common.{◌≡◌, ◌≤◌, ◌<◌, ◌+◌, ◌-◌, ◌*◌, ◌/◌, ◌%◌, ℕ, List, [], ◌∷◌, ◌++◌, length, get_or, refl, ap, ◌∙◌, sym, subst, arith, append_assoc, length-append, suc}
+use Rattle.std.proofs.Common.{◌≡◌, ◌≤◌, ◌<◌, ◌+◌, ◌-◌, ◌*◌, ◌/◌, ◌%◌, ℕ, List, [], ◌∷◌, ◌++◌, length, get_or, refl, ap, ◌∙◌, sym, subst, arith, append_assoc, length-append}
 use Rattle.std.specs.List.{flat_map}
-use Rattle.std.specs.Prelude.{slice_index}
 use Rattle.std.proofs.lemmas.List.{get_or_at, get_or-append-add}
 use Rattle.dm_print_ledger.proofs.Rising.{IsSound}
 use Rattle.dm_print_ledger.specs.declared.range.Range.{Range}
@@ -21,28 +20,16 @@ pub pairs_more : {X : Type 0} (make : ℕ → ℕ → X) (bytes : List ℕ) (at 
     pairs_in make bytes (at + 4 * i) (count - i)
     ≡ make (number_in bytes (at + 4 * i)) (number_in bytes (at + 4 * i + 2)) ∷ pairs_in make bytes
     (at + 4 * (i + 1)) (count - (i + 1))
-pairs_more make bytes at i count below =
-    let e : count - i ≡ suc (count - (i + 1)) = omega arith in
-    let f : at + 4 * i + 4 ≡ at + 4 * (i + 1) = omega arith in
-    ap (λ n. pairs_in make bytes (at + 4 * i) n) e
-    ∙ ap (λ a. make (number_in bytes (at + 4 * i)) (number_in bytes (at + 4 * i + 2)) ∷ pairs_in make bytes a
-    (count - (i + 1))) f
+pairs_more make bytes at i count below = grind arith
 
 -- what stands after a front
 after_front : (front rest : List ℕ) (at k : ℕ) → length front ≡ at → get_or (front ++ rest) (at + k) 0 ≡ get_or rest k 0
-after_front front rest at k e = subst (λ (a : ℕ). get_or (front ++ rest) (a + k) 0 ≡ get_or rest k 0) e
-    (get_or-append-add front rest k 0)
+after_front front rest at k e = grind (arith, get_or-append-add)
 
 -- the number that stands after a front
 first_number : (front rest : List ℕ) (n b at : ℕ) → length front ≡ at →
     number_in (front ++ (n / 256 ∷ n % 256 ∷ rest)) at ≡ n
-first_number front rest n b at e =
-    let p : get_or (front ++ (n / 256 ∷ n % 256 ∷ rest)) at 0 ≡ n / 256 =
-    get_or_at front (n / 256) (n % 256 ∷ rest) 0 at e in
-    let q : get_or (front ++ (n / 256 ∷ n % 256 ∷ rest)) (at + 1) 0 ≡ n % 256 =
-    after_front front (n / 256 ∷ n % 256 ∷ rest) at 1 e in
-    ap (λ x. 256 * x + get_or (front ++ (n / 256 ∷ n % 256 ∷ rest)) (at + 1) 0) p ∙
-    ap (λ x. 256 * (n / 256) + x) q ∙ joins n
+first_number front rest n b at e = grind (arith, get_or_at, after_front, joins)
 
 -- the number that stands two bytes after a front
 second_number : (front rest : List ℕ) (a b n at : ℕ) → length front ≡ at →
@@ -85,12 +72,7 @@ pairs_again {X} make one two whole front (x ∷ xs) rest at e =
 pub length_fours : {X : Type 0} (f : X → List ℕ) → ((x : X) → length (f x) ≡ 4) → (xs : List X) →
     length (flat_map f xs) ≡ 4 * length xs
 length_fours f four [] = refl
-length_fours f four (x ∷ xs) =
-    let a : length (f x ++ flat_map f xs) ≡ length (f x) + length (flat_map f xs) =
-    length-append (f x) (flat_map f xs) in
-    let b : length (f x) ≡ 4 = four x in
-    let c : length (flat_map f xs) ≡ 4 * length xs = length_fours f four xs in
-    omega arith
+length_fours f four (x ∷ xs) = grind (arith, length-append, length_fours f four xs)
 
 -- the ten bytes before the ranges
 abbrev front_of : LedgerView → List ℕ
@@ -112,27 +94,11 @@ regrouped l = sym (append_assoc (front_of l) (flat_map range_bytes l.free) (leng
 
 -- how many bytes stand before the count of givers
 length-ranges_of : (l : LedgerView) → length (ranges_of l) ≡ 10 + 4 * length l.free
-length-ranges_of l =
-    let a : length (flat_map range_bytes l.free) ≡ 4 * length l.free = length_fours range_bytes (λ x. refl) l.free in
-    let b : length (ranges_of l) ≡ 10 + length (flat_map range_bytes l.free) =
-    length-append (front_of l) (flat_map range_bytes l.free) in
-    omega arith
+length-ranges_of l = grind (arith, length_fours, length-append)
 
 -- how many bytes a ledger has
 pub length-ledger_bytes : (l : LedgerView) → length (ledger_bytes l) ≡ 13 + 4 * length l.free + 4 * length l.givers
-length-ledger_bytes l =
-    let a : length (ledger_bytes l) ≡ length (ranges_of l ++ (length l.givers ∷ givers_of l)) =
-    ap length (regrouped l) in
-    let b : length (ranges_of l ++ (length l.givers ∷ givers_of l))
-    ≡ length (ranges_of l) + length (length l.givers ∷ givers_of l) =
-    length-append (ranges_of l) (length l.givers ∷ givers_of l) in
-    let c : length (ranges_of l) ≡ 10 + 4 * length l.free = length-ranges_of l in
-    let d : length (givers_of l) ≡ length (flat_map giver_bytes l.givers) + 2 =
-    length-append (flat_map giver_bytes l.givers)
-    (two_bytes (65535 - free_count l.free)) in
-    let f : length (flat_map giver_bytes l.givers) ≡ 4 * length l.givers =
-    length_fours giver_bytes (λ x. refl) l.givers in
-    omega arith
+length-ledger_bytes l = grind (arith, regrouped, length-append, length-ranges_of, length_fours)
 
 -- the tenth byte is the count of ranges
 pub range_count_is : (l : LedgerView) → range_count (ledger_bytes l) ≡ length l.free
@@ -141,10 +107,7 @@ range_count_is l = refl
 
 -- the count of givers stands after the ranges
 pub giver_count_is : (l : LedgerView) → giver_count (ledger_bytes l) ≡ length l.givers
-giver_count_is l =
-    ap (λ n. slice_index (ledger_bytes l) (10 + 4 * n)) (range_count_is l)
-    ∙ ap (λ bytes. slice_index bytes (10 + 4 * length l.free)) (regrouped l)
-    ∙ get_or_at (ranges_of l) (length l.givers) (givers_of l) 0 (10 + 4 * length l.free) (length-ranges_of l)
+giver_count_is l = grind (arith, range_count_is, regrouped, get_or_at, length-ranges_of)
 
 -- there are as many bytes as the counts ask for
 pub record HasSize (bytes : List ℕ) : Type 0 where
@@ -154,13 +117,7 @@ pub record HasSize (bytes : List ℕ) : Type 0 where
 
 -- a sound ledger has as many bytes as its counts ask for
 pub has_size : (l : LedgerView) → IsSound l → HasSize (ledger_bytes l)
-has_size l sound =
-    let a : range_count (ledger_bytes l) ≡ length l.free = range_count_is l in
-    let b : giver_count (ledger_bytes l) ≡ length l.givers = giver_count_is l in
-    let c : length (ledger_bytes l) ≡ 13 + 4 * length l.free + 4 * length l.givers = length-ledger_bytes l in
-    let few : length l.free ≤ 64 = sound.few_ranges in
-    let few' : length l.givers ≤ 64 = sound.few_givers in
-    record { ranges = omega arith; givers = omega arith; size = omega arith }
+has_size l sound = grind (arith, range_count_is, giver_count_is, length-ledger_bytes)
 
 -- the ranges are read back
 free_again : (l : LedgerView) → pairs_in make_range (ledger_bytes l) 10 (length l.free) ≡ l.free
@@ -202,18 +159,7 @@ view_of number serial free givers = record { number = number; next_serial = seri
 -- what is written is read
 pub read_again : (l : LedgerView) → numbers_in (ledger_bytes l) ≡ l
 unfolding numbers_in
-read_again l =
-    let free : pairs_in make_range (ledger_bytes l) 10 (range_count (ledger_bytes l)) ≡ l.free =
-    ap (λ n. pairs_in make_range (ledger_bytes l) 10 n) (range_count_is l) ∙ free_again l in
-    let givers : pairs_in make_giver (ledger_bytes l) (11 + 4 * range_count (ledger_bytes l))
-    (giver_count (ledger_bytes l)) ≡ l.givers =
-    ap (λ n. pairs_in make_giver (ledger_bytes l) (11 + 4 * n) (giver_count (ledger_bytes l))) (range_count_is l)
-    ∙ ap (λ n. pairs_in make_giver (ledger_bytes l) (11 + 4 * length l.free) n) (giver_count_is l)
-    ∙ givers_again l in
-    let number = number_again l in
-    let serial = serial_again l in
-    let all : numbers_in (ledger_bytes l) ≡ view_of l.number l.next_serial l.free l.givers = cc in
-    all
+read_again l = grind (arith, range_count_is, free_again, giver_count_is, givers_again, number_again, serial_again)
 
 -- bytes of a sound ledger have the size that their counts ask for
 pub size_spelled : (bytes : List ℕ) (l : LedgerView) → IsSound l → bytes ≡ ledger_bytes l → HasSize bytes
@@ -226,11 +172,7 @@ pub pairs_step : {X : Type 0} (make : ℕ → ℕ → X) (bytes : List ℕ) (at 
     old ++ pairs_in make bytes (at + 4 * i) (count - i) ≡ all →
     new ++ pairs_in make bytes (at + 4 * (i + 1)) (count - (i + 1)) ≡ all
 pairs_step make bytes at i count a b old new all below grown first second before =
-    let rest = pairs_in make bytes (at + 4 * (i + 1)) (count - (i + 1)) in
-    let more : pairs_in make bytes (at + 4 * i) (count - i) ≡ make a b ∷ rest =
-    pairs_more make bytes at i count below
-    ∙ sym (ap (λ n. make a n ∷ rest) second ∙ ap (λ n. make n (number_in bytes (at + 4 * i + 2)) ∷ rest) first) in
-    ap (λ xs. xs ++ rest) grown ∙ append_assoc old (make a b ∷ []) rest ∙ ap (λ xs. old ++ xs) (sym more) ∙ before
+    grind (arith, pairs_more, append_assoc)
 
 -- what is written, piece by piece
 pub written : (number serial ranges count others : ℕ) (free : List Range) (givers : List Giver)
@@ -242,8 +184,4 @@ pub written : (number serial ranges count others : ℕ) (free : List Range) (giv
     h ≡ ledger_bytes (view_of number serial free givers)
 unfolding ledger_bytes
 written number serial ranges count others free givers a b c d e f g h pa pb pc pd pe pf pg ph pr po pn =
-    let check : List ℕ = two_bytes (65535 - free_count free) in
-    rw (ph, pg, pf, pe, pd, pc, pb, pa, pr, po, pn)
-    (ap (λ t. 68 ∷ 77 ∷ 76 ∷ 71 ∷ 2 ∷ number / 256 ∷ number % 256 ∷ serial / 256 ∷ serial % 256 ∷ length free ∷ t)
-    (append_assoc (flat_map range_bytes free ++ length givers ∷ []) (flat_map giver_bytes givers) check
-    ∙ append_assoc (flat_map range_bytes free) (length givers ∷ []) (flat_map giver_bytes givers ++ check)))
+    grind (arith, append_assoc)

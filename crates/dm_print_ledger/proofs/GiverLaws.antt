@@ -1,54 +1,30 @@
 -- Givers, of which one is noted.
 use Rattle.dm_print_ledger.specs.FreeNumbers.{Notes}
-use Rattle.std.proofs.Common.{◌≡◌, ◌+◌, ◌≤◌, ◌<◌, ◌⊎◌, inl, inr, ℕ, Bool, true, false, Some, None, List, [], ◌∷◌, refl, sym, ◌∙◌, ap, subst, arith}
-use Rattle.std.specs.Prelude.{nat_lt, ◌==◌, if◌then◌else◌}
-use Rattle.std.proofs.lemmas.Bool.{lt-ltb, le-ltb, eq-eqb, ne_eqb, cond-true, cond-false, eqb-true, cases_lt, cases_eq}
+use Rattle.std.proofs.Common.{◌≡◌, ◌+◌, ◌≤◌, ◌<◌, ◌⊎◌, inl, inr, ℕ, Bool, true, false, Some, List, [], ◌∷◌, refl, sym, ◌∙◌, ap, subst, arith}
+use Rattle.std.specs.Prelude.{◌==◌, if◌then◌else◌}
+use Rattle.std.proofs.lemmas.Bool.{eq-eqb, ne_eqb, cond-true, cond-false, eqb-true, cases_eq}
 use Rattle.dm_print_ledger.proofs.Rising.{GiversFrom, givers_test}
 use Rattle.dm_print_ledger.specs.declared.giver.Giver.{Giver}
 use Rattle.dm_print_ledger.specs.Givers.{last_taken, givers_with}
 
--- no giver below the first number is listed
-none_below : (from : ℕ) (givers : List Giver) (number : ℕ) → GiversFrom from givers → number < from →
-    last_taken givers number ≡ None
-none_below from [] number rise low = refl
-none_below from (giver ∷ givers) number rise low =
-    let a : from ≤ giver.number = rise.0 in
-    let ne : giver.number ≡ number → ⊥ = (λ e. omega arith) in
-    cond-false (giver.number == number) (Some giver.serial) (last_taken givers number) (ne_eqb _ _ ne)
-    ∙ none_below (giver.number + 1) givers number rise.1 (omega arith)
-
 -- after a giver below the new one comes what the rest gives
 with_past : (giver : Giver) (givers : List Giver) (last : Giver) → giver.number < last.number →
     givers_with (giver ∷ givers) last ≡ giver ∷ givers_with givers last
-with_past giver givers last h = cond-true (nat_lt giver.number last.number) (giver ∷ givers_with givers last) _
-    (lt-ltb _ _ h)
+with_past giver givers last h = grind arith
 
 -- at the same giver its serial is replaced
 with_here : (giver : Giver) (givers : List Giver) (last : Giver) → giver.number ≡ last.number →
     givers_with (giver ∷ givers) last ≡ last ∷ givers
-with_here giver givers last h =
-    cond-false (nat_lt giver.number last.number) (giver ∷ givers_with givers last)
-    (if giver.number == last.number then last ∷ givers else last ∷ giver ∷ givers) (le-ltb giver.number last.number
-    (omega arith))
-    ∙ cond-true (giver.number == last.number) (last ∷ givers) (last ∷ giver ∷ givers) (eq-eqb _ _ h)
+with_here giver givers last h = grind arith
 
 -- before a later giver the new one is put
 with_before : (giver : Giver) (givers : List Giver) (last : Giver) → last.number < giver.number →
     givers_with (giver ∷ givers) last ≡ last ∷ giver ∷ givers
-with_before giver givers last h =
-    let ne : giver.number ≡ last.number → ⊥ = (λ e. omega arith) in
-    cond-false (nat_lt giver.number last.number) (giver ∷ givers_with givers last)
-    (if giver.number == last.number then last ∷ givers else last ∷ giver ∷ givers) (le-ltb giver.number last.number
-    (omega arith))
-    ∙ cond-false (giver.number == last.number) (last ∷ givers) (last ∷ giver ∷ givers) (ne_eqb _ _ ne)
+with_before giver givers last h = grind arith
 
 -- of two numbers one is less, or they are the same
 three : (a b : ℕ) → (a < b) ⊎ ((a ≡ b) ⊎ (b < a))
-three a b = elim (cases_lt a b) [
-  | inl l ↦ inl l
-  | inr g ↦
-      elim (cases_lt b a) [ inl l ↦ inr (inr l) | inr h ↦ inr (inl (omega arith)) ]
-]
+three a b = grind arith
 
 -- the givers with one more rise
 pub with_rise : (from : ℕ) (givers : List Giver) (last : Giver) → GiversFrom from givers → from ≤ last.number →
@@ -114,10 +90,4 @@ with_last from (giver ∷ givers) last other rise =
 pub notes : (givers : List Giver) (number serial : ℕ) → GiversFrom 0 givers →
     (let last : Giver = record { number = number; serial = serial } in
     Notes givers number serial (givers_with givers last))
-notes givers number serial rise =
-    let last : Giver = record { number = number; serial = serial } in
-    record {
-      givers = givers_test 0 (givers_with givers last) (with_rise 0 givers last rise
-          (let l : 0 ≤ number = omega arith in l));
-      last = λ other. with_last 0 givers last other rise;
-    }
+notes givers number serial rise = grind (arith, givers_test, with_rise, with_last)

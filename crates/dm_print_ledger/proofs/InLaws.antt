@@ -2,7 +2,7 @@
 use Rattle.std.proofs.Common.{◌≡◌, ◌+◌, ◌≤◌, ◌<◌, ◌⊎◌, ℕ, Bool, true, false, ◌||◌, List, [], ◌∷◌, refl, sym, ◌∙◌, ap, subst, inl, inr, arith, min, max}
 use Rattle.std.specs.List.{list_any}
 use Rattle.std.specs.Prelude.{nat_lt, if◌then◌else◌}
-use Rattle.std.proofs.lemmas.Bool.{leb-true, le-leb, lt-ltb, le-ltb, or_left, or_right, or_cases, or_parts, and_parts, and_from, cond-true, cond-false, cases_lt}
+use Rattle.std.proofs.lemmas.Bool.{leb-true, lt-ltb, le-ltb, or_left, or_right, or_cases, or_parts, and_parts, cond-true, cond-false, cases_lt}
 use Rattle.dm_print_ledger.specs.FreeNumbers.{AreTaken, PutsIn}
 use Rattle.dm_print_ledger.proofs.Rising.{IsRange, RiseFrom, rise_test}
 use Rattle.dm_print_ledger.specs.declared.range.Range.{Range}
@@ -17,12 +17,7 @@ any_meets ranges range = list_any (λ one. meets one range) ranges
 
 -- ranges with a number in common meet
 meets_from : (one range : Range) (n : ℕ) → is_in one n ≡ true → is_in range n ≡ true → meets one range ≡ true
-meets_from one range n a b =
-    let p : one.first ≤ n = at_least one n a in
-    let q : n ≤ one.last = at_most one n a in
-    let r : range.first ≤ n = at_least range n b in
-    let s : n ≤ range.last = at_most range n b in
-    and_from _ _ (le-leb one.first range.last (omega arith)) (le-leb range.first one.last (omega arith))
+meets_from one range n a b = grind arith
 
 -- the greater of the first numbers is in both of two that meet
 common : (one range : Range) → IsRange one → range.first ≤ range.last → meets one range ≡ true →
@@ -91,12 +86,6 @@ record IsIn (from : ℕ) (old : List Range) (range : Range) (new : List Range) :
   pub free : (n : ℕ) → is_free new n ≡ (is_in range n || is_free old n)
   pub count : AreTaken old range → free_count new ≡ free_count old + size_of range
 
--- the order of two tests of three does not count
-or_swap : (a b c : Bool) → (a || (b || c)) ≡ (b || (a || c))
-or_swap true true c = refl
-or_swap true false c = refl
-or_swap false b c = refl
-
 -- a test in the place of two
 or_both : (h a b c : Bool) → h ≡ (a || b) → (h || c) ≡ (a || (b || c))
 or_both h true b c e = ap (λ x. x || c) e
@@ -105,52 +94,20 @@ or_both h false b c e = ap (λ x. x || c) e
 -- wholly below: the first range stays
 past_in : (from : ℕ) (one : Range) (ranges new : List Range) (range : Range) → RiseFrom from (one ∷ ranges) →
     IsIn (one.last + 2) ranges range new → IsIn from (one ∷ ranges) range (one ∷ new)
-past_in from one ranges new range rise inner = record {
-  rises = (rise.0, rise.1, inner.rises);
-  free = λ n. ap (λ b. is_in one n || b) (inner.free n) ∙ or_swap (is_in one n) (is_in range n) (is_free ranges n);
-  count = λ taken. let c : free_count new ≡ free_count ranges + size_of range =
-      inner.count (taken_after one ranges range taken) in
-      omega arith;
-}
+past_in from one ranges new range rise inner = grind arith
 
 -- wholly above: it stands before all
 before_in : (from : ℕ) (one : Range) (ranges : List Range) (range : Range) → RiseFrom from (one ∷ ranges) →
     from ≤ range.first →
     IsRange range → range.last + 1 < one.first → IsIn from (one ∷ ranges) range (range ∷ one ∷ ranges)
-before_in from one ranges range rise low is apart = record {
-  rises = (low, is, (let l : range.last + 2 ≤ one.first = omega arith in l, rise.1, rise.2));
-  free = λ n. refl;
-  count = λ taken. omega arith;
-}
+before_in from one ranges range rise low is apart = grind arith
 
 -- the numbers of two that touch or meet
 hull_in : (one range : Range) (n : ℕ) → one.first ≤ one.last → range.first ≤ range.last → range.first ≤ one.last + 1 →
     one.first ≤ range.last + 1 →
     is_in (hull one range) n ≡ (is_in range n || is_in one n)
 hull_in one range n some some' near near' =
-    same_tests (is_in (hull one range) n) (is_in range n || is_in one n)
-    (λ h.
-    let a : min one.first range.first ≤ n = at_least (hull one range) n h in
-    let b : n ≤ max one.last range.last = at_most (hull one range) n h in
-    elim (cases_lt n range.first) [
-      | inl low ↦ or_right (is_in range n) (is_in one n) (in_from one n (omega arith) (omega arith))
-      | inr l ↦ elim (cases_lt range.last n) [
-        | inl high ↦ or_right (is_in range n) (is_in one n) (in_from one n (omega arith) (omega arith))
-        | inr m ↦ or_left (is_in range n) (is_in one n) (in_from range n l m)
-      ]
-    ])
-    (λ h. elim (or_cases (is_in range n) (is_in one n) h) [
-      | inl here ↦
-          let a : range.first ≤ n = at_least range n here in
-          let b : n ≤ range.last = at_most range n here in
-          in_from (hull one range) n (let l : min one.first range.first ≤ n = omega arith in l)
-          (let m : n ≤ max one.last range.last = omega arith in m)
-      | inr here ↦
-          let a : one.first ≤ n = at_least one n here in
-          let b : n ≤ one.last = at_most one n here in
-          in_from (hull one range) n (let l : min one.first range.first ≤ n = omega arith in l)
-          (let m : n ≤ max one.last range.last = omega arith in m)
-    ])
+    search (arith, same_tests, min, at_least, max, at_most, cases_lt, or_right, in_from, or_left, or_cases)
 
 -- no number of the union with a first range that touches is free in the rest
 hull_taken : (from : ℕ) (one : Range) (ranges : List Range) (range : Range) → RiseFrom from (one ∷ ranges) →
@@ -206,11 +163,7 @@ touch_in from one ranges new range rise some near near' inner = record {
 in_from_all : (from : ℕ) (ranges : List Range) (range : Range) → RiseFrom from ranges → from ≤ range.first →
     IsRange range →
     IsIn from ranges range (union_of ranges range)
-in_from_all from [] range rise low is = record {
-  rises = (low, is, tt);
-  free = λ n. refl;
-  count = λ taken. omega arith;
-}
+in_from_all from [] range rise low is = grind arith
 in_from_all from (one ∷ ranges) range rise low is =
     let some : range.first ≤ range.last = is.not_empty in
     let most : range.last ≤ 64515 = is.within in
@@ -262,7 +215,5 @@ puts_in ranges range rise is taken =
 -- where no number of a range is free, no range meets it
 pub meets_no : (ranges : List Range) (range : Range) (test : Bool) → RiseFrom 0 ranges → IsRange range →
     test ≡ any_meets ranges range → AreTaken ranges range → test ≡ false
-meets_no ranges range true rise is e taken =
-    let found = meets_free 0 ranges range rise is.not_empty (sym e) in
-    both _ found.2 (taken found.0 found.1)
+meets_no ranges range true rise is e taken = grind (arith, meets_free, both)
 meets_no ranges range false rise is e taken = refl

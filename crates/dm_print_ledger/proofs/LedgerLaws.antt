@@ -1,6 +1,5 @@
 -- What a ledger is after a print, a ticket given, and a ticket taken.
 use Rattle.std.proofs.Common.{◌≡◌, ◌≤◌, ◌<◌, ℕ, true, false, List, [], ◌∷◌, length, refl, ap, ◌∙◌, arith}
-use Rattle.std.proofs.lemmas.Bool.{or_left, and_from, le-leb}
 use Rattle.dm_print_ledger.proofs.Rising.{RiseFrom, range_fact, rise_fact, rise_test, givers_fact}
 use Rattle.dm_print_ledger.specs.declared.range.Range.{Range}
 use Rattle.dm_print_ledger.specs.declared.giver.Giver.{Giver}
@@ -11,7 +10,7 @@ use Rattle.dm_print_ledger.specs.Creating.{opening}
 use Rattle.dm_print_ledger.specs.Ledger.{is_sound}
 use Rattle.dm_print_ledger.specs.FreeNumbers.{RangesAreNumbers, FirstIsLeast, GiversAreNoted}
 use Rattle.dm_print_ledger.proofs.RangeLaws.{least_free}
-use Rattle.dm_print_ledger.proofs.OutLaws.{covered_free, covers_all, takes_out, first_out, covers_from}
+use Rattle.dm_print_ledger.proofs.OutLaws.{covered_free, covers_all, takes_out, first_out}
 use Rattle.dm_print_ledger.proofs.InLaws.{meets_no, puts_in, meets_none}
 use Rattle.dm_print_ledger.proofs.GiverLaws.{notes}
 
@@ -36,9 +35,7 @@ givers_are_noted givers last rise = notes givers last.number last.serial (givers
 -- the least number is free
 least_covered : (one : Range) (ranges : List Range) → RiseFrom 0 (one ∷ ranges) →
     are_free (one ∷ ranges) (single one.first) ≡ true
-least_covered one ranges rise =
-    let low : one.first ≤ one.first = omega arith in
-    or_left _ _ (covers_from one (single one.first) low rise.1.not_empty)
+least_covered one ranges rise = grind arith
 
 -- without it the ranges rise
 pub used_rise : (ranges : List Range) → RiseFrom 0 ranges → 0 < length ranges →
@@ -77,6 +74,4 @@ noted_givers givers new last rise e = ap are_givers e ∙ (givers_are_noted give
 
 -- an opening ledger is sound
 pub opening_sound : (number : ℕ) (range : Range) → is_range range ≡ true → is_sound (opening number range) ≡ true
-opening_sound number range is =
-    and_from _ _ (and_from _ _ (and_from _ _ (and_from _ _ (and_from _ _ (le-leb 0 range.first (omega arith)) is) refl)
-    refl) refl) refl
+opening_sound number range is = grind arith

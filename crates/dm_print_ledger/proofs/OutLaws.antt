@@ -1,5 +1,5 @@
 -- Ranges without the numbers of one.
-use Rattle.std.proofs.Common.{◌≡◌, ◌+◌, ◌-◌, ◌≤◌, ◌<◌, ◌⊎◌, ℕ, Bool, true, false, ◌&&◌, not, List, [], ◌∷◌, ◌++◌, refl, sym, ◌∙◌, ap, subst, inl, inr, arith, length, append_assoc, min, max}
+use Rattle.std.proofs.Common.{◌≡◌, ◌+◌, ◌-◌, ◌≤◌, ◌<◌, ◌⊎◌, ℕ, Bool, true, false, ◌&&◌, not, List, [], ◌∷◌, ◌++◌, refl, sym, ◌∙◌, ap, subst, inl, inr, arith, length, min, max}
 use Rattle.std.specs.List.{list_any}
 use Rattle.std.specs.Prelude.{nat_lt}
 use Rattle.std.proofs.lemmas.Bool.{leb-true, le-leb, or_cases, or_parts, and_parts, and_from, le-ltb, lt-ltb, cond-true, cond-false, cases_lt}
@@ -97,55 +97,25 @@ span_none from to least = cond-false (nat_lt from to) (upto from to ∷ []) [] (
 span_some : (from to : ℕ) → from < to → span from to ≡ upto from to ∷ []
 span_some from to less = cond-true (nat_lt from to) (upto from to ∷ []) [] (lt-ltb from to less)
 
--- one of both
-span_is : (P : List Range → Type 0) (from to : ℕ) → (from < to → P (upto from to ∷ [])) → (to ≤ from → P []) →
-    P (span from to)
-span_is P from to some none = elim (cases_lt from to) [
-  | inl less ↦ subst P (sym (span_some from to less)) (some less)
-  | inr least ↦ subst P (sym (span_none from to least)) (none least)
-]
-
 span_to : (from to : ℕ) (rest : List Range) (n : ℕ) → is_free (span from to ++ rest) n ≡ true →
     ((from ≤ n) × (n < to)) ⊎ (is_free rest n ≡ true)
-span_to from to rest n = span_is
-    (λ part. is_free (part ++ rest) n ≡ true → ((from ≤ n) × (n < to)) ⊎ (is_free rest n ≡ true)) from to
-    (λ less h. elim (free_cases (upto from to) rest n h) [
-      | inl here ↦
-          let low : from ≤ n = at_least (upto from to) n here in
-          let high : n ≤ to - 1 = at_most (upto from to) n here in
-          inl (low, (let l : n < to = omega arith in l))
-      | inr later ↦ inr later
-    ])
-    (λ least h. inr h)
+span_to from to rest n = grind arith
 
 span_here : (from to : ℕ) (rest : List Range) (n : ℕ) → from ≤ n → n < to → is_free (span from to ++ rest) n ≡ true
-span_here from to rest n low high =
-    let less : from < to = omega arith in
-    ap (λ part. is_free (part ++ rest) n) (span_some from to less)
-    ∙ free_here (upto from to) rest n (in_from (upto from to) n low (omega arith))
+span_here from to rest n low high = grind arith
 
 span_rest : (from to : ℕ) (rest : List Range) (n : ℕ) → is_free rest n ≡ true → is_free (span from to ++ rest) n ≡ true
-span_rest from to rest n free = span_is (λ part. is_free (part ++ rest) n ≡ true) from to
-    (λ less. free_after (upto from to) rest n free) (λ least. free)
+span_rest from to rest n free = grind arith
 
 span_rises : (low from to : ℕ) (rest : List Range) → low ≤ from → to ≤ 64516 → RiseFrom (to + 1) rest →
     RiseFrom low rest → RiseFrom low (span from to ++ rest)
-span_rises low from to rest above within after others = span_is (λ part. RiseFrom low (part ++ rest)) from to
-    (λ less.
-    let same : to + 1 ≡ to - 1 + 2 = omega arith in (
-      above,
-      record { not_empty = omega arith; within = omega arith },
-      subst (λ (k : ℕ). RiseFrom k rest) same after,
-    ))
-    (λ least. others)
+span_rises low from to rest above within after others = grind arith
 
 span_count : (from to : ℕ) (rest : List Range) → free_count (span from to ++ rest) ≡ to - from + free_count rest
-span_count from to rest = span_is (λ part. free_count (part ++ rest) ≡ to - from + free_count rest) from to
-    (λ less. omega arith) (λ least. omega arith)
+span_count from to rest = grind arith
 
 span_length : (from to : ℕ) (rest : List Range) → length (span from to ++ rest) ≤ length rest + 1
-span_length from to rest = span_is (λ part. length (part ++ rest) ≤ length rest + 1) from to
-    (λ less. omega arith) (λ least. omega arith)
+span_length from to rest = grind arith
 
 -- ---- the ranges without one
 
@@ -154,60 +124,15 @@ spans_first : (one : Range) (ranges : List Range) (range : Range) →
     without (one ∷ ranges) range
     ≡ span one.first (min (one.last + 1) range.first)
     ++ (span (max one.first (range.last + 1)) (one.last + 1) ++ without ranges range)
-spans_first one ranges range = append_assoc (span one.first (min (one.last + 1) range.first))
-    (span (max one.first (range.last + 1)) (one.last + 1)) (without ranges range)
+spans_first one ranges range = grind arith
 
 without_free : (ranges : List Range) (range : Range) (n : ℕ) → range.first ≤ range.last →
     is_free (without ranges range) n ≡ (is_free ranges n && not (is_in range n))
 without_free [] range n some = refl
 without_free (one ∷ ranges) range n some =
-    let after : is_free (without ranges range) n ≡ (is_free ranges n && not (is_in range n)) =
-    without_free ranges range n some in
-    same_tests (is_free (without (one ∷ ranges) range) n) (is_free (one ∷ ranges) n && not (is_in range n))
-    (λ h. elim (span_to one.first (min (one.last + 1) range.first)
-    (span (max one.first (range.last + 1)) (one.last + 1) ++ without ranges range) n
-    (sym (ap (λ all. is_free all n) (spans_first one ranges range)) ∙ h)) [
-      | inl here ↦
-          let low : one.first ≤ n = here.0 in
-          let high : n < min (one.last + 1) range.first = here.1 in
-          still_free _ _ (free_here one ranges n (in_from one n low (omega arith)))
-          (not_in_below range n (omega arith))
-      | inr more ↦ elim (span_to (max one.first (range.last + 1)) (one.last + 1) (without ranges range) n more) [
-        | inl here ↦
-            let low : max one.first (range.last + 1) ≤ n = here.0 in
-            let high : n < one.last + 1 = here.1 in
-            still_free _ _ (free_here one ranges n (in_from one n (omega arith) (omega arith)))
-            (not_in_above range n (omega arith))
-        | inr later ↦
-            let both' = sym after ∙ later in
-            still_free _ _ (free_after one ranges n (was_free _ _ both')) (is_outside _ _ both')
-      ]
-    ])
-    (λ h.
-    let free = was_free (is_free (one ∷ ranges) n) (is_in range n) h in
-    let out : is_in range n ≡ false = is_outside (is_free (one ∷ ranges) n) (is_in range n) h in
-    ap (λ all. is_free all n) (spans_first one ranges range) ∙
-    elim (free_cases one ranges n free) as (λ _. is_free (span one.first (min (one.last + 1) range.first)
-    ++ (span (max one.first (range.last + 1)) (one.last + 1) ++ without ranges range)) n ≡ true) [
-      | inl here ↦
-          let low : one.first ≤ n = at_least one n here in
-          let high : n ≤ one.last = at_most one n here in
-          elim (cases_lt n range.first) [
-            | inl below ↦ span_here one.first (min (one.last + 1) range.first)
-                (span (max one.first (range.last + 1)) (one.last + 1) ++ without ranges range) n low (omega arith)
-            | inr from ↦ elim (cases_lt range.last n) [
-              | inl above ↦ span_rest one.first (min (one.last + 1) range.first)
-                  (span (max one.first (range.last + 1)) (one.last + 1) ++ without ranges range) n
-                  (span_here (max one.first (range.last + 1)) (one.last + 1) (without ranges range) n
-                  (omega arith) (omega arith))
-              | inr to ↦ both _ (in_from range n from to) out
-            ]
-          ]
-      | inr later ↦ span_rest one.first (min (one.last + 1) range.first)
-          (span (max one.first (range.last + 1)) (one.last + 1) ++ without ranges range) n
-          (span_rest (max one.first (range.last + 1)) (one.last + 1) (without ranges range) n
-          (after ∙ still_free (is_free ranges n) (is_in range n) later out))
-    ])
+    search (arith, not, same_tests, span_to, min, max, spans_first, still_free, free_here, in_from, not_in_below,
+    not_in_above, free_after, was_free, is_outside, free_cases, at_least, at_most, cases_lt, span_here, span_rest,
+    both, without_free ranges range n some)
 
 without_rises : (from : ℕ) (ranges : List Range) (range : Range) → RiseFrom from ranges → range.first ≤ range.last →
     RiseFrom from (without ranges range)
@@ -281,29 +206,13 @@ without_count from (one ∷ ranges) range rise some h =
 -- the range is taken out
 pub takes_out : (ranges : List Range) (range : Range) → RiseFrom 0 ranges → range.first ≤ range.last →
     any_covers ranges range ≡ true → TakesOut ranges range (without ranges range)
-takes_out ranges range rise some h = record {
-  ranges = rise_test 0 (without ranges range) (without_rises 0 ranges range rise some);
-  free = λ n. without_free ranges range n some;
-  count = without_count 0 ranges range rise some h;
-}
+takes_out ranges range rise some h = grind (arith, rise_test, without_rises, without_free, without_count)
 
 -- without the first number there are no more ranges
 pub first_out : (one : Range) (ranges : List Range) → RiseFrom 0 (one ∷ ranges) →
     (let first : Range = record { first = one.first; last = one.first } in
     length (without (one ∷ ranges) first) ≤ length (one ∷ ranges))
-first_out one ranges rise =
-    let first : Range = record { first = one.first; last = one.first } in
-    let some : one.first ≤ one.last = rise.1.not_empty in
-    let none : span one.first (min (one.last + 1) one.first) ≡ [] = span_none _ _ (omega arith) in
-    let same : without ranges first ≡ ranges =
-    untouched (one.last + 2) ranges first rise.2 (let l : one.first < one.last + 2 = omega arith in l)
-    (let l : one.first ≤ one.first = omega arith in l) in
-    let is : without (one ∷ ranges) first ≡ span (max one.first (one.first + 1)) (one.last + 1) ++ ranges =
-    spans_first one ranges first ∙ ap (λ part. part ++ (span (max one.first (one.first + 1)) (one.last + 1)
-    ++ without ranges first)) none ∙ ap (λ rest. span (max one.first (one.first + 1)) (one.last + 1) ++ rest) same in
-    subst (λ (all : List Range). length all ≤ length (one ∷ ranges)) (sym is)
-    (let few : length (span (max one.first (one.first + 1)) (one.last + 1) ++ ranges) ≤ length ranges + 1 =
-    span_length _ _ ranges in omega arith)
+first_out one ranges rise = grind (arith, min, span_none, untouched, max, spans_first, span_length)
 
 -- where all numbers of a range are free, a range covers it
 pub covers_all : (ranges : List Range) (range : Range) (test : Bool) → RiseFrom 0 ranges → IsRange range →

@@ -1,11 +1,11 @@
 -- Ranges that rise and do not touch: their least number, and how many they have.
-use Rattle.std.proofs.Common.{◌≡◌, ◌+◌, ◌-◌, ◌≤◌, ◌<◌, ℕ, true, false, List, [], ◌∷◌, refl, inl, inr, arith}
-use Rattle.std.proofs.lemmas.Bool.{or_left, or_from, cases_lt}
+use Rattle.std.proofs.Common.{◌≡◌, ◌+◌, ◌-◌, ◌≤◌, ◌<◌, ℕ, true, false, List, [], ◌∷◌, refl, arith}
+use Rattle.std.proofs.lemmas.Bool.{or_from, cases_lt}
 use Rattle.dm_print_ledger.specs.FreeNumbers.{IsLeastFree}
 use Rattle.dm_print_ledger.proofs.Rising.{RiseFrom, rise_fact}
 use Rattle.dm_print_ledger.specs.declared.range.Range.{Range}
 use Rattle.dm_print_ledger.specs.Ranges.{rise_from, is_free, free_count}
-use Rattle.dm_print_ledger.proofs.RangeTests.{both, in_from, not_in_below}
+use Rattle.dm_print_ledger.proofs.RangeTests.{both, not_in_below}
 
 -- no number below is free
 pub below_not_free : (from : ℕ) (ranges : List Range) (n : ℕ) → RiseFrom from ranges → n < from →
@@ -19,33 +19,21 @@ below_not_free from (one ∷ ranges) n rise low =
 -- ranges that rise from a number rise from a lower one
 pub rise_lower : (from low : ℕ) (ranges : List Range) → low ≤ from → RiseFrom from ranges → RiseFrom low ranges
 rise_lower from low [] less rise = tt
-rise_lower from low (one ∷ ranges) less rise =
-    let least : from ≤ one.first = rise.0 in
-    (omega arith, rise.1, rise.2)
+rise_lower from low (one ∷ ranges) less rise = grind arith
 
 -- the first number of the first range is free
 pub first_is_free : (from : ℕ) (one : Range) (ranges : List Range) → RiseFrom from (one ∷ ranges) →
     is_free (one ∷ ranges) one.first ≡ true
-first_is_free from one ranges rise =
-    let some : one.first ≤ one.last = rise.1.not_empty in
-    or_left _ _ (in_from one one.first (omega arith) some)
+first_is_free from one ranges rise = grind arith
 
 -- no number before it is
 pub from_first : (from : ℕ) (one : Range) (ranges : List Range) (n : ℕ) → RiseFrom from (one ∷ ranges) →
     is_free (one ∷ ranges) n ≡ true → one.first ≤ n
-from_first from one ranges n rise free =
-    elim (cases_lt n one.first) [
-      | inl low ↦ both _ free (below_not_free one.first (one ∷ ranges) n
-          (let least : one.first ≤ one.first = omega arith in (least, rise.1, rise.2)) low)
-      | inr high ↦ high
-    ]
+from_first from one ranges n rise free = grind (arith, cases_lt, both, below_not_free)
 
 -- it is the least
 pub least_free : (one : Range) (ranges : List Range) → RiseFrom 0 (one ∷ ranges) → IsLeastFree (one ∷ ranges) one.first
-least_free one ranges rise = record {
-  free = first_is_free 0 one ranges rise;
-  least = λ n free. from_first 0 one ranges n rise free;
-}
+least_free one ranges rise = search (arith, first_is_free, from_first)
 
 -- no more numbers are free than there are
 pub count_bound : (from : ℕ) (ranges : List Range) → RiseFrom from ranges → free_count ranges ≤ 64516 - from

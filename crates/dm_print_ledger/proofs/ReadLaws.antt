@@ -1,22 +1,21 @@
 -- What bytes are read as: a sound ledger's as that ledger, and those of which a load gave the front as the whole.
-use Rattle.std.proofs.Common.{◌≡◌, ◌≢◌, ◌≤◌, ◌<◌, ◌+◌, ◌*◌, ℕ, Bool, true, false, ◌&&◌, not, List, [], ◌∷◌, length, take, get_or, Option, Some, None, Result, Ok, Err, refl, sym, ap, ◌∙◌, arith, option_map, inl, inr, min}
-use Rattle.std.specs.Prelude.{nat_eq, nat_lt, ◌==◌, if◌then◌else◌, unwrap_or}
+use Rattle.std.proofs.Common.{◌≡◌, ◌≢◌, ◌<◌, ◌+◌, ◌*◌, ℕ, Bool, true, false, ◌&&◌, not, List, [], ◌∷◌, length, take, get_or, Option, Some, None, Result, Ok, Err, refl, sym, ap, ◌∙◌, arith, option_map, inl, inr, min}
+use Rattle.std.specs.Prelude.{nat_eq, nat_lt, ◌==◌, if◌then◌else◌}
 use Rattle.std.specs.Cmp.Lexicographic.{pointwise, bytes_decides}
 use Rattle.std.specs.List.{starts_with}
-use Rattle.std.proofs.lemmas.Bool.{and_parts, and_from, and_left, and_right, le-ltb, eq-eqb, cond-true, cases_lt}
+use Rattle.std.proofs.lemmas.Bool.{and_parts, and_left, and_right, le-ltb, eq-eqb, cond-true, cases_lt}
 use Rattle.std.proofs.lemmas.List.{length-take, take_all}
 use Rattle.std.proofs.lemmas.Grind.{common_steps}
-use Rattle.dm_store.specs.Saved.{Saved}
 use Rattle.dm_print_ledger.specs.declared.range.Range.{Range}
 use Rattle.dm_print_ledger.specs.declared.giver.Giver.{Giver}
 use Rattle.dm_print_ledger.specs.declared.fault.OpenFault.{OpenFault}
-use Rattle.dm_print_ledger.specs.declared.fault.OpenFault.TheVariants.{NotALedger, Version, Damaged, Number, Device}
+use Rattle.dm_print_ledger.specs.declared.fault.OpenFault.TheVariants.{NotALedger, Version, Damaged}
 use Rattle.dm_print_ledger.specs.Views.{LedgerView, ShownView}
 use Rattle.dm_print_ledger.specs.Givers.{are_givers}
 use Rattle.dm_print_ledger.specs.Ranges.{are_ranges}
 use Rattle.dm_print_ledger.specs.Ledger.{number_in}
-use Rattle.dm_print_ledger.specs.Ledger.{is_sound, ledger_bytes, numbers_in, pairs_in, make_range, make_giver, range_count, giver_count, shown_of, FirstLedger, first_bytes, first_in, is_first, read_first, read_second, read_ledger}
-use Rattle.dm_print_ledger.specs.Opening.{LoadsLedger, open_verdict, numbered, show_verdict}
+use Rattle.dm_print_ledger.specs.Ledger.{is_sound, ledger_bytes, numbers_in, pairs_in, make_range, make_giver, range_count, giver_count, shown_of, FirstLedger, first_bytes, is_first, read_first, read_second, read_ledger}
+use Rattle.dm_print_ledger.specs.Opening.{open_verdict, show_verdict}
 use Rattle.dm_print_ledger.proofs.Rising.{sound_fact}
 use Rattle.dm_print_ledger.proofs.FormatLaws.{HasSize, view_of, size_spelled, read_again, length-ledger_bytes}
 
@@ -43,13 +42,7 @@ pub numbers_are : (bytes : List ℕ) (number serial n m : ℕ) (free : List Rang
     free ≡ pairs_in make_range bytes 10 n → givers ≡ pairs_in make_giver bytes (11 + 4 * n) m →
     numbers_in bytes ≡ view_of number serial free givers
 unfolding numbers_in
-numbers_are bytes number serial n m free givers a b en em ef eg =
-    let fs : free ≡ pairs_in make_range bytes 10 (range_count bytes) =
-    ef ∙ ap (λ k. pairs_in make_range bytes 10 k) en in
-    let gs : givers ≡ pairs_in make_giver bytes (11 + 4 * range_count bytes) (giver_count bytes) =
-    eg ∙ ap (λ k. pairs_in make_giver bytes (11 + 4 * n) k) em
-    ∙ ap (λ k. pairs_in make_giver bytes (11 + 4 * k) (giver_count bytes)) en in
-    cc
+numbers_are bytes number serial n m free givers a b en em ef eg = cc
 
 -- where they are not sound, the bytes are damaged
 pub not_sound : (bytes : List ℕ) (l : LedgerView) → numbers_in bytes ≡ l → is_sound l ≡ false →
@@ -64,10 +57,7 @@ free_in bytes = refl
 -- the same, of the ranges alone
 pub not_ranges : (bytes : List ℕ) (n : ℕ) (free : List Range) → n ≡ range_count bytes →
     free ≡ pairs_in make_range bytes 10 n → are_ranges free ≡ false → read_second bytes ≡ Err Damaged
-not_ranges bytes n free en ef none =
-    let same : (numbers_in bytes).free ≡ free =
-    free_in bytes ∙ sym (ef ∙ ap (λ k. pairs_in make_range bytes 10 k) en) in
-    not_sound bytes (numbers_in bytes) refl (and_left _ _ (and_left _ _ (and_left _ _ (ap are_ranges same ∙ none))))
+not_ranges bytes n free en ef none = grind (arith, free_in, not_sound, and_left)
 
 -- the same, of the givers
 pub not_givers : (bytes : List ℕ) (l : LedgerView) → numbers_in bytes ≡ l → are_givers l.givers ≡ false →
@@ -83,10 +73,7 @@ not_same bytes l e none =
 -- else they are read
 pub read_as : (bytes : List ℕ) (l : LedgerView) → numbers_in bytes ≡ l → is_sound l ≡ true →
     pointwise nat_eq bytes (ledger_bytes l) ≡ true → read_second bytes ≡ Ok (shown_of l)
-read_as bytes l e sound same =
-    second_by bytes true (and_from _ _ (ap is_sound e ∙ sound)
-    (ap (λ (m : LedgerView). pointwise nat_eq bytes (ledger_bytes m)) e ∙ same))
-    ∙ ap (λ (m : LedgerView). Ok (shown_of m)) e
+read_as bytes l e sound same = grind arith
 
 -- ---- version 1
 
@@ -96,12 +83,7 @@ length-first_bytes l = refl
 
 -- bytes of another length are none
 pub not_first : (bytes : List ℕ) → length bytes ≢ 13 → is_first bytes ≡ false
-not_first bytes other = go (pointwise nat_eq bytes (first_bytes (first_in bytes))) refl
-  where
-    go : (b : Bool) → pointwise nat_eq bytes (first_bytes (first_in bytes)) ≡ b → is_first bytes ≡ false
-    go true e = absurd (other (ap length ((bytes_decides bytes (first_bytes (first_in bytes))).0 e)
-        ∙ length-first_bytes (first_in bytes)))
-    go false e = and_right _ _ e
+not_first bytes other = grind (arith, pointwise, bytes_decides, length-first_bytes, and_right)
 
 -- ---- both versions
 
@@ -122,13 +104,7 @@ pub by_tests : (bytes : List ℕ) (starts short : Bool) (version : ℕ) (first s
     starts_with nat_eq bytes mark ≡ starts → nat_lt (length bytes) 5 ≡ short → get_or bytes 4 0 ≡ version →
     read_first bytes ≡ first → read_second bytes ≡ second →
     read_ledger bytes ≡ verdict_of starts short version first second
-by_tests bytes starts short version first second a b c d e =
-    ap (λ (t : Bool). verdict_of t (nat_lt (length bytes) 5) (get_or bytes 4 0) (read_first bytes)
-    (read_second bytes)) a
-    ∙ ap (λ (t : Bool). verdict_of starts t (get_or bytes 4 0) (read_first bytes) (read_second bytes)) b
-    ∙ ap (λ (n : ℕ). verdict_of starts short n (read_first bytes) (read_second bytes)) c
-    ∙ ap (λ (r : Result ShownView OpenFault). verdict_of starts short version r (read_second bytes)) d
-    ∙ ap (λ (r : Result ShownView OpenFault). verdict_of starts short version first r) e
+by_tests bytes starts short version first second a b c d e = cc
 
 -- the mark and the version of a ledger
 begins : (l : LedgerView) → starts_with nat_eq (ledger_bytes l) mark ≡ true
@@ -142,16 +118,11 @@ fifth l = refl
 -- a sound ledger is read from its bytes
 pub ledger_read : (l : LedgerView) → is_sound l ≡ true → read_ledger (ledger_bytes l) ≡ Ok (shown_of l)
 ledger_read l sound =
-    let n : length (ledger_bytes l) ≡ 13 + 4 * length l.free + 4 * length l.givers = length-ledger_bytes l in
-    by_tests (ledger_bytes l) true false 2 (read_first (ledger_bytes l)) (Ok (shown_of l)) (begins l)
-    (le-ltb _ _ (let long : 5 ≤ length (ledger_bytes l) = omega arith in long)) (fifth l) refl
-    (read_as (ledger_bytes l) l (read_again l) sound ((bytes_decides (ledger_bytes l) (ledger_bytes l)).1 refl))
+    grind (arith, length-ledger_bytes, by_tests, begins, le-ltb, fifth, read_as, read_again, bytes_decides)
 
 -- held, it opens the printer of its number
 pub ledgers_are_held : (l : LedgerView) → is_sound l ≡ true → open_verdict (Some (ledger_bytes l)) l.number ≡ Ok l
-ledgers_are_held l sound =
-    ap (λ (r : Result ShownView OpenFault). numbered l.number r) (ledger_read l sound)
-    ∙ cond-true (l.number == l.number) (Ok l) (Err Number) (eq-eqb l.number l.number refl)
+ledgers_are_held l sound = search (arith, ledger_read, cond-true, eq-eqb)
 
 -- so it is of a store that holds its bytes
 pub held_by : (l : LedgerView) (content : Option (List ℕ)) (bytes : List ℕ) → is_sound l ≡ true →
@@ -166,17 +137,11 @@ long_first : (bytes : List ℕ) → 525 < length bytes → read_first bytes ≡ 
 long_first bytes long = let no : is_first bytes ≡ false = not_first bytes (λ e. omega arith) in rw no refl
 
 long_second : (bytes : List ℕ) → 525 < length bytes → read_second bytes ≡ Err Damaged
-long_second bytes long = no_size bytes (λ has.
-    let a : range_count bytes ≤ 64 = has.ranges in
-    let b : giver_count bytes ≤ 64 = has.givers in
-    let c : length bytes ≡ 13 + 4 * range_count bytes + 4 * giver_count bytes = has.size in
-    omega arith)
+long_second bytes long = grind (arith, no_size)
 
 long_read : (bytes : List ℕ) → 525 < length bytes →
     read_ledger bytes ≡ verdict_of (starts_with nat_eq bytes mark) false (get_or bytes 4 0) (Err Damaged) (Err Damaged)
-long_read bytes long = by_tests bytes _ _ _ _ _ refl
-    (le-ltb _ _ (let enough : 5 ≤ length bytes = omega arith in enough)) refl
-    (long_first bytes long) (long_second bytes long)
+long_read bytes long = grind (arith, by_tests, le-ltb, long_first, long_second)
 
 -- a cut leaves the first four bytes, and the fifth
 mark_cut : (c : List ℕ) → take 4 (take 526 c) ≡ take 4 c
@@ -204,39 +169,6 @@ read_front c = elim (cases_lt 526 (length c)) [
 pub read_cut : (content : Option (List ℕ)) (bytes : List ℕ) → Some bytes ≡ option_map (take 526) content →
     read_ledger bytes ≡ show_verdict content
 read_cut None bytes e = cc
-read_cut (Some c) bytes e =
-    let cut : bytes ≡ take 526 c = cc in
-    ap read_ledger cut ∙ read_front c
+read_cut (Some c) bytes e = grind (arith, read_front)
 
 -- ---- a load
-
--- a ledger that was read meets no device fault
-numbers_no_device : (number : ℕ) (shown : ShownView) → numbered number (Ok shown) ≡ Err Device → ⊥
-numbers_no_device number shown is = go (unwrap_or shown.number number == number) refl
-  where
-    go : (b : Bool) → (unwrap_or shown.number number == number) ≡ b → ⊥
-    go true e = let r = rw e at is in cc
-    go false e = let r = rw e at is in cc
-
--- what a load gives to who shows it, it gives to the printer of a number
-pub opened_by : (saved : Saved) (number : ℕ) (shown : Result ShownView OpenFault)
-    (answer : Result LedgerView OpenFault) →
-    LoadsLedger saved (show_verdict saved.content) shown → answer ≡ numbered number shown →
-    LoadsLedger saved (open_verdict saved.content number) answer
-opened_by saved number (Err fault) answer loads e = record {
-  answer = λ honest. elim (loads.answer honest) [
-    | inl same ↦ inl (e ∙ ap (numbered number) same)
-    | inr failed ↦ inr (elim failed [
-      | inl device ↦ inl (e ∙ ap (numbered number) device)
-      | inr memory ↦ inr (e ∙ ap (numbered number) memory)
-    ])
-  ];
-  device = λ is. loads.device (ap Err (let same : fault ≡ Device = cc in same));
-}
-opened_by saved number (Ok shown) answer loads e = record {
-  answer = λ honest. elim (loads.answer honest) [
-    | inl same ↦ inl (e ∙ ap (numbered number) same)
-    | inr failed ↦ absurd (elim failed [ inl device ↦ cc | inr memory ↦ cc ])
-  ];
-  device = λ is. absurd (numbers_no_device number shown (sym e ∙ is));
-}

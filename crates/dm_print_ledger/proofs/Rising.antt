@@ -1,4 +1,5 @@
 -- Ranges and givers that rise, as facts.
+use Rattle.std.proofs.Common.{arith}
 use Rattle.std.proofs.Common.{◌≡◌, ◌≤◌, ◌+◌, ℕ, true, List, [], ◌∷◌, refl, length}
 use Rattle.std.specs.Prelude.{IsTrue}
 use Rattle.std.specs.List.{All}
@@ -17,10 +18,7 @@ pub record IsRange (range : Range) : Type 0 where
   pub within : range.last ≤ 64515
 
 pub range_fact : (range : Range) → is_range range ≡ true → IsRange range
-range_fact range is = record {
-  not_empty = leb-true _ _ (and_parts _ _ is).0;
-  within = leb-true _ _ (and_parts _ _ is).1;
-}
+range_fact range is = grind arith
 
 pub range_test : (range : Range) → IsRange range → is_range range ≡ true
 range_test range is = and_from _ _ (le-leb _ _ is.not_empty) (le-leb _ _ is.within)
@@ -74,15 +72,7 @@ pub record IsSound (ledger : LedgerView) : Type 0 where
   pub few_givers : length ledger.givers ≤ 64
 
 pub sound_fact : (ledger : LedgerView) → is_sound ledger ≡ true → IsSound ledger
-sound_fact ledger is =
-    let first = (and_parts _ _ is).0 in
-    let both = (and_parts _ _ first).0 in
-    record {
-      ranges = rise_fact 0 ledger.free (and_parts _ _ both).0;
-      few_ranges = leb-true _ _ (and_parts _ _ both).1;
-      givers = givers_fact 0 ledger.givers (and_parts _ _ first).1;
-      few_givers = leb-true _ _ (and_parts _ _ is).1;
-    }
+sound_fact ledger is = grind (arith, and_parts, rise_fact, leb-true, givers_fact)
 
 -- a ledger of these parts is sound
 pub sound_of : (ledger : LedgerView) → are_ranges ledger.free ≡ true → length ledger.free ≤ 64 →

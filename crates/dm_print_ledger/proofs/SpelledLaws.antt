@@ -1,15 +1,14 @@
 -- Bytes are read exactly where they are those of a sound ledger.
-use Rattle.std.proofs.Common.{◌≡◌, ◌≤◌, ◌+◌, ◌*◌, ◌/◌, ◌%◌, ℕ, Bool, true, false, ◌&&◌, List, length, get_or, Result, Ok, Err, refl, ap, ◌∙◌, subst, arith, inl, inr, ◌⊎◌}
-use Rattle.std.specs.Prelude.{nat_eq, nat_lt, ◌==◌, not, if◌then◌else◌}
+use Rattle.std.proofs.Common.{◌≡◌, ◌≤◌, ℕ, Bool, true, false, ◌&&◌, List, length, get_or, Result, Ok, Err, refl, ap, ◌∙◌, subst, arith, inl, inr, ◌⊎◌}
+use Rattle.std.specs.Prelude.{nat_eq, if◌then◌else◌}
 use Rattle.std.specs.Cmp.Lexicographic.{pointwise, bytes_decides}
 use Rattle.std.specs.List.{starts_with}
 use Rattle.std.proofs.lemmas.Bool.{and_parts, and_from, cond-true, le-ltb}
 use Rattle.dm_print_ledger.specs.declared.fault.OpenFault.{OpenFault}
-use Rattle.dm_print_ledger.specs.declared.fault.OpenFault.TheVariants.{NotALedger, Version, Damaged}
+use Rattle.dm_print_ledger.specs.declared.fault.OpenFault.TheVariants.{Version, Damaged}
 use Rattle.dm_print_ledger.specs.Views.{ShownView}
 use Rattle.dm_print_ledger.specs.Ledger.{FirstLedger, Spells, ReadsWhatIsSpelled, are_in_order, first_bytes, first_in, numbers_in, read_first, read_ledger, read_second, shown_of_first}
 use Rattle.dm_print_ledger.specs.Ledger.Spells.{second, first}
-use Rattle.dm_print_ledger.proofs.FormatLaws.{joins}
 use Rattle.dm_print_ledger.proofs.ReadLaws.{by_tests, ledger_read, length-first_bytes, mark}
 
 -- ---- what is read is spelled
@@ -51,31 +50,13 @@ no_version : (shown : ShownView) → (let r : Result ShownView OpenFault = Err V
 no_version shown e = absurd cc
 
 spelled : (bytes : List ℕ) (shown : ShownView) → read_ledger bytes ≡ Ok shown → Spells bytes shown
-spelled bytes shown e =
-    let other : Result ShownView OpenFault = if get_or bytes 4 0 == 2 then read_second bytes else Err Version in
-    let known : Result ShownView OpenFault = if get_or bytes 4 0 == 1 then read_first bytes else other in
-    let long = other_read (not (starts_with nat_eq bytes mark)) NotALedger
-    (if nat_lt (length bytes) 5 then Err Damaged else known) shown e in
-    elim (one_read (get_or bytes 4 0 == 1) (read_first bytes) other shown
-    (other_read (nat_lt (length bytes) 5) Damaged known shown long)) [
-      | inl one ↦ first_spelled bytes shown one
-      | inr rest ↦ elim (one_read (get_or bytes 4 0 == 2) (read_second bytes) (Err Version) shown rest) [
-        | inl two ↦ second_spelled bytes shown two
-        | inr none ↦ absurd (no_version shown none)
-      ]
-    ]
+spelled bytes shown e = grind (arith, other_read, mark, one_read, first_spelled, second_spelled, no_version)
 
 -- ---- what is spelled is read
 
-abbrev first_of : ℕ → ℕ → ℕ → FirstLedger
-first_of a b c = record { first = a; last = b; next = c }
-
 first_again : (l : FirstLedger) → first_in (first_bytes l) ≡ l
 unfolding first_bytes
-first_again l =
-    ap (λ n. first_of n (256 * (l.last / 256) + l.last % 256) (256 * (l.next / 256) + l.next % 256)) (joins l.first)
-    ∙ ap (λ n. first_of l.first n (256 * (l.next / 256) + l.next % 256)) (joins l.last)
-    ∙ ap (λ n. first_of l.first l.last n) (joins l.next)
+first_again l = grind arith
 
 begins : (l : FirstLedger) → starts_with nat_eq (first_bytes l) mark ≡ true
 unfolding first_bytes

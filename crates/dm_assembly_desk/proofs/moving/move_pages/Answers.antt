@@ -1,3 +1,4 @@
+use Rattle.std.proofs.Common.{arith}
 use Rattle.std.proofs.Common.{◌≡◌, ◌∙◌, ◌+◌, List, ℕ, take, Some, Result, Ok, Err, ap, sym, subst, refl}
 use Rattle.std.specs.Prelude.{IsTrue, option_map}
 use Rattle.std.specs.FinMap.{keys as map_keys, entries as map_entries}
@@ -26,11 +27,7 @@ as_it_was {old} {set} {result} {old_after} {set_after} same ends =
     subst (λ (s : Saved). Moves old set result s set_after) (sym same) ends
 
 pub returns-in_err-bytes : goal.returns-in_err-bytes
-returns-in_err-bytes g c =
-    let answered = err_from_is_err_and c.from_residual.result c.from_residual.ensures.1 in
-    let loads = c.in_err-bytes.ensures.loads in
-    ends_so c.from_residual.result answered.0 _ answered.1 answered.2
-    (early (not_loaded (g.O.Store.state c.args.old.now) (g.S.StoreSet.state c.args.set.now) c.in_err-bytes.field-0.0 (λ e. loads.device (ap Err e))) c.load.ensures.loads.same refl)
+returns-in_err-bytes g c = grind (arith, err_from_is_err_and, ends_so, not_loaded)
 
 pub returns-in_default : goal.returns-in_default
 returns-in_default g c =

@@ -1,5 +1,4 @@
-use Rattle.std.specs.Prelude.{◌/◌, ◌%◌}
-use Rattle.std.proofs.Common.{◌≡◌, ◌*◌, ℕ, Bool, List, length, ap, ◌∙◌, arith}
+use Rattle.std.proofs.Common.{◌≡◌, ◌*◌, ℕ, Bool, List, ap, ◌∙◌, arith}
 use Rattle.std.proofs.lemmas.List.FromFn.{length-map-range_with_len}
 use Rattle.dm_check_blocks.specs.Sizes.{side}
 use Rattle.dm_finder_frame.specs.Grids.{GridView}
@@ -8,11 +7,7 @@ use Rattle.dm_finder_frame.specs.inner.Filled.{first_modules}
 use Rattle.dm_finder_frame.proofs.framing.frame.Goals as goal
 
 pub from_modules-requires : goal.from_modules-requires
-from_modules-requires g c =
-    let n = side c.args.size in
-    let end : c.loop-row.row * n ≡ n * n = ap (λ (x : ℕ). x * n) (omega (arith, c.side-side.ensures.value)) in
-    let f : ℕ → Bool = λ k. grid_module c.args.size c.args.matrix.now (k / n) (k % n) in
-    ap length c.loop-row.invariant ∙ length-map-range_with_len f 0 (c.loop-row.row * n) ∙ end
+from_modules-requires g c = grind (arith, length-map-range_with_len)
 
 pub returns : goal.returns
 unfolding grid_modules

@@ -1,5 +1,4 @@
-use Rattle.std.specs.Prelude.{◌/◌, ◌%◌}
-use Rattle.std.proofs.Common.{◌≡◌, ◌*◌, ℕ, Bool, List, length, ap, sym, ◌∙◌, arith}
+use Rattle.std.proofs.Common.{◌≡◌, ◌*◌, ℕ, Bool, List, ap, ◌∙◌, arith}
 use Rattle.std.proofs.lemmas.List.FromFn.{length-map-range_with_len}
 use Rattle.dm_check_blocks.specs.declared.size.Size.{Size}
 use Rattle.dm_check_blocks.specs.Sizes.{mapping}
@@ -13,13 +12,7 @@ all_rows : (s t : Size) (row end : ℕ) → s ≡ t → end ≡ mapping s → ro
 all_rows s t row end e is last = ap (λ (x : ℕ). x * mapping t) (last ∙ is ∙ ap mapping e)
 
 pub from_modules-requires : goal.from_modules-requires
-from_modules-requires g c =
-    let n = mapping c.args.grid.now.size in
-    let end = all_rows c.size-size.result c.args.grid.now.size c.loop-row.row c.mapping-side.result
-    c.size-size.ensures.same c.mapping-side.ensures.value (omega arith) in
-    let f : ℕ → Bool = λ k. matrix_module c.args.grid.now (k / n) (k % n) in
-    ap length c.loop-row.invariant ∙ length-map-range_with_len f 0 (c.loop-row.row * n) ∙ end
-    ∙ ap (λ (s : Size). mapping s * mapping s) (sym c.size-size.ensures.same)
+from_modules-requires g c = grind (arith, all_rows, length-map-range_with_len)
 
 pub returns : goal.returns
 unfolding matrix_modules

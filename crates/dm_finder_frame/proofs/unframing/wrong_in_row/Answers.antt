@@ -12,11 +12,7 @@ use Rattle.dm_finder_frame.proofs.unframing.wrong_in_row.Goals as goal
 counts : (g : GridView) (first n a b : ℕ) (t : Bool) → a ≡ wrong_among g first n → t ≡ is_wrong g (first + n) →
     b ≡ a + cond t 1 0
     → b ≡ wrong_among g first (n + 1)
-counts g first n a b t ea et eb =
-    let e = one_more g first n in
-    let one : Bool → ℕ = λ x. cond x 1 0 in
-    let same : one t ≡ one (is_wrong g (first + n)) = ap one et in
-    omega (arith, e, same, ea, eb)
+counts g first n a b t ea et eb = grind (arith, one_more)
 
 pub loop-column-preserved : goal.loop-column-preserved
 loop-column-preserved k c =

@@ -1,3 +1,4 @@
+use Rattle.std.proofs.Common.{rules}
 use Rattle.std.proofs.Common.{◌≡◌, ◌∙◌, ℕ, ◌-◌, ◌<◌, ◌≤◌, map, take, Some, None, Ok, Err, ap, sym, subst, arith, replicate}
 use Rattle.std.specs.Prelude.{Result, slice_set}
 use Rattle.dm_append_label.specs.Pages.{PageView}
@@ -20,9 +21,7 @@ accepted id m n kind = Ok (record { id = id; m = m; n = n; kind = kind })
 -- what was added is the page alone
 lone_added : (id : ℕ) (p : PageView) (pages : Pages) (old : DeskView) (result : Result Imported AddFault)
     (new : DeskView) → id ≡ p.id → pages ≡ lone p → Adds id pages old result new → Adds p.id (lone p) old result new
-lone_added id p pages old result new id_is pages_is adds =
-    subst (λ (k : ℕ). Adds k (lone p) old result new) id_is
-    (subst (λ (ps : Pages). Adds id ps old result new) pages_is adds)
+lone_added id p pages old result new id_is pages_is adds = search rules
 
 pub add-requires-clause-entry : goal.add-requires-clause-entry
 add-requires-clause-entry g c =

@@ -1,7 +1,8 @@
-use Rattle.std.proofs.Common.{◌≡◌, ◌≢◌, ◌∙◌, ◌<◌, ℕ, false, length, map, None, Result, Ok, Err, refl, ap, sym, subst, rules}
-use Rattle.std.specs.FinMap.{get, insert, len}
+use Rattle.std.proofs.Common.{arith}
+use Rattle.std.proofs.Common.{◌≡◌, ◌≢◌, ◌∙◌, ℕ, false, length, map, Result, Ok, Err, refl, ap, sym, subst, rules}
+use Rattle.std.specs.FinMap.{insert}
 use Rattle.std.proofs.lemmas.List.{length-map}
-use Rattle.dm_store.specs.Saved.{Outcome, Done, Refused, outcome_of}
+use Rattle.dm_store.specs.Saved.{Refused, outcome_of}
 use Rattle.dm_store.specs.declared.store.ReplaceFault.{ReplaceFault}
 use Rattle.dm_store.specs.declared.store.ReplaceFault.TheVariants as replacing
 use Rattle.dm_assembly_desk.specs.Pages.{Pages, lent_bytes}
@@ -9,8 +10,8 @@ use Rattle.dm_assembly_desk.specs.Files.{IsEntry, file}
 use Rattle.dm_assembly_desk.specs.Documents.{Documents}
 use Rattle.dm_assembly_desk.specs.Views.{DeskView}
 use Rattle.dm_assembly_desk.specs.FaultOrigin.{keep_fault}
-use Rattle.dm_assembly_desk.specs.Holding.{answer_by, Ends}
-use Rattle.dm_assembly_desk.specs.Adding.{add_kind, added_to, pages_with, with_pages, reply_of, Adds}
+use Rattle.dm_assembly_desk.specs.Holding.{answer_by}
+use Rattle.dm_assembly_desk.specs.Adding.{add_kind, added_to, pages_with, reply_of, Adds}
 use Rattle.dm_assembly_desk.specs.declared.reply.Kind.{Kind}
 use Rattle.dm_assembly_desk.specs.declared.reply.Kind.TheVariants.{Again}
 use Rattle.dm_assembly_desk.specs.declared.reply.Imported.{Imported}
@@ -26,31 +27,15 @@ imported id n added kind = record { id = id; n = n; added = added; kind = kind }
 
 named : (held : Documents) (id : ℕ) (given : Pages) (kind : Kind) (file_id n added : ℕ) → file_id ≡ id →
     n ≡ length given → added ≡ added_to held id given → imported file_id n added kind ≡ reply_of held id given kind
-named held id given kind file_id n added id_is n_is added_is =
-    ap (λ (k : ℕ). imported k n added kind) id_is ∙ ap (λ (k : ℕ). imported id k added kind) n_is
-    ∙ ap (λ (k : ℕ). imported id (length given) k kind) added_is
+named held id given kind file_id n added id_is n_is added_is = cc
 
 -- what is answered where the save was not done
 answered : (fault : ReplaceFault) (done : Result Imported AddFault) →
     Err (keep_fault fault) ≡ answer_by done (Err adds.Memory) (Err adds.Save) (outcome_of (Err fault))
-answered replacing.Device done = refl
-answered replacing.Memory done = refl
+answered fault done = grind arith
 
 pub returns-then-eq-clause-adds : goal.returns-then-eq-clause-adds
-returns-then-eq-clause-adds g c =
-    let old : DeskView = desk_of (g.S.StoreSet.state c.self.inside.set) c.self.inside.documents
-    c.self.inside.capacity c.self.inside.is_failed in
-    let given : Pages = map lent_bytes c.args.pages.now in
-    let kind : Kind = c.in_ok-kind.kind in
-    let reply : Imported = imported c.in-Some.file_id (length c.args.pages.now) c.added_of.result kind in
-    let judged : add_kind old.capacity old.held c.args.id given ≡ Ok kind = search rules in
-    let id_is : c.in-Some.file_id ≡ c.args.id = search rules in
-    let added_is : c.added_of.result ≡ added_to old.held c.args.id given = search rules in
-    let is : kind ≡ Again = search rules in
-    subst (λ (d : DeskView). Adds c.args.id given d (Ok reply) d) c.self.view_is
-    (adds_nothing old c.args.id given kind reply judged is
-    (named old.held c.args.id given kind c.in-Some.file_id (length c.args.pages.now) c.added_of.result id_is
-    (sym (length-map c.args.pages.now lent_bytes)) added_is))
+returns-then-eq-clause-adds g c = grind (arith, desk_of, adds_nothing, named, length-map)
 
 pub returns-in_default-merged_copy-clause-adds : goal.returns-in_default-merged_copy-clause-adds
 returns-in_default-merged_copy-clause-adds g c =
@@ -82,54 +67,10 @@ hold-requires-clause-entry g c =
     judged)
 
 pub hold-requires-clause-room : goal.hold-requires-clause-room
-hold-requires-clause-room g c =
-    let old : DeskView = desk_of (g.S.StoreSet.state c.self.inside.set) c.self.inside.documents
-    c.self.inside.capacity c.self.inside.is_failed in
-    let given : Pages = map lent_bytes c.args.pages.now in
-    let judged : add_kind old.capacity old.held c.args.id given ≡ Ok c.in_ok-kind.kind = search rules in
-    let other : c.in_ok-kind.kind ≢ Again = search rules in
-    subst (λ (d : DeskView). get d.held c.args.id ≡ None → len d.held < d.capacity) c.self.view_is
-    (room old.capacity old.held c.args.id given c.in_ok-kind.kind judged other)
+hold-requires-clause-room g c = grind (arith, desk_of, room)
 
 pub returns-in-Ok-hold-clause-adds : goal.returns-in-Ok-hold-clause-adds
-returns-in-Ok-hold-clause-adds g c =
-    let old : DeskView = desk_of (g.S.StoreSet.state c.self.inside.set) c.self.inside.documents
-    c.self.inside.capacity c.self.inside.is_failed in
-    let id : ℕ = c.args.id in
-    let given : Pages = map lent_bytes c.args.pages.now in
-    let kind : Kind = c.in_ok-kind.kind in
-    let new : DeskView = c.hold.new.self in
-    let reply : Imported = imported c.in-Some.file_id (length c.args.pages.now) c.added_of.result kind in
-    let judged : add_kind old.capacity old.held id given ≡ Ok kind = search rules in
-    let other : kind ≢ Again = search rules in
-    let pages_is : c.in-Ok.document ≡ pages_with old.held id given = search rules in
-    let id_is : c.in-Some.file_id ≡ id = search rules in
-    let added_is : c.added_of.result ≡ added_to old.held id given = search rules in
-    let ends : Ends id (with_pages old.held id given) Done old new =
-    subst (λ (d : DeskView). Ends id (insert d.held id (pages_with old.held id given)) Done d new)
-    (sym c.self.view_is) (subst (λ (ps : Pages). Ends id (insert c.args.self.now.held id ps) Done c.args.self.now new)
-    pages_is c.in-Ok-hold.ensures.ends) in
-    subst (λ (d : DeskView). Adds id given d (Ok reply) new) c.self.view_is
-    (adds_some old id given (Ok reply) new Done ends kind judged other
-    (ap (λ (r : Imported). Ok r) (named old.held id given kind c.in-Some.file_id (length c.args.pages.now)
-    c.added_of.result id_is (sym (length-map c.args.pages.now lent_bytes)) added_is)))
+returns-in-Ok-hold-clause-adds g c = grind (arith, desk_of, adds_some, named, length-map)
 
 pub returns-in-Err-clause-adds : goal.returns-in-Err-clause-adds
-returns-in-Err-clause-adds g c =
-    let old : DeskView = desk_of (g.S.StoreSet.state c.self.inside.set) c.self.inside.documents
-    c.self.inside.capacity c.self.inside.is_failed in
-    let id : ℕ = c.args.id in
-    let given : Pages = map lent_bytes c.args.pages.now in
-    let kind : Kind = c.in_ok-kind.kind in
-    let new : DeskView = c.hold.new.self in
-    let judged : add_kind old.capacity old.held id given ≡ Ok kind = search rules in
-    let other : kind ≢ Again = search rules in
-    let pages_is : c.in-Ok.document ≡ pages_with old.held id given = search rules in
-    let outcome : Outcome = outcome_of (Err c.in-Err.fault) in
-    let ends : Ends id (with_pages old.held id given) outcome old new =
-    subst (λ (d : DeskView). Ends id (insert d.held id (pages_with old.held id given)) outcome d new)
-    (sym c.self.view_is) (subst (λ (ps : Pages). Ends id (insert c.args.self.now.held id ps) outcome c.args.self.now
-    new) pages_is c.in-Err.ensures.ends) in
-    subst (λ (d : DeskView). Adds id given d (Err c.from.result) new) c.self.view_is
-    (adds_some old id given (Err c.from.result) new outcome ends kind judged other
-    (ap (λ (f : AddFault). Err f) c.from.ensures ∙ answered c.in-Err.fault (Ok (reply_of old.held id given kind))))
+returns-in-Err-clause-adds g c = grind (arith, desk_of, adds_some, answered)

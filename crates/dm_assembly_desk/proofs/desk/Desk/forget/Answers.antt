@@ -1,5 +1,6 @@
-use Rattle.std.proofs.Common.{◌≡◌, ℕ, true, cond, Result, Ok, Err, refl, ap, sym, subst, rules}
-use Rattle.std.specs.Prelude.{not, IsSome}
+use Rattle.std.proofs.Common.{arith}
+use Rattle.std.proofs.Common.{◌≡◌, ℕ, true, Result, Ok, Err, refl, sym, subst, rules}
+use Rattle.std.specs.Prelude.{IsSome}
 use Rattle.std.specs.FinMap.{get, remove}
 use Rattle.dm_store.specs.Saved.{Refused}
 use Rattle.dm_store.specs.Sets.{SavedSet, RemovesKey, outcome_of_remove}
@@ -7,7 +8,7 @@ use Rattle.dm_store.specs.declared.set.RemoveFault.{RemoveFault}
 use Rattle.dm_store.specs.declared.set.RemoveFault.TheVariants as removing
 use Rattle.dm_assembly_desk.specs.Documents.{Documents}
 use Rattle.dm_assembly_desk.specs.Views.{DeskView, IsInOrder}
-use Rattle.dm_assembly_desk.specs.Holding.{Stays, Becomes, Carries, answer_by, Ends}
+use Rattle.dm_assembly_desk.specs.Holding.{answer_by, Ends}
 use Rattle.dm_assembly_desk.specs.Forgetting.{Forgets}
 use Rattle.dm_assembly_desk.specs.declared.fault.ForgetFault.{ForgetFault}
 use Rattle.dm_assembly_desk.specs.declared.fault.ForgetFault.TheVariants as forgets
@@ -20,10 +21,7 @@ lets_go : (old : DeskView) (id : ℕ) (answer : Result (Unit {0}) RemoveFault) (
     (new : DeskView) → IsSome (get old.held id) →
     result ≡ answer_by (Ok tt) (Err forgets.Memory) (Err forgets.Save) (outcome_of_remove answer) →
     Ends id (remove old.held id) (outcome_of_remove answer) old new → Forgets id old result new
-lets_go old id answer result new some is ends =
-    subst (λ b. Carries (Err forgets.Memory) (Err forgets.Save) id
-    (cond b (Stays (Err forgets.NotHeld)) (Becomes (remove old.held id) (Ok tt))) old result new)
-    (sym (ap not some)) (outcome_of_remove answer, is, ends)
+lets_go old id answer result new some is ends = search rules
 
 pub invariant_of-self : goal.invariant_of-self
 invariant_of-self g c =
@@ -58,12 +56,7 @@ returns-in-Ok-clause-forgotten g c = λ _.
     (gone_ends old c.number-id.result set c.self.invariant c.if-self.false some (Ok tt) c.in-Ok.ensures.removes))))
 
 pub invariant_of-self-in-Err-Device : goal.invariant_of-self-in-Err-Device
-invariant_of-self-in-Err-Device g c =
-    let old : DeskView = desk_of (g.S.StoreSet.state c.self.inside.set) c.self.inside.documents
-    c.self.inside.capacity c.self.inside.is_failed in
-    let some : IsSome (get old.held c.number-id.result) = search rules in
-    gone_order old c.number-id.result (g.S.StoreSet.state c.remove.new.self) c.self.invariant c.if-self.false some
-    (Err removing.Device) (rw c.in-Err-Device.field-0-is at c.in-Err-Device.ensures.removes)
+invariant_of-self-in-Err-Device g c = grind (arith, desk_of, gone_order)
 
 pub returns-in-Err-Device-clause-forgotten : goal.returns-in-Err-Device-clause-forgotten
 returns-in-Err-Device-clause-forgotten g c = λ _.

@@ -1,3 +1,4 @@
+use Rattle.std.proofs.Common.{arith}
 use Rattle.std.proofs.Common.{◌≡◌, ◌∙◌, ◌<◌, ℕ, true, None, Ok, Err, refl, ap, sym, subst, rules}
 use Rattle.std.specs.FinMap.{get, insert, len}
 use Rattle.dm_store.specs.Saved.{Done, Faulted, Refused}
@@ -88,16 +89,7 @@ returns-in-Err-Device-clause-after g c =
     (rw c.in-Err-Device.field-0-is at c.in-Err-Device.ensures.replaced))
 
 pub invariant_of-self-in-Err-Memory : goal.invariant_of-self-in-Err-Memory
-invariant_of-self-in-Err-Memory g c =
-    let old : DeskView = desk_of (g.S.StoreSet.state c.self.inside.set) c.self.inside.documents
-    c.self.inside.capacity c.self.inside.is_failed in
-    let set : SavedSet = g.S.StoreSet.state c.keep.new.set in
-    let same : c.keep.new.documents ≡ old.held = search rules in
-    let refused : SavesKey old.saved c.args.id (file c.args.id c.args.document) (Err replacing.Memory) set =
-    rw c.in-Err-Memory.field-0-is at c.in-Err-Memory.ensures.replaced in
-    subst (λ (d : Documents). IsInOrder (desk_of set d old.capacity old.is_failed)) (sym same)
-    (subst (λ (s : SavedSet). IsInOrder (desk_of s old.held old.capacity old.is_failed)) (sym (refused.refused refl))
-    c.self.invariant)
+invariant_of-self-in-Err-Memory g c = grind (arith, desk_of)
 
 pub returns-in-Err-Memory-clause-ends : goal.returns-in-Err-Memory-clause-ends
 returns-in-Err-Memory-clause-ends g c =
