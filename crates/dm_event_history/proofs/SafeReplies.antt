@@ -183,7 +183,7 @@ module _ (A : Type 0) (old : Relay) (earlier : List (Moment A)) (d : ℕ) (held 
         document = t.0;
         printed = t.1;
         some_named = (first.0, names_missing pages first.0 ∙ first.1);
-        not_all = grind (arith, here, lacks_means, names_missing, no_page);
+        not_all = grind (arith, lacks_means, names_missing, no_page);
         nothing_else = grind (arith, lacks_means, names_missing);
         not_surely = grind (arith, lacks_means, names_missing, not_held);
         possibly = grind (arith, decided, lacks_means, names_missing);
@@ -366,7 +366,7 @@ module _ (A : Type 0) (old : Relay) (earlier : List (Moment A)) (d : ℕ) (held 
 
       by_kind : (other : Kind) → kind ≡ other → IsImportKindSafe known d (lone_export p) added other →
           IsKindSafe known d p.id p.m p.n other
-      by_kind Again at k = grind (arith, added, here, none_named, safe, true_false)
+      by_kind Again at k = grind (arith, here, none_named, safe, true_false)
       by_kind New at k = grind (arith, away, length-lone, not_here, safe)
       by_kind Complete at k = grind (arith, length-lone, lone_some, not_here, safe)
 
