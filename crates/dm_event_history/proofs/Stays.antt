@@ -91,9 +91,6 @@ with_pages_left labels room held export kind answered sent clean = record {
   ];
 }
   where
-    all : Pages
-    all = pages_with held export.id export.pages
-
     new : Documents
     new = with_pages held export.id export.pages
 

@@ -1,5 +1,5 @@
 -- A take moves numbers from a ticket to its printer, once.
-use Rattle.std.proofs.Common.{◌≡◌, ◌⊎◌, ◌+◌, ◌≤◌, inl, inr, ℕ, Bool, true, false, ◌||◌, Some, List, [], ◌∷◌, ◌++◌, slice_get, sym, ap, subst, ◌∙◌, arith}
+use Rattle.std.proofs.Common.{◌≡◌, ◌⊎◌, ◌+◌, ◌≤◌, inl, inr, ℕ, Bool, true, false, ◌||◌, Some, List, [], ◌∷◌, ◌++◌, slice_get, ap, subst, ◌∙◌, arith}
 use Rattle.std.specs.Prelude.{IsSomeAnd}
 use Rattle.std.proofs.lemmas.List.{append-nil}
 use Rattle.dm_print_ledger.specs.Ranges.{is_free, is_in}
