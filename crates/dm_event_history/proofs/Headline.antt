@@ -121,7 +121,5 @@ run_places A ranges rooms (moment ∷ earlier) end apart run number =
 
 pub each_run_keeps_numbers : (A : Type 0) → EachRunKeepsNumbers A
 each_run_keeps_numbers A ranges rooms moments end apart run number =
-    let p = run_places A ranges rooms moments end apart run number in
-    let f = fresh_free 0 ranges number in
     let most = (start_sound ranges rooms apart).apart number in
-    (omega arith, omega arith)
+    grind (arith, fresh_free, run_places, start_sound)
