@@ -48,11 +48,7 @@ more_clean : (labels more : List Label) (exports : List relays.Export) → AreCl
     AreClean (labels ++ more) exports
 more_clean labels more exports p i export is =
     let c = p i export is in
-    record {
-      pages = λ m bytes held. more_left labels more export.id m bytes (c.pages m bytes held);
-      count = more_pages labels more export.id (length export.pages) c.count;
-      some = c.some;
-    }
+    grind (arith, more_left, more_pages)
 
 abbrev Sends : List Label → Goods → Type 0
 Sends labels goods = AreClean labels goods.exports

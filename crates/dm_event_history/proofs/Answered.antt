@@ -1,5 +1,5 @@
 -- Calls that are answered: the printer or the desk runs, and it comes to what is answered.
-use Rattle.std.proofs.Common.{arith, ◌≡◌, ◌≢◌, Some, refl, sym, ap, ◌∙◌}
+use Rattle.std.proofs.Common.{arith, ◌≡◌, ◌≢◌, Some, sym, ap, ◌∙◌}
 use Rattle.dm_store.specs.declared.fuse.Kept.TheVariants.{Old, New}
 use Rattle.dm_event_history.specs.declared.reply.Reply.{Reply}
 use Rattle.dm_event_history.specs.declared.reply.Reply.TheVariants as replies

@@ -1,14 +1,11 @@
 -- A step moves numbers, and makes or ends none.
-use Rattle.std.proofs.Common.{◌≡◌, ◌+◌, ◌≤◌, inl, inr, ℕ, false, Some, List, [], ◌∷◌, length, slice_get, refl, sym, ap, subst, ◌∙◌, arith}
-use Rattle.std.specs.Prelude.{IsSomeAnd}
+use Rattle.std.proofs.Common.{◌≡◌, ◌+◌, ◌≤◌, ℕ, false, Some, List, [], ◌∷◌, length, slice_get, refl, sym, subst, ◌∙◌, arith}
 use Rattle.std.proofs.lemmas.Option.{slice_get_within}
 use Rattle.dm_check_blocks.specs.declared.size.Size.{Size}
 use Rattle.dm_encodation.specs.declared.scheme.Scheme.{Scheme}
 use Rattle.dm_store.specs.declared.fuse.Kept.TheVariants.{Old, New}
 use Rattle.dm_print_ledger.specs.declared.range.Range.{Range}
-use Rattle.dm_print_ledger.specs.declared.giver.Giver.{Giver}
 use Rattle.dm_print_ledger.specs.Ranges.{is_free}
-use Rattle.dm_print_ledger.specs.Givers.{last_taken}
 use Rattle.dm_print_ledger.specs.Views.{LedgerView, TicketView}
 use Rattle.dm_print_ledger.specs.Changes.{least, single}
 use Rattle.dm_print_ledger.specs.Verdicts.{ticket_of}

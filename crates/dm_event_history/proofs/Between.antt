@@ -1,13 +1,11 @@
 -- What a desk holds, as long as each scan that may have saved is fair: all that it surely holds, and nothing but what
 -- it may hold.
-use Rattle.std.proofs.Common.{◌≡◌, ◌≢◌, ◌⊎◌, ◌<◌, inl, inr, true, ℕ, length, arith, Some, Ok, Err, Result, List, [], ◌∷◌, slice_get, IsSome, refl, sym, ap, subst, ◌∙◌}
+use Rattle.std.proofs.Common.{◌≡◌, ◌≢◌, ◌⊎◌, ◌<◌, inl, inr, true, ℕ, length, arith, Some, Ok, Result, List, [], ◌∷◌, slice_get, IsSome, refl, sym, ap, subst, ◌∙◌}
 use Rattle.std.specs.FinMap as finite
 use Rattle.dm_append_label.specs.Heads.{IsHead, head_of}
 use Rattle.dm_append_label.specs.Opening.{LabelOpens, OpensNear}
 use Rattle.dm_append_label.specs.declared.opening.Opened.{Opened}
 use Rattle.dm_append_label.specs.declared.fault.LabelFault.{LabelFault}
-use Rattle.dm_append_label.specs.declared.fault.LabelFault.TheVariants as label_fault
-use Rattle.dm_append_label.specs.Pages.{PageView}
 use Rattle.dm_assembly_desk.specs.declared.fault.DeskFault.TheVariants as desk_fault
 use Rattle.dm_assembly_desk.specs.declared.reply.Accepted.{Accepted}
 use Rattle.dm_assembly_desk.specs.declared.reply.Imported as imported_type
@@ -16,35 +14,35 @@ use Rattle.dm_assembly_desk.specs.declared.reply.Kind.TheVariants as kinds
 use Rattle.dm_assembly_desk.specs.Pages.{Pages, page}
 use Rattle.dm_assembly_desk.specs.Documents.{Documents}
 use Rattle.dm_assembly_desk.specs.Accepting.{lone}
-use Rattle.dm_assembly_desk.specs.Adding.{add_verdict, with_pages, add_kind}
+use Rattle.dm_assembly_desk.specs.Adding.{with_pages, add_kind}
 use Rattle.dm_finder_frame.specs.Grids.{flipped}
 use Rattle.dm_print_ledger.specs.declared.range.Range.{Range}
 use Rattle.dm_event_history.specs.declared.event.Event.{Event}
 use Rattle.dm_event_history.specs.declared.event.Event.TheVariants.{Scan, RestartDesk, Ask, Forget, Export, Import}
 use Rattle.dm_event_history.specs.declared.reply.Reply.{Reply}
-use Rattle.dm_event_history.specs.declared.reply.Reply.TheVariants.{Scanned, Forgotten, Imported}
+use Rattle.dm_event_history.specs.declared.reply.Reply.TheVariants.{Scanned, Imported}
 use Rattle.dm_event_history.specs.declared.reply.Reply.TheVariants as replies
 use Rattle.dm_event_history.specs.declared.stop.Stop.{Stop}
-use Rattle.dm_event_history.specs.Saving.{leaves_new, may_save, stop_of}
+use Rattle.dm_event_history.specs.Saving.{may_save}
 use Rattle.dm_event_history.specs.Actors.{Actor, Running}
 use Rattle.dm_event_history.specs.Relay as relays
 use Rattle.dm_event_history.specs.Relay.{Desk, Label, Relay, start, nothing}
-use Rattle.dm_event_history.specs.Calls.{Calls, Course, Ending, Faults, LacksMemory, Looks, MayLackFirst, ends}
-use Rattle.dm_event_history.specs.DeskCalls.{AskTells, ExportTells, ForgetComes, ImportComes, MayBe, ScanComes, forget_faults, import_faults, scan_course, scan_faults, verdict_course, page_reply, pages_reply}
+use Rattle.dm_event_history.specs.Calls.{Calls, Course, Ending, Faults, Looks, MayLackFirst, ends}
+use Rattle.dm_event_history.specs.DeskCalls.{AskTells, ExportTells, ForgetComes, ImportComes, ScanComes, forget_faults, import_faults, scan_course, scan_faults, page_reply}
 use Rattle.dm_event_history.specs.Steps.{Acts, DeskGoes, HasModules, IsNamed, Step}
 use Rattle.dm_event_history.specs.Runs.{Moment, IsRun}
 use Rattle.dm_event_history.specs.Clean.{ArePrinted}
 use Rattle.dm_event_history.specs.Places.{AreDisjoint}
 use Rattle.dm_event_history.specs.Headline.{AreSavedFair, IsFairEvent}
 use Rattle.dm_event_history.specs.Held.{Forgets, IsPossiblyHeld, IsSurelyHeld, MayForget, MayTake, Takes}
-use Rattle.dm_event_history.proofs.Deciding.{decided, same_or_other, true_false}
+use Rattle.dm_event_history.proofs.Deciding.{same_or_other}
 use Rattle.dm_event_history.proofs.AllClean.{unsaved_course}
 use Rattle.dm_event_history.proofs.Headline.{each_run_is_sound}
 use Rattle.dm_event_history.proofs.Beginning.{empty_there, nothing_at}
-use Rattle.dm_event_history.proofs.Adds.{held_all, lone_some, Answer, by_verdict}
-use Rattle.dm_event_history.proofs.Having.{CourseHas, HasAll, calls_have, has_map, looks_have, may_lack_has, restarts_have, saves_may}
+use Rattle.dm_event_history.proofs.Adds.{held_all, lone_some, Answer}
+use Rattle.dm_event_history.proofs.Having.{CourseHas, HasAll, calls_have, has_map, looks_have, may_lack_has, restarts_have}
 use Rattle.dm_event_history.proofs.Answered.{IsAnswered, is_answered, is_made}
-use Rattle.dm_event_history.proofs.Told.{AddTold, Has, IsAfter, add_ended, forget_told, own_forget, own_import, own_scan, scan_told, was_wanted, with_pages_has, with_pages_keeps, with_pages_only, without_keeps, without_only}
+use Rattle.dm_event_history.proofs.Told.{AddTold, Has, IsAfter, own_scan, scan_told, was_wanted, with_pages_has, with_pages_keeps, with_pages_only, without_keeps, without_only}
 use Rattle.dm_assembly_desk.proofs.LonePages.{lone_here}
 use Rattle.dm_event_history.proofs.Gotten.{set_at}
 use Rattle.dm_event_history.specs.WhoActs.{PrinterAt, actor_of}
@@ -111,15 +109,6 @@ module _ (A : Type 0) (before : Relay) (event : Event A) (stop : Stop) (faults :
       by_kind kinds.New at is = known (with_pages held id pages) (added held reply saved takes b) is
       by_kind kinds.Complete at is = known (with_pages held id pages) (added held reply saved takes b) is
 
-  -- it is answered otherwise
-  pub unanswered : (room : ℕ) (held : Documents) (reply : Reply A) (course : Course A Documents) →
-      stop_of event ≡ Some stop → may_save event faults.save ≡ leaves_new (stop_of event) →
-      ((i : imported_type.Imported) → may_save event (tells (Ok i)) ≡ true) → TakesThese reply →
-      IsBetween earlier desk held → MayBe (verdict_course tells (add_verdict room held id pages)) course →
-      reply ≡ (ends faults stop course (Running held)).reply →
-      CourseHas (IsBetween (after before event reply earlier) desk) stop course
-  unanswered room held reply course stopped save saved takes b lack is = grind (arith, added, by_verdict, saves_may)
-
 -- ---- scans
 
 is_scanned : {A : Type 0} (reply : Reply A) → ((a : Accepted) × (reply ≡ Scanned a)) ⊎ ((a : Accepted) → reply ≢ Scanned a)
@@ -170,30 +159,7 @@ module _ (A : Type 0) (before : Relay) (desk number room : ℕ) (flips : List (�
       (course : Course A Documents) → IsBetween earlier desk held → ScanComes room (flipped label.grid flips) held course →
       reply ≡ (ends scan_faults stop course (Running held)).reply →
       CourseHas (IsBetween (after before (Scan desk number flips stop) reply earlier) desk) stop course
-  unscanned reply never near held course b comes is = elim (decided (may_save (Scan desk number flips stop) reply)) [
-    | inl may ↦ by_read comes.0 (near may comes.0 comes.1) comes.2
-    | inr none ↦ unsaved_course _ desk number flips stop reply held comes.0 room course (λ may. true_false _ may none)
-        comes.2 is
-  ]
-    where
-      still : (wanted : Course A Documents) →
-          CourseHas (IsBetween (after before (Scan desk number flips stop) reply earlier) desk) stop wanted →
-          MayBe wanted course →
-          CourseHas (IsBetween (after before (Scan desk number flips stop) reply earlier) desk) stop course
-      still wanted c (inl same) = grind arith
-      still wanted c (inr lack) = grind arith
-
-      by_read : (read : Result (Opened A) LabelFault) → OpensNear label.page read →
-          MayBe (scan_course room held read) course →
-          CourseHas (IsBetween (after before (Scan desk number flips stop) reply earlier) desk) stop course
-      by_read (Ok opened) same may_be =
-          unanswered A before (Scan desk number flips stop) stop scan_faults (page_reply label.page) desk
-          label.page.id (lone label.page) earlier (λ reply i f. f) may room held reply course refl refl (λ i. refl)
-          (λ i m t. absurd (not_scanned before desk number flips stop reply never desk i m t)) b
-          (subst (λ (p : PageView). MayBe (verdict_course (page_reply p) (add_verdict room held p.id (lone p))) course)
-          same may_be) is
-      by_read (Err label_fault.Memory) same may_be = still LacksMemory tt may_be
-      by_read (Err fault) same may_be = still (scan_course room held (Err fault)) tt may_be
+  unscanned reply never near held course b comes is = grind (arith, added, held_all, may, unsaved_course)
 
   pub scan_between : (actor : Actor Documents) (end : Ending A Documents) → IsFairlyRead end.reply →
       HasAll (IsBetween earlier desk) actor →
@@ -222,13 +188,6 @@ module _ (A : Type 0) (before : Relay) (desk number room : ℕ) (flips : List (�
 
 -- ---- forgets
 
-is_forgotten : {A : Type 0} (reply : Reply A) → (reply ≡ Forgotten) ⊎ (reply ≢ Forgotten)
-is_forgotten reply = grind arith
-
-not_forgotten : {A : Type 0} (desk name : ℕ) (stop : Stop) (reply : Reply A) → reply ≢ Forgotten → (at id : ℕ) →
-    ¬ Forgets (Forget desk name stop) reply at id
-not_forgotten desk name stop reply never at id f = grind arith
-
 module _ (A : Type 0) (before : Relay) (desk name : ℕ) (stop : Stop) (earlier : List (Moment A)) where
   -- the document is not held
   without : (held : Documents) (reply : Reply A) → may_save (Forget desk name stop) reply ≡ true →
@@ -239,27 +198,9 @@ module _ (A : Type 0) (before : Relay) (desk name : ℕ) (stop : Stop) (earlier 
   pub forget_between : (actor : Actor Documents) (end : Ending A Documents) → HasAll (IsBetween earlier desk) actor →
       Calls forget_faults stop (ForgetComes name) actor end →
       HasAll (IsBetween (after before (Forget desk name stop) end.reply earlier) desk) end.actor
-  forget_between actor end b acts =
-      grind (
-        arith,
-        calls_have,
-        forget_told,
-        is_answered,
-        is_forgotten,
-        not_forgotten,
-        own_forget,
-        saves_may,
-        stays,
-        was_wanted,
-        without,
-      )
+  forget_between actor end b acts = grind (arith, without)
 
 -- ---- imports
-
-is_imported : {A : Type 0} (reply : Reply A) →
-    ((i : imported_type.Imported) × (reply ≡ Imported i)) ⊎ ((i : imported_type.Imported) → reply ≢ Imported i)
-is_imported (Imported i) = inl (i, refl)
-is_imported reply = inr (λ i e. cc (e))
 
 not_imported : {A : Type 0} (before : Relay) (desk number : ℕ) (stop : Stop) (reply : Reply A) →
     ((i : imported_type.Imported) → reply ≢ Imported i) → (at id m : ℕ) →
@@ -273,45 +214,10 @@ module _ (A : Type 0) (before : Relay) (desk number room : ℕ) (stop : Stop) (e
       (export.id ≡ id) × IsSome (page export.pages m)
   own reply id m took = grind arith
 
-  may_file : (reply : Reply A) (i m : ℕ) → may_save {A = A} (Import desk number stop) reply ≡ true → i ≡ export.id →
-      IsSome (page export.pages m) → MayTake {A = A} before (Import desk number stop) reply desk i m
-  may_file reply i m saved same some = (refl, saved, (export, there, sym same, some))
-
-  imported_so : (actor end : Actor Documents) (i : imported_type.Imported) → HasAll (IsBetween earlier desk) actor →
-      IsAnswered {A = A} (ImportComes room export) actor (Imported i) end →
-      HasAll (IsBetween (after before (Import desk number stop) (Imported i) earlier) desk) end
-  imported_so actor end i between ans =
-      elim (add_ended pages_reply room ans.held export.id export.pages (Imported i) end
-      (was_wanted (verdict_course pages_reply (add_verdict room ans.held export.id export.pages)) ans.course ans.held
-      (Imported i) end ans.comes ans.ended)) [
-        | inl told ↦ answered A before (Import desk number stop) stop import_faults pages_reply desk export.id
-            export.pages earlier (λ reply i f. f) may_file room ans.held (Imported i) end refl
-            (λ id m t. own (Imported i) id m t)
-            (subst (λ (x : Actor Documents). HasAll (IsBetween earlier desk) x) ans.was between) told
-        | inr refused ↦ (let e = refused.told in absurd (cc (e)))
-      ]
-
   pub import_between : (actor : Actor Documents) (end : Ending A Documents) → HasAll (IsBetween earlier desk) actor →
       Calls import_faults stop (ImportComes room export) actor end →
       HasAll (IsBetween (after before (Import desk number stop) end.reply earlier) desk) end.actor
-  import_between actor end b acts = elim (is_imported end.reply) [
-    | inl told ↦
-        subst (λ (r : Reply A). HasAll (IsBetween (after before (Import desk number stop) r earlier) desk) end.actor)
-        (sym told.1)
-        (imported_so actor end.actor told.0 b
-        (is_answered import_faults stop (ImportComes room export) actor end (Imported told.0) (own_import told.0) acts
-        told.1))
-    | inr never ↦
-        let Old : Documents → Type 0 = IsBetween earlier desk in
-        let Q : Documents → Type 0 = IsBetween (after before (Import desk number stop) end.reply earlier) desk in
-        calls_have Old Q import_faults stop (ImportComes room export) actor end b
-        (stays before (Import desk number stop) end.reply earlier desk
-        (λ id m t. not_imported before desk number stop end.reply never desk id m t) (λ id f. f))
-        (λ held course old comes is. unanswered A before (Import desk number stop) stop import_faults pages_reply desk
-        export.id export.pages earlier (λ reply i f. f) may_file room held end.reply course refl refl
-        (λ i. refl) (λ id m t. absurd (not_imported before desk number stop end.reply never desk id m t)) old comes
-        (ap (λ (e : Ending A Documents). e.reply) is)) acts
-  ]
+  import_between actor end b acts = grind (arith, added, held_all, own)
 
 -- ---- steps
 

@@ -14,7 +14,6 @@ use Rattle.dm_assembly_desk.specs.Pages.{Pages}
 use Rattle.dm_assembly_desk.specs.Documents.{Documents}
 use Rattle.dm_assembly_desk.specs.declared.adding.AddFault.TheVariants as adds
 use Rattle.dm_assembly_desk.specs.declared.reply.Imported as imported_type
-use Rattle.dm_assembly_desk.specs.Accepting.{lone}
 use Rattle.dm_assembly_desk.specs.Adding.{add_verdict}
 use Rattle.dm_event_history.specs.declared.reply.Reply.TheVariants.{Imported}
 use Rattle.dm_event_history.proofs.Adds.{Answer}
@@ -29,7 +28,7 @@ use Rattle.dm_event_history.specs.Relay as relays
 use Rattle.dm_event_history.specs.Relay.{Goods, Relay}
 use Rattle.dm_event_history.specs.Calls.{Answers, Calls, Course, Ending, Faults, LacksMemory, Looks, MayLackFirst, Restarts, Saves}
 use Rattle.dm_event_history.specs.PrinterCalls.{GiveComes, PrintComes, TakeComes, give_faults, print_faults, take_faults}
-use Rattle.dm_event_history.specs.DeskCalls.{AskTells, ExportTells, ForgetComes, ImportComes, MayBe, ScanComes, forget_faults, import_faults, scan_course, scan_faults, verdict_course, page_reply, pages_reply}
+use Rattle.dm_event_history.specs.DeskCalls.{AskTells, ExportTells, ForgetComes, ImportComes, MayBe, ScanComes, forget_faults, import_faults, scan_course, scan_faults, verdict_course, pages_reply}
 use Rattle.dm_event_history.specs.Steps.{Acts, DeskGoes, PrinterGoes}
 use Rattle.dm_event_history.specs.Saving.{stop_of}
 use Rattle.dm_event_history.specs.Legal.{NeedsRunning, is_new, tells_of_save}

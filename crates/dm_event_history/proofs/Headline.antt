@@ -1,14 +1,12 @@
 -- The headline, of every run.
-use Rattle.std.proofs.Common.{◌≡◌, ◌+◌, ◌≤◌, ℕ, zero, suc, Some, List, [], ◌∷◌, slice_get, refl, sym, ap, subst, ◌∙◌, arith, eq-eqb}
+use Rattle.std.proofs.Common.{◌≡◌, ◌+◌, ◌≤◌, ℕ, zero, suc, Some, List, [], ◌∷◌, slice_get, refl, sym, ap, subst, arith, eq-eqb}
 use Rattle.dm_print_ledger.specs.declared.range.Range.{Range}
 use Rattle.dm_print_ledger.specs.Views.{LedgerView}
 use Rattle.dm_assembly_desk.specs.Documents.{Documents}
 use Rattle.dm_event_history.specs.declared.event.Event.{Event}
-use Rattle.dm_event_history.specs.declared.event.Event.TheVariants.{Ask}
 use Rattle.dm_event_history.specs.declared.reply.Reply.{Reply}
-use Rattle.dm_event_history.specs.declared.reply.Reply.TheVariants.{Document}
 use Rattle.dm_event_history.specs.Actors.{Actor}
-use Rattle.dm_event_history.specs.Relay.{CutDocument, Label, Move, Relay, Used, start}
+use Rattle.dm_event_history.specs.Relay.{Label, Move, Relay, Used, start}
 use Rattle.dm_event_history.specs.Calls.{Ending}
 use Rattle.dm_event_history.specs.Steps.{Acts, DeskGoes, PrinterGoes, Step}
 use Rattle.dm_event_history.specs.Runs.{IsRun, Moment}
@@ -123,7 +121,5 @@ run_places A ranges rooms (moment ∷ earlier) end apart run number =
 
 pub each_run_keeps_numbers : (A : Type 0) → EachRunKeepsNumbers A
 each_run_keeps_numbers A ranges rooms moments end apart run number =
-    let p = run_places A ranges rooms moments end apart run number in
-    let f = fresh_free 0 ranges number in
     let most = (start_sound ranges rooms apart).apart number in
-    (omega arith, omega arith)
+    grind (arith, fresh_free, run_places, start_sound)

@@ -119,18 +119,7 @@ pub give_loses : (old next : LedgerView) (receiver : ℕ) (range : Range) → is
     give_verdict old receiver range ≡ Ok next → LosesNumbers old range next
 give_loses old next receiver range sound is =
     let a = on (not (is_range range)) give_fault.Range _ next is in
-    let b = on (receiver == old.number) give_fault.Receiver _ next a.1 in
-    let c = on (not (are_free old.free range)) give_fault.NotFree _ next b.1 in
-    let d = on (old.next_serial == 65535) give_fault.Serials _ next c.1 in
-    let e = on (nat_lt MOST_RANGES (length (without old.free range))) give_fault.Ranges _ next d.1 in
-    let free : are_free old.free range ≡ true = not_false _ c.0 in
-    let same : record old { next_serial = old.next_serial + 1; free = without old.free range } ≡ next = cc (e.1) in
-    subst (λ (l : LedgerView). LosesNumbers old range l) same (record {
-      were_free = covered_free old.free range free;
-      free = (ranges_are_numbers old.free range (sound_ranges old sound) (not_false _ a.0)).taken_out free;
-      number = refl;
-      givers = refl;
-    })
+    grind (arith, covered_free, not_false, on, ranges_are_numbers, sound_ranges)
 
 -- ---- takes
 

@@ -109,12 +109,7 @@ module _ (labels : List Label) (one : AreOfOneDocument labels) (printed : ArePri
       let l = left.pages id m bytes at in
       let p = printed l.number l.label l.there in
       let own : docs labels id ≡ Some l.label.cut = docs_of labels one l.number l.label id l.there l.id_is in
-      let same : l.label.cut ≡ cut = cc (own, is) in (
-        p.place,
-        sym l.m_is ∙ p.m_is,
-        subst (λ (c : CutDocument). slice_get c.parts p.place ≡ Some bytes) same
-            (p.part ∙ ap (λ (b : List ℕ). Some b) l.bytes_are),
-      )
+      grind (arith, docs_of)
 
 -- ---- pages and masks
 
@@ -178,16 +173,7 @@ module _ (A : Type 0) (old : Relay) (earlier : List (Moment A)) (d : ℕ) (held 
       let t = counted_is old.labels one printed held left id pages is in
       let first = one_missing pages some in
       let here = left.some id pages is in
-      let place = place_of pages here.0 here.1 in
-      record {
-        document = t.0;
-        printed = t.1;
-        some_named = (first.0, names_missing pages first.0 ∙ first.1);
-        not_all = grind (arith, here, lacks_means, names_missing, no_page);
-        nothing_else = grind (arith, lacks_means, names_missing);
-        not_surely = grind (arith, lacks_means, names_missing, not_held);
-        possibly = grind (arith, decided, lacks_means, names_missing);
-      }
+      grind (arith, counted_is, decided, lacks_means, names_missing, no_page, not_held, one_missing, place_of, possibly)
 
   all_possibly : (id : ℕ) (pages : Pages) → finite.get held id ≡ Some pages → list_all is_some pages ≡ true →
       (m : ℕ) → 1 ≤ m → m ≤ length pages → known.may_hold d id m
@@ -366,7 +352,7 @@ module _ (A : Type 0) (old : Relay) (earlier : List (Moment A)) (d : ℕ) (held 
 
       by_kind : (other : Kind) → kind ≡ other → IsImportKindSafe known d (lone_export p) added other →
           IsKindSafe known d p.id p.m p.n other
-      by_kind Again at k = grind (arith, added, here, none_named, safe, true_false)
+      by_kind Again at k = grind (arith, here, none_named, safe, true_false)
       by_kind New at k = grind (arith, away, length-lone, not_here, safe)
       by_kind Complete at k = grind (arith, length-lone, lone_some, not_here, safe)
 

@@ -76,8 +76,8 @@ with_pages_left : (labels : List Label) (room : ℕ) (held : Documents) (export 
     add_kind room held export.id export.pages ≡ Ok kind → IsCleanExport labels export → HaveLeft labels held →
     HaveLeft labels (with_pages held export.id export.pages)
 with_pages_left labels room held export kind answered sent clean = record {
-  pages = grind (arith, either, kept, new, page_found, page_given, same_or_other);
-  counts = grind (arith, all, all_count, get_here, kept, new, same_or_other);
+  pages = grind (arith, either, kept, page_found, page_given, same_or_other);
+  counts = grind (arith, all_count, get_here, kept, same_or_other);
   some = λ id pages is. elim (same_or_other id export.id) [
     | inl same ↦
         let there : finite.get new export.id ≡ Some pages =
@@ -91,9 +91,6 @@ with_pages_left labels room held export kind answered sent clean = record {
   ];
 }
   where
-    all : Pages
-    all = pages_with held export.id export.pages
-
     new : Documents
     new = with_pages held export.id export.pages
 

@@ -1,5 +1,5 @@
 -- A take moves numbers from a ticket to its printer, once.
-use Rattle.std.proofs.Common.{◌≡◌, ◌⊎◌, ◌+◌, ◌≤◌, inl, inr, ℕ, Bool, true, false, ◌||◌, Some, List, [], ◌∷◌, ◌++◌, slice_get, sym, ap, subst, ◌∙◌, arith}
+use Rattle.std.proofs.Common.{◌≡◌, ◌⊎◌, ◌+◌, ◌≤◌, inl, inr, ℕ, Bool, true, false, ◌||◌, Some, List, [], ◌∷◌, ◌++◌, slice_get, ap, subst, ◌∙◌, arith}
 use Rattle.std.specs.Prelude.{IsSomeAnd}
 use Rattle.std.proofs.lemmas.List.{append-nil}
 use Rattle.dm_print_ledger.specs.Ranges.{is_free, is_in}
@@ -82,18 +82,9 @@ module _ (old : Relay) (printer number : ℕ) (ticket : TicketView) (actor next 
 
   pub taking_places : (n : ℕ) → places (with_printer old printer next goods) n ≡ places old n
   taking_places n =
-      let free = free_set old.printers printer n actor next was in
       let put = put_in (is_free (stored_of actor).free n) (is_in ticket.range n) (is_free (stored_of next).free n)
       (t.takes.free.free n) (t.takes.were_taken n) in
-      let moves : gone (old.moves ++ goods.moves) n ≡ gone old.moves n + 0 =
-      gone_more old.moves goods.moves n ∙ ap (λ (ms : List Move). gone old.moves n + gone ms n) t.moves_are in
-      let tickets : on_tickets (old.moves ++ goods.moves) 0 (old.tickets ++ goods.tickets) n
-      ≡ on_tickets (old.moves ++ Took number ∷ []) 0 old.tickets n =
-      ap (λ (ts : List TicketView). on_tickets (old.moves ++ goods.moves) 0 (old.tickets ++ ts) n) t.tickets_are ∙
-      ap (λ (ts : List TicketView). on_tickets (old.moves ++ goods.moves) 0 ts n) (append-nil old.tickets) ∙
-      ap (λ (ms : List Move). on_tickets (old.moves ++ ms) 0 old.tickets n) t.moves_are in
-      let took = on_taken old.moves 0 number old.tickets ticket number n there (omega arith) untaken in
-      omega arith
+      grind (arith, append-nil, free_set, gone_more, on_taken, put_in, untaken)
 
   -- what was noted still is
   still_noted : (giver serial : ℕ) → IsSomeAnd (last_taken (stored_of actor).givers giver) (λ last. serial ≤ last) →

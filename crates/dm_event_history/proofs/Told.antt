@@ -22,10 +22,10 @@ use Rattle.dm_assembly_desk.specs.Pages.{Pages, page}
 use Rattle.dm_assembly_desk.specs.Documents.{Documents, page_at}
 use Rattle.dm_assembly_desk.proofs.AddLaws.{page_given}
 use Rattle.dm_event_history.specs.declared.reply.Reply.{Reply}
-use Rattle.dm_event_history.specs.declared.reply.Reply.TheVariants.{Scanned, ScanRefused, Forgotten, Imported}
+use Rattle.dm_event_history.specs.declared.reply.Reply.TheVariants.{Scanned, ScanRefused, Imported}
 use Rattle.dm_event_history.specs.Actors.{Actor, Running}
 use Rattle.dm_event_history.specs.Calls.{Course}
-use Rattle.dm_event_history.specs.DeskCalls.{MayBe, forget_faults, forget_reply, import_faults, page_reply, scan_course, scan_faults, verdict_course}
+use Rattle.dm_event_history.specs.DeskCalls.{MayBe, import_faults, page_reply, scan_course, scan_faults, verdict_course}
 use Rattle.dm_assembly_desk.specs.declared.fault.ForgetFault.{ForgetFault}
 use Rattle.dm_assembly_desk.specs.declared.fault.ForgetFault.TheVariants as forget_fault
 use Rattle.dm_event_history.proofs.Adds.{Answer}
@@ -37,9 +37,6 @@ use Rattle.dm_event_history.proofs.Answered.{Ended, IsOwn}
 
 pub own_scan : {A : Type 0} (a : Accepted) → IsOwn {A = A} scan_faults (Scanned a)
 own_scan a = grind arith
-
-pub own_forget : {A : Type 0} → IsOwn {A = A} forget_faults Forgotten
-own_forget = grind arith
 
 pub own_import : {A : Type 0} (i : imported_type.Imported) → IsOwn {A = A} import_faults (Imported i)
 own_import i = grind arith
@@ -103,11 +100,6 @@ pub record ForgetTold (id : ℕ) (held : Documents) (after : Actor Documents) : 
 -- the verdict by what is held of the document
 abbrev pub forget_by : Documents → ℕ → Option Pages → Verdict (Result (Unit {0}) ForgetFault)
 forget_by held id o = if is_none o then Stays (Err forget_fault.NotHeld) else Becomes (finite.remove held id) (Ok tt)
-
-pub forget_told : (A : Type 0) (id : ℕ) (held : Documents) (after : Actor Documents) (o : Option Pages) →
-    finite.get held id ≡ o → Ended {A = A} (verdict_course forget_reply (forget_by held id o)) held Forgotten after →
-    ForgetTold id held after
-forget_told A id held after o is ended = grind arith
 
 -- ---- what is held then, page by page
 

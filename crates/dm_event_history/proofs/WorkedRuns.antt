@@ -1,5 +1,5 @@
 -- The worked runs, step by step.
-use Rattle.std.proofs.Common.{◌&&◌, ◌==◌, ◌≡◌, inl, inr, ℕ, Some, None, Option, Result, List, [], ◌∷◌, Ok, Err, refl, sym, ap, subst, ◌∙◌, arith, cond, not, nat_le}
+use Rattle.std.proofs.Common.{◌&&◌, ◌==◌, ◌≡◌, ◌⊎◌, slice_get, inl, inr, ℕ, Some, None, Option, Result, List, [], ◌∷◌, Ok, Err, refl, sym, ap, subst, ◌∙◌, arith, cond, not, nat_le}
 use Rattle.std.specs.Prelude.{◌<◌, unwrap_or, if◌then◌else◌, is_none}
 use Rattle.std.specs.FinMap as finite
 use Rattle.std.specs.FinMap.{get-empty, len-empty}
@@ -29,14 +29,29 @@ use Rattle.dm_event_history.specs.declared.reply.Reply.TheVariants as replies
 use Rattle.dm_event_history.specs.Worked.{digits, first_ticket, range}
 use Rattle.dm_event_history.proofs.HeldDocuments.{get_same}
 use Rattle.dm_event_history.specs.Actors.{Running, Down}
-use Rattle.dm_event_history.specs.Relay.{Desk, Goods, Relay, Took, nothing, with_desk, with_printer}
-use Rattle.dm_event_history.specs.Calls.{Answers, Course, LacksMemory, Saves, cut_off, ending}
-use Rattle.dm_event_history.specs.PrinterCalls.{GiveComes, PrintComes, TakeComes}
+use Rattle.dm_event_history.specs.Relay.{Desk, Goods, Label, Relay, Took, nothing, with_desk, with_printer}
+use Rattle.dm_event_history.specs.Calls.{Answers, Calls, Course, LacksMemory, Saves, cut_off, ending, ends}
+use Rattle.dm_event_history.specs.PrinterCalls.{GiveComes, PrintComes, TakeComes, take_faults}
+use Rattle.std.proofs.lemmas.Option.{slice_get_within}
+use Rattle.dm_event_history.specs.declared.reply.Reply.{Reply}
+use Rattle.dm_event_history.specs.declared.stop.Stop.TheVariants as stops
+use Rattle.dm_event_history.specs.Steps.{HasModules, PrinterGoes, Step}
 use Rattle.dm_event_history.specs.Runs.{Tells}
-use Rattle.dm_event_history.specs.Worked.{AreRuns, gathered, moved, one_printer, stopped_after, stopped_before, two_printers}
+use Rattle.dm_event_history.specs.Worked.{AreRuns, gathered, moved, one_printer, scan, stopped_after, stopped_before, two_printers}
 use Rattle.dm_event_history.proofs.WorkedLabels.{first_are, first_are_1, first_are_5, first_page, first_words, first_words_1, first_words_5, opened_page, opens, second_are, second_are_1, second_are_5, second_page, second_words, second_words_1, second_words_5}
 use Rattle.dm_event_history.proofs.WorkedSteps.{both_labels, desk_goes, label, ledger, printer_goes, saves_print}
-use Rattle.dm_event_history.specs.DeskCalls.{verdict_course, page_reply}
+use Rattle.dm_event_history.specs.DeskCalls.{ScanComes, scan_faults, verdict_course, page_reply}
+
+-- ---- one step after another
+
+-- the next relay, a step to it by what is named, and what is told from there
+step_to : {Named : Type 0} {Goes None Rest : Relay → Type 0} (next : Relay) → Named → Goes next → Rest next →
+    (relay : Relay) × ((Named × Goes relay) ⊎ None relay) × Rest relay
+step_to next named goes rest = (next, inl (named, goes), rest)
+
+step_so : {Goes Rest : Relay → Type 0} (next : Relay) → Goes next → Rest next →
+    (relay : Relay) × Goes relay × Rest relay
+step_so next goes rest = (next, goes, rest)
 
 -- ---- prints that are stopped
 
@@ -73,37 +88,17 @@ abbrev up_again : Relay
 up_again = with_printer still_down 0 (Running used_once) nothing
 
 pub after_is : (A : Type 0) → Tells one_printer (stopped_after {A = A} 1)
-after_is A = (
-  cut_short,
-  inl (
-    omega arith,
-    printer_goes one_printer 0 _ (Running fresh) (ending Stopped (Down used_once) (cut_off 0 labels_0)) refl
-        (inr (Saves used_once labels_0 (Printed 0 0 2), print_0 0, refl)),
-  ),
-  (
-    still_down,
-    inl (
-      omega arith,
-      printer_goes cut_short 0 _ (Down used_once) (ending replies.Down (Down used_once) nothing) refl refl,
-    ),
-    (
-      up_again,
-      inl (
-        omega arith,
-        printer_goes still_down 0 _ (Down used_once) (ending Restarted (Running used_once) nothing) refl (inl refl),
-      ),
-      (
-        with_printer up_again 0 (Running used_twice) labels_1,
-        inl (
-          omega arith,
-          printer_goes up_again 0 _ (Running used_once) (ending (Printed 1 0 2) (Running used_twice) labels_1) refl
-              (inr (Saves used_twice labels_1 (Printed 1 0 2), print_1 0, refl)),
-        ),
-        tt,
-      ),
-    ),
-  ),
-)
+after_is A =
+    step_to cut_short (omega arith)
+    (printer_goes one_printer 0 _ (Running fresh) (ending Stopped (Down used_once) (cut_off 0 labels_0)) refl
+    (inr (Saves used_once labels_0 (Printed 0 0 2), print_0 0, refl)))
+    (step_to still_down (omega arith)
+    (printer_goes cut_short 0 _ (Down used_once) (ending replies.Down (Down used_once) nothing) refl refl)
+    (step_to up_again (omega arith)
+    (printer_goes still_down 0 _ (Down used_once) (ending Restarted (Running used_once) nothing) refl (inl refl))
+    (step_to (with_printer up_again 0 (Running used_twice) labels_1) (omega arith)
+    (printer_goes up_again 0 _ (Running used_once) (ending (Printed 1 0 2) (Running used_twice) labels_1) refl
+    (inr (Saves used_twice labels_1 (Printed 1 0 2), print_1 0, refl))) tt)))
 
 abbrev cut_before : Relay
 cut_before = with_printer one_printer 0 (Down fresh) nothing
@@ -115,37 +110,17 @@ abbrev up_as_before : Relay
 up_as_before = with_printer down_before 0 (Running fresh) nothing
 
 pub before_is : (A : Type 0) → Tells one_printer (stopped_before {A = A} 0)
-before_is A = (
-  cut_before,
-  inl (
-    omega arith,
-    printer_goes one_printer 0 _ (Running fresh) (ending Stopped (Down fresh) nothing) refl
-        (inr (LacksMemory, tt, refl)),
-  ),
-  (
-    down_before,
-    inl (
-      omega arith,
-      printer_goes cut_before 0 _ (Down fresh) (ending replies.Down (Down fresh) nothing) refl refl,
-    ),
-    (
-      up_as_before,
-      inl (
-        omega arith,
-        printer_goes down_before 0 _ (Down fresh) (ending Restarted (Running fresh) nothing) refl (inl refl),
-      ),
-      (
-        with_printer up_as_before 0 (Running used_once) labels_0,
-        inl (
-          omega arith,
-          printer_goes up_as_before 0 _ (Running fresh) (ending (Printed 0 0 2) (Running used_once) labels_0) refl
-              (inr (Saves used_once labels_0 (Printed 0 0 2), print_0 0, refl)),
-        ),
-        tt,
-      ),
-    ),
-  ),
-)
+before_is A =
+    step_to cut_before (omega arith)
+    (printer_goes one_printer 0 _ (Running fresh) (ending Stopped (Down fresh) nothing) refl
+    (inr (LacksMemory, tt, refl)))
+    (step_to down_before (omega arith)
+    (printer_goes cut_before 0 _ (Down fresh) (ending replies.Down (Down fresh) nothing) refl refl)
+    (step_to up_as_before (omega arith)
+    (printer_goes down_before 0 _ (Down fresh) (ending Restarted (Running fresh) nothing) refl (inl refl))
+    (step_to (with_printer up_as_before 0 (Running used_once) labels_0) (omega arith)
+    (printer_goes up_as_before 0 _ (Running fresh) (ending (Printed 0 0 2) (Running used_once) labels_0) refl
+    (inr (Saves used_once labels_0 (Printed 0 0 2), print_0 0, refl))) tt)))
 
 -- ---- ranges that move
 
@@ -213,69 +188,35 @@ lost_one = with_printer printed 0 (Down given_twice) (cut_off 0 (a_ticket second
 abbrev restarted : Relay
 restarted = with_printer lost_one 0 (Running given_twice) nothing
 
+taken_first : {A : Type 0} →
+    PrinterGoes {A = A} given 1 (Calls take_faults stops.None (TakeComes 0 first_ticket)) Taken received
+taken_first = printer_goes given 1 _ (Running other_fresh) (ending Taken (Running taken) took_first) refl
+    (Saves taken took_first Taken, takes_first, refl)
+
+taken_again : {A : Type 0} → PrinterGoes {A = A} received 1 (Calls take_faults stops.None (TakeComes 0 first_ticket))
+    (TakeRefused take_fault.Old) refused
+taken_again =
+    printer_goes received 1 _ (Running taken) (ending (TakeRefused take_fault.Old) (Running taken) nothing) refl
+    (Answers (TakeRefused take_fault.Old), (refl, refl, (take_fault.Old, refl, refl)), refl)
+
 pub moved_is : (A : Type 0) → Tells two_printers (moved A)
-moved_is A = (
-  given,
-  inl (
-    omega arith,
-    printer_goes two_printers 0 _ (Running fresh)
-        (ending (Given 0 first_ticket) (Running given_once) (a_ticket first_ticket)) refl
-        (inr (Saves given_once (a_ticket first_ticket) (Given 0 first_ticket), gives_first 0, refl)),
-  ),
-  (
-    received,
-    inl (
-      (omega arith, omega arith),
-      (
-        first_ticket,
-        refl,
-        printer_goes given 1 _ (Running other_fresh) (ending Taken (Running taken) took_first) refl
-            (Saves taken took_first Taken, takes_first, refl),
-      ),
-    ),
-    (
-      refused,
-      inl (
-        (omega arith, omega arith),
-        (
-          first_ticket,
-          refl,
-          printer_goes received 1 _ (Running taken) (ending (TakeRefused take_fault.Old) (Running taken) nothing) refl (
-            Answers (TakeRefused take_fault.Old),
-            (refl, refl, (take_fault.Old, refl, refl)),
-            refl,
-          ),
-        ),
-      ),
-      (
-        printed,
-        inl (
-          omega arith,
-          printer_goes refused 1 _ (Running taken) (ending (Printed 5 0 2) (Running taken_used) labels_5) refl
-              (inr (Saves taken_used labels_5 (Printed 5 0 2), print_5 0, refl)),
-        ),
-        (
-          lost_one,
-          inl (
-            omega arith,
-            printer_goes printed 0 _ (Running given_once)
-                (ending Stopped (Down given_twice) (cut_off 0 (a_ticket second_ticket))) refl
-                (inr (Saves given_twice (a_ticket second_ticket) (Given 1 second_ticket), gives_second 1, refl)),
-          ),
-          (
-            restarted,
-            inl (
-              omega arith,
-              printer_goes lost_one 0 _ (Down given_twice) (ending Restarted (Running given_twice) nothing) refl
-                  (inl refl),
-            ),
-            (restarted, inr ((λ named. let past : 1 < 1 = named.1 in omega arith), refl, refl), tt),
-          ),
-        ),
-      ),
-    ),
-  ),
-)
+moved_is A =
+    step_to given (omega arith)
+    (printer_goes two_printers 0 _ (Running fresh)
+    (ending (Given 0 first_ticket) (Running given_once) (a_ticket first_ticket)) refl
+    (inr (Saves given_once (a_ticket first_ticket) (Given 0 first_ticket), gives_first 0, refl)))
+    (step_to received (omega arith, omega arith) (first_ticket, refl, taken_first)
+    (step_to refused (omega arith, omega arith) (first_ticket, refl, taken_again)
+    (step_to printed (omega arith)
+    (printer_goes refused 1 _ (Running taken) (ending (Printed 5 0 2) (Running taken_used) labels_5) refl
+    (inr (Saves taken_used labels_5 (Printed 5 0 2), print_5 0, refl)))
+    (step_to lost_one (omega arith)
+    (printer_goes printed 0 _ (Running given_once)
+    (ending Stopped (Down given_twice) (cut_off 0 (a_ticket second_ticket))) refl
+    (inr (Saves given_twice (a_ticket second_ticket) (Given 1 second_ticket), gives_second 1, refl)))
+    (step_to restarted (omega arith)
+    (printer_goes lost_one 0 _ (Down given_twice) (ending Restarted (Running given_twice) nothing) refl (inl refl))
+    (step_so restarted (inr ((λ named. let past : 1 < 1 = named.1 in omega arith), refl, refl)) tt))))))
 
 -- ---- a document that is gathered
 
@@ -343,103 +284,45 @@ asked = desk_goes_on whole all_held
 abbrev asked_other : Relay
 asked_other = with_desk asked 1 (desk_with none_held) nothing
 
+not_held : Asks {X = List ℕ} (λ given. given) (finite.get none_held 0) (Err ask_fault.NotHeld)
+not_held =
+    subst (λ (o : Option Pages). Asks {X = List ℕ} (λ given. given) o (Err ask_fault.NotHeld)) (sym (none_at 0)) refl
+
+-- a scan of a label as it left, by what it comes to
+scan_step : {A : Type 0} (old : Relay) (number : ℕ) (own : Label) (held next : Documents) (course : Course A Documents)
+    (reply : Reply A) → slice_get old.labels number ≡ Some own → slice_get old.desks 0 ≡ Some (desk_with held) →
+    ScanComes 4 own.grid held course →
+    ending reply (Running next) nothing ≡ ends scan_faults stops.None course (Running held) →
+    Step old (scan number) reply (desk_goes_on old next)
+scan_step {A} old number own held next course reply there here comes is =
+    let goes = desk_goes old 0 _ (desk_with held) (ending reply (Running next) nothing) here (inr (course, comes, is)) in
+    let modules : HasModules old number [] = (own, there, (λ k flip below. absurd (omega (arith, below)))) in
+    inl ((slice_get_within old.desks 0 (desk_with held) here, modules), (own, there, goes))
+
 pub gathered_is : (A : Type 0) → CarriesItsWords Side12 → Tells one_printer (gathered A)
 gathered_is A law =
     let By : Documents → PageView → Result Kind AddFault → Course A Documents = λ held page judged.
     verdict_course (page_reply page) (verdict_by held page.id (lone page) judged) in
     let first = opens (first_page 0) first_words first_are law A (omega arith) in
-    let second = opens (second_page 0) second_words second_are law A (omega arith) in (
-      labelled,
-      inl (
-        omega arith,
-        printer_goes one_printer 0 _ (Running fresh) (ending (Printed 0 0 2) (Running used_once) labels_0) refl
-            (inr (Saves used_once labels_0 (Printed 0 0 2), print_0 0, refl)),
-      ),
-      (
-        scanned,
-        inl (
-          (omega arith, (label (second_page 0) second_words, refl, (λ k flip below. absurd (omega (arith, below))))),
-          (
-            label (second_page 0) second_words,
-            refl,
-            desk_goes labelled 0 _ (desk_with none_held)
-                (ending (Scanned (accepted (second_page 0) New)) (Running half_held) nothing) refl
-                (inr (
-                  Saves half_held nothing (Scanned (accepted (second_page 0) New)),
-                  (Ok (opened_page (second_page 0)), second, inl (sym (ap (By none_held (second_page 0)) is_new))),
-                  refl,
-                )),
-          ),
-        ),
-        (
-          scanned_again,
-          inl (
-            (omega arith, (label (second_page 0) second_words, refl, (λ k flip below. absurd (omega (arith, below))))),
-            (
-              label (second_page 0) second_words,
-              refl,
-              desk_goes scanned 0 _ (desk_with half_held)
-                  (ending (Scanned (accepted (second_page 0) Again)) (Running half_held) nothing) refl
-                  (inr (
-                    Answers (Scanned (accepted (second_page 0) Again)),
-                    (Ok (opened_page (second_page 0)), second, inl (sym (ap (By half_held (second_page 0)) is_again))),
-                    refl,
-                  )),
-            ),
-          ),
-          (
-            whole,
-            inl (
-              (omega arith, (label (first_page 0) first_words, refl, (λ k flip below. absurd (omega (arith, below))))),
-              (
-                label (first_page 0) first_words,
-                refl,
-                desk_goes scanned_again 0 _ (desk_with half_held)
-                    (ending (Scanned (accepted (first_page 0) Complete)) (Running all_held) nothing) refl
-                    (inr (
-                      Saves all_held nothing (Scanned (accepted (first_page 0) Complete)),
-                      (Ok (opened_page (first_page 0)), first, inl (sym (ap (By half_held (first_page 0)) is_complete))),
-                      refl,
-                    )),
-              ),
-            ),
-            (
-              asked,
-              inl (
-                omega arith,
-                desk_goes whole 0 _ (desk_with all_held) (ending (Document digits) (Running all_held) nothing) refl (
-                  (
-                    Ok digits,
-                    subst (λ (o : Option Pages). Asks (λ given. given) o (Ok digits)) (sym all_at) refl,
-                    refl,
-                    refl,
-                  ),
-                  refl,
-                ),
-              ),
-              (
-                asked_other,
-                inl (
-                  omega arith,
-                  desk_goes asked 1 _ (desk_with none_held)
-                      (ending (AskRefused ask_fault.NotHeld) (Running none_held) nothing) refl (
-                        (
-                          Err ask_fault.NotHeld,
-                          subst (λ (o : Option Pages). Asks {X = List ℕ} (λ given. given) o (Err ask_fault.NotHeld))
-                              (sym (none_at 0)) refl,
-                          refl,
-                          refl,
-                        ),
-                        refl,
-                      ),
-                ),
-                tt,
-              ),
-            ),
-          ),
-        ),
-      ),
-    )
+    let second = opens (second_page 0) second_words second_are law A (omega arith) in
+    step_to labelled (omega arith)
+    (printer_goes one_printer 0 _ (Running fresh) (ending (Printed 0 0 2) (Running used_once) labels_0) refl
+    (inr (Saves used_once labels_0 (Printed 0 0 2), print_0 0, refl)))
+    (step_so scanned (scan_step labelled 1 (label (second_page 0) second_words) none_held half_held
+    (Saves half_held nothing (Scanned (accepted (second_page 0) New))) _ refl refl
+    (Ok (opened_page (second_page 0)), second, inl (sym (ap (By none_held (second_page 0)) is_new))) refl)
+    (step_so scanned_again (scan_step scanned 1 (label (second_page 0) second_words) half_held half_held
+    (Answers (Scanned (accepted (second_page 0) Again))) _ refl refl
+    (Ok (opened_page (second_page 0)), second, inl (sym (ap (By half_held (second_page 0)) is_again))) refl)
+    (step_so whole (scan_step scanned_again 0 (label (first_page 0) first_words) half_held all_held
+    (Saves all_held nothing (Scanned (accepted (first_page 0) Complete))) _ refl refl
+    (Ok (opened_page (first_page 0)), first, inl (sym (ap (By half_held (first_page 0)) is_complete))) refl)
+    (step_to asked (omega arith)
+    (desk_goes whole 0 _ (desk_with all_held) (ending (Document digits) (Running all_held) nothing) refl
+    ((Ok digits, subst (λ (o : Option Pages). Asks (λ given. given) o (Ok digits)) (sym all_at) refl, refl, refl), refl))
+    (step_to asked_other (omega arith)
+    (desk_goes asked 1 _ (desk_with none_held) (ending (AskRefused ask_fault.NotHeld) (Running none_held) nothing) refl
+    ((Err ask_fault.NotHeld, not_held, refl, refl), refl)) tt)))))
 
 pub are_runs : (A : Type 0) → CarriesItsWords Side12 → AreRuns A
 are_runs A law = grind (arith, after_is, before_is, gathered_is, moved_is)
