@@ -11,7 +11,7 @@ use Rattle.dm_event_history.specs.Actors.{Actor, Running, Failed, Down, stored_o
 use Rattle.dm_event_history.specs.Relay.{Goods, Move, Relay, Took, with_printer}
 use Rattle.dm_event_history.specs.Calls.{Answers, Calls, Course, Ending, Faults, LacksMemory, Reaches, Saves, ends}
 use Rattle.dm_event_history.specs.PrinterCalls.{TakeComes, take_faults}
-use Rattle.dm_event_history.specs.Places.{IsInOrder, IsNoted, gone, is_taken, on_tickets, one_if, places}
+use Rattle.dm_event_history.specs.Places.{IsInOrder, IsNoted, is_taken, one_if, places}
 use Rattle.dm_event_history.proofs.Numbers.{free_set, gone_more, on_taken, taken_by}
 use Rattle.dm_event_history.proofs.Reaching.{reached, reaches}
 use Rattle.dm_event_history.proofs.LedgerFacts.{GainsNumbers, take_gains}
