@@ -179,7 +179,6 @@ no_save joins none full kind is = grind arith
 
 module _ (id : ℕ) (given : Pages) (old new : DeskView) (running : old.is_failed ≡ false)
     (result : Result Imported AddFault) where
-
   by_failed : (judged : Result Kind AddFault) → (judged ≡ Err adds.Save → ⊥) →
       Carries (Err adds.Memory) (Err adds.Save) id (verdict_by old.held id given judged) old result new →
       new.is_failed ≡ says_save result

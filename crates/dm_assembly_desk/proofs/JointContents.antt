@@ -129,8 +129,16 @@ few_below next limit (k ∷ ks) from rising fits le =
 pub all_of_them : (content : Contents) (ks : List ℕ) → ((i : ℕ) → get_or ks i 0 < 65536) →
     ks ≡ take (65536 + 1) (keys content) → ks ≡ keys content
 all_of_them content ks fits is =
-    grind (arith, rising_front (65536 + 1) (keys content) (keys_rise content), keys_rise content, few_below 0 65536 ks
-    (from_zero ks), from_zero ks, length-take (65536 + 1) (keys content), take_all (65536 + 1) (keys content))
+    grind (
+      arith,
+      rising_front (65536 + 1) (keys content) (keys_rise content),
+      keys_rise content,
+      few_below 0 65536 ks
+          (from_zero ks),
+      from_zero ks,
+      length-take (65536 + 1) (keys content),
+      take_all (65536 + 1) (keys content),
+    )
 
 -- ---- an emptied old file
 

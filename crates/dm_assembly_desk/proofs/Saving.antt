@@ -4,8 +4,8 @@ use Rattle.std.specs.Prelude.{option_map, IsTrue, IsSome, is_some}
 use Rattle.std.specs.Ordering.{nat_cmp, eq_by_cmp}
 use Rattle.std.specs.Cmp.{nat_cmp_total}
 use Rattle.std.specs.FinMap.{get, insert, remove, len, get-insert, get-remove, len-insert, len-remove}
-use Rattle.dm_store.specs.Saved.{SavePlan, SavesFine, FaultOld, FaultNew, SavesOpen, Outcome, Done, Faulted, Refused, HeldAfterFault, outcome_of}
-use Rattle.dm_store.specs.Sets.{SavedSet, Contents, Saves, SavesKey, RemovesKey, outcome_of_remove}
+use Rattle.dm_store.specs.Saved.{SavePlan, SavesFine, FaultOld, FaultNew, SavesOpen, Outcome, Done, Faulted, Refused, HeldAfterFault, outcome_of, Saves}
+use Rattle.dm_store.specs.Sets.{SavedSet, Contents, SavesKey, RemovesKey, outcome_of_remove}
 use Rattle.dm_store.specs.declared.set.RemoveFault.{RemoveFault}
 use Rattle.dm_store.specs.declared.set.RemoveFault.TheVariants as removing
 use Rattle.dm_store.specs.declared.store.ReplaceFault.{ReplaceFault}

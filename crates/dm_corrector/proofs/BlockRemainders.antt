@@ -39,6 +39,22 @@ pub is_remainder : (checks d : ℕ) (block word rest : List ℕ) → length bloc
     checks ≤ 255 → take d word ≡ take d block → IsBlockWord checks word → All (λ x. x < 256) rest →
     rest ≡ add_scaled 1 (drop d block) (drop d word) → IsRemainder checks block rest
 is_remainder checks d block word rest lb lw most same holds bytes is =
-    grind (arith, length-drop d block, length-drop d word, length-add_scaled 1 (drop d block) (drop d word),
-    take-append-drop d block, take-append-drop d word, length-drop, length-add_scaled, power_byte, take-append-drop,
-    value-append, xor_solve, value-add_scaled, one-product, product_byte, xor_comm, zero_remainder)
+    grind (
+      arith,
+      length-drop d block,
+      length-drop d word,
+      length-add_scaled 1 (drop d block) (drop d word),
+      take-append-drop d block,
+      take-append-drop d word,
+      length-drop,
+      length-add_scaled,
+      power_byte,
+      take-append-drop,
+      value-append,
+      xor_solve,
+      value-add_scaled,
+      one-product,
+      product_byte,
+      xor_comm,
+      zero_remainder,
+    )

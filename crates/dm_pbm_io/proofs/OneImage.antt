@@ -49,7 +49,7 @@ header_ends : (a d : List ℕ) (w h w' h' : ℕ) → IsHeaderBody a w h → IsHe
 header_ends a d w h w' h' p q =
     let s = signs_after a d p.closed in
     let runs : walk (Some (Done (min w 1025) (min h 1025))) (signs d) ≡ Some (Done (min w' 1025) (min h' 1025)) =
-        cc (done_walk a w h p, walk-append (Some AfterMagic) (signs a) (signs d), done_walk (a ++ d) w' h' q) in
+    cc (done_walk a w h p, walk-append (Some AfterMagic) (signs a) (signs d), done_walk (a ++ d) w' h' q) in
     let ends = at_done (min w 1025) (min h 1025) (signs d) (min w' 1025) (min h' 1025) runs in
     (closed_none d ends.0 (sym s.1 ∙ q.closed), ends.1, ends.2)
 
@@ -68,14 +68,22 @@ same_rows : (n : ℕ) (a b : List (List ℕ)) → AllByRecursion (λ r. length r
 same_rows n [] [] p q l e = refl
 same_rows n [] (v ∷ b) p q l e = absurd (omega arith)
 same_rows n (u ∷ a) [] p q l e = absurd (omega arith)
-same_rows n (u ∷ a) (v ∷ b) p q l e = grind (arith, same_fronts, same_rows n a b p.1 q.1 (omega arith) (same_fronts u v
-    (concat a) (concat b) (p.0 ∙ sym q.0) e).1)
+same_rows n (u ∷ a) (v ∷ b) p q l e = grind (
+  arith,
+  same_fronts,
+  same_rows n a b p.1 q.1 (omega arith) (same_fronts u v
+      (concat a) (concat b) (p.0 ∙ sym q.0) e).1,
+)
 
 one_packed : (a b x y : List ℕ) (w h : ℕ) (p q : List Bool) → IsPackedRaster a w h p → IsPackedRaster b w h q
     → a ++ x ≡ b ++ y → (a ≡ b) × (p ≡ q)
 one_packed a b x y w h p q r s e =
-    grind (arith, length-packed a w h p r, same_rows (stride w) r.rows s.rows r.each s.each (r.count ∙ sym s.count) (sym
-    r.raster_is ∙ (same_fronts a b x y (length-packed a w h p r ∙ sym (length-packed b w h q s)) e).0 ∙ s.raster_is))
+    grind (
+      arith,
+      length-packed a w h p r,
+      same_rows (stride w) r.rows s.rows r.each s.each (r.count ∙ sym s.count) (sym
+          r.raster_is ∙ (same_fronts a b x y (length-packed a w h p r ∙ sym (length-packed b w h q s)) e).0 ∙ s.raster_is),
+    )
 
 same_digits : (p q : List Bool) → map digit_of p ≡ map digit_of q → p ≡ q
 same_digits [] [] e = refl
@@ -116,7 +124,7 @@ plain_ends a d count p q r s =
     let shut = sym b.1 ∙ s.closed in
     let kept : map digit_of q ≡ map digit_of p ++ filter is_pixel_digit (signs d) = grind (arith, filter-append) in
     let long : length q ≡ length p + length (filter is_pixel_digit (signs d)) =
-        grind (arith, length-digits, length-append) in
+    grind (arith, length-digits, length-append) in
     let none : length (filter is_pixel_digit (signs d)) ≡ 0 = omega (arith, r.count_is, s.count_is) in
     let empty : d ≡ [] = no_more d (λ n. grind (arith, last_after, digits_after)) in
     let same : map digit_of q ≡ map digit_of p = grind (arith, append-nil) in grind (arith, same_digits)
@@ -170,7 +178,7 @@ one_after_magic a b x y p q form r s e =
     let rest = same_fronts r.body s.body (r.raster ++ x) (s.raster ++ y) (ap length head.0) split in
     let one = one_raster p.plain r.raster s.raster x y p.width p.height p.pixels q.pixels r.raster_is
     (raster_moved p.plain q.plain s.raster p.width p.height q.width q.height q.pixels form w h s.raster_is) rest.1 in
-        grind arith
+    grind arith
 
 pub one_image : HasOneImage
 one_image a b x y p q r s e =

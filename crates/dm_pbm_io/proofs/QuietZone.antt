@@ -112,7 +112,7 @@ row_drawn g w rows pixels new modules whole ew hrow em en before =
           ap (λ (xs : List Bool). at xs (r * w + c)) en
           ∙ ⊎_elim (λ (h : r < rows + 1). grind (arith, mul-le-mul_right, over_below, reached))
           (λ (h : rows + 1 ≤ r).
-              search (arith, ⊎_elim, new_row, reached, mul-le-mul_right, over_above, not_reached, cases_lt))
+          search (arith, ⊎_elim, new_row, reached, mul-le-mul_right, over_above, not_reached, cases_lt))
           (cases_lt r (rows + 1));
     }
 

@@ -25,7 +25,7 @@ row_more width at b row n room =
     let long : length (flat_map bits row) ≡ 8 * at = length-bits row ∙ ap (λ k. 8 * k) n in
     let whole : row_of width row ≡ flat_map bits row = take_all width (flat_map bits row) (omega arith) in
     let parts : width ≡ length (flat_map bits row) + (width - 8 * at) = omega arith in
-        grind (arith, flat_map-append, bits_single, take-append-add, take_min)
+    grind (arith, flat_map-append, bits_single, take-append-add, take_min)
 
 pub length-row_of : (width : ℕ) (row : List ℕ) → length row ≡ stride width → length (row_of width row) ≡ width
 length-row_of width row n = let e = length-bits row in simp length-take (omega arith)

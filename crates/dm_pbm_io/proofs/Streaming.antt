@@ -93,5 +93,8 @@ adds_rest a b c all first rest put is p q = grind (arith, adds-trans)
 -- first some text, and then a part of what comes next
 pub adds_part : (a b : OutputView) (end : Option (List ℕ)) (all done next rest : List ℕ) → all ≡ done ++ (next ++ rest)
     → Adds a b done → AppendsPart b.contents end next → AppendsPart a.contents end all
-adds_part a b end all done next rest is p q = grind (arith, part_after a.contents b.contents end done (next ++ rest)
-    p.appended (part_more b.contents end next rest q))
+adds_part a b end all done next rest is p q = grind (
+  arith,
+  part_after a.contents b.contents end done (next ++ rest)
+      p.appended (part_more b.contents end next rest q),
+)

@@ -26,7 +26,7 @@ module_again g k h =
     let inside = mul-add-lt (k / n + 1) (n + 2) (k % n + 1) (n + 2) (omega arith) (omega arith) in
     let above : at / (n + 2) ≡ k / n + 1 = div-mul-add (k / n + 1) (n + 2) (k % n + 1) (omega arith) in
     let beside : at % (n + 2) ≡ k % n + 1 = mod-mul-add (k / n + 1) (n + 2) (k % n + 1) (omega arith) in
-        grind (arith, get_or-map-range_with_len, within)
+    grind (arith, get_or-map-range_with_len, within)
 
 pub taken_back : (g : GridView) (plain : Bool) → IsWholeGrid g → IsTakenBack g plain
 taken_back g plain whole =
@@ -35,4 +35,4 @@ taken_back g plain whole =
     let less : n + 2 - 2 ≡ n = omega arith in
     let modules : g.modules ≡ map (inner_module pixels (n + 2) n) (range_with_len 0 (n * n)) =
     fill_by_all (inner_module pixels (n + 2) n) g.modules (n * n) false whole (λ k h. module_again g k h) in
-        grind (arith, length-map-range_with_len)
+    grind (arith, length-map-range_with_len)

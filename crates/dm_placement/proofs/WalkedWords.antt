@@ -32,9 +32,14 @@ gives_shapes _ = refl
 pub walked_more : (s : Size) (w w' : Walk) (shape : Option Shape) (places places' : List ℕ) → HasWalked s w places
     → Steps w w' shape → places' ≡ places ++ map (place_of (mapping s)) (cells_of_all (mapping s) (option_to_list shape))
     → HasWalked s w' places'
-walked_more s w w' shape places places' h step e = grind (arith, append_assoc h.done (option_to_list shape) (step.ahead
-    h.later h.ahead).0, flat_map-append (shape_cells (mapping s)) h.done (option_to_list shape), map-append (place_of
-    (mapping s)) (cells_of_all (mapping s) h.done) (cells_of_all (mapping s) (option_to_list shape)))
+walked_more s w w' shape places places' h step e = grind (
+  arith,
+  append_assoc h.done (option_to_list shape) (step.ahead
+      h.later h.ahead).0,
+  flat_map-append (shape_cells (mapping s)) h.done (option_to_list shape),
+  map-append (place_of
+      (mapping s)) (cells_of_all (mapping s) h.done) (cells_of_all (mapping s) (option_to_list shape)),
+)
 
 -- the word of a step may stand where it stands
 pub fits_here : (s : Size) (w w' : Walk) (shape : Shape) (places : List ℕ) → HasWalked s w places

@@ -130,9 +130,31 @@ without_free : (ranges : List Range) (range : Range) (n : ℕ) → range.first �
     is_free (without ranges range) n ≡ (is_free ranges n && not (is_in range n))
 without_free [] range n some = refl
 without_free (one ∷ ranges) range n some =
-    search (arith, not, same_tests, span_to, min, max, spans_first, still_free, free_here, in_from, not_in_below,
-    not_in_above, free_after, was_free, is_outside, free_cases, at_least, at_most, cases_lt, span_here, span_rest,
-    both, without_free ranges range n some)
+    search (
+      arith,
+      not,
+      same_tests,
+      span_to,
+      min,
+      max,
+      spans_first,
+      still_free,
+      free_here,
+      in_from,
+      not_in_below,
+      not_in_above,
+      free_after,
+      was_free,
+      is_outside,
+      free_cases,
+      at_least,
+      at_most,
+      cases_lt,
+      span_here,
+      span_rest,
+      both,
+      without_free ranges range n some,
+    )
 
 without_rises : (from : ℕ) (ranges : List Range) (range : Range) → RiseFrom from ranges → range.first ≤ range.last →
     RiseFrom from (without ranges range)

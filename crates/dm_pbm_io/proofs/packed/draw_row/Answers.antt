@@ -22,7 +22,7 @@ last_drawn whole rest width row pixels last wide parts some few rows done is =
     let size : length left ≡ whole = length-take-le whole row (omega arith) in
     let room : min (width - 8 * whole) 8 ≡ rest = omega arith in
     let all : left ++ b ∷ [] ≡ row = cc (take_more row whole 0 (omega arith), take_all (whole + 1) row (omega arith)) in
-        search (arith, append-nil, row_more)
+    search (arith, append-nil, row_more)
 
 pub returns-then-rest-ne0 : goal.returns-then-rest-ne0
 returns-then-rest-ne0 c = grind (arith, common_steps, last_drawn)

@@ -8,5 +8,9 @@ pub modules_of-requires-clause-zone : goal.modules_of-requires-clause-zone
 modules_of-requires-clause-zone g c = wide_enough (picture c.args.image.now) c.in-Some.ensures.0
 
 pub from_modules-requires : goal.from_modules-requires
-from_modules-requires g c = grind (arith, length-inside (picture c.args.image.now), as_many (picture c.args.image.now)
-    c.in-Some.size c.in-Some.ensures.1)
+from_modules-requires g c = grind (
+  arith,
+  length-inside (picture c.args.image.now),
+  as_many (picture c.args.image.now)
+      c.in-Some.size c.in-Some.ensures.1,
+)

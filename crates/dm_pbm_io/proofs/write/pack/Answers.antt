@@ -10,16 +10,34 @@ byte_more : (n at byte : ℕ) (row : List Bool) (all old new : List ℕ) → at 
     → all ≡ old ++ packed (n - at) (drop (8 * at) row) → byte ≡ number_of_first 0 (drop (8 * at) row) 8
     → new ≡ old ++ byte ∷ [] → all ≡ new ++ packed (n - (at + 1)) (drop (8 * (at + 1)) row)
 byte_more n at byte row all old new here done is more =
-    grind (arith, drop-drop 8 (8 * at) row, packed_step n, append_assoc old (byte ∷ []) (packed (n - (at + 1)) (drop 8
-    (drop (8 * at) row))), drop-drop, packed_step, append_assoc)
+    grind (
+      arith,
+      drop-drop 8 (8 * at) row,
+      packed_step n,
+      append_assoc old (byte ∷ []) (packed (n - (at + 1)) (drop 8
+          (drop (8 * at) row))),
+      drop-drop,
+      packed_step,
+      append_assoc,
+    )
 
 -- the last byte of a row of which the whole bytes are packed
 last_packed : (n whole byte : ℕ) (row : List Bool) (bytes : List ℕ) → length bytes ≡ n → n ≡ whole + 1
     → packed n row ≡ take whole bytes ++ packed (n - whole) (drop (8 * whole) row)
     → byte ≡ number_of_first 0 (drop (8 * whole) row) 8 → set bytes whole byte ≡ packed n row
 last_packed n whole byte row bytes room one done is =
-    grind (arith, length-set {A = ℕ}, take_more_set bytes whole byte (omega arith), append-nil (take (whole + 1) (set
-    bytes whole byte)), length-set, byte_more, take_more_set, append-nil, take_all)
+    grind (
+      arith,
+      length-set {A = ℕ},
+      take_more_set bytes whole byte (omega arith),
+      append-nil (take (whole + 1) (set
+          bytes whole byte)),
+      length-set,
+      byte_more,
+      take_more_set,
+      append-nil,
+      take_all,
+    )
 
 pub loop-at-preserved : goal.loop-at-preserved
 loop-at-preserved c =

@@ -10,13 +10,21 @@ returns-then-bytes-lt13-clause-none c = no_size c.args.bytes.now (λ has. let si
 
 pub returns-then-ranges-gt-MOST_RANGES-clause-none : goal.returns-then-ranges-gt-MOST_RANGES-clause-none
 returns-then-ranges-gt-MOST_RANGES-clause-none c =
-    grind (arith, no_size, then-ranges-gt-MOST_RANGES-via-then-ranges-gt-MOST_RANGES,
-    then-ranges-gt-MOST_RANGES-via-else-ranges-gt-MOST_RANGES+then-bytes-ranges)
+    grind (
+      arith,
+      no_size,
+      then-ranges-gt-MOST_RANGES-via-then-ranges-gt-MOST_RANGES,
+      then-ranges-gt-MOST_RANGES-via-else-ranges-gt-MOST_RANGES+then-bytes-ranges,
+    )
 
 pub returns-then-givers-gt-MOST_GIVERS-clause-none : goal.returns-then-givers-gt-MOST_GIVERS-clause-none
 returns-then-givers-gt-MOST_GIVERS-clause-none c =
-    grind (arith, no_size, then-givers-gt-MOST_GIVERS-via-then-givers-gt-MOST_GIVERS,
-    then-givers-gt-MOST_GIVERS-via-else-givers-gt-MOST_GIVERS+then-bytes-ranges-2)
+    grind (
+      arith,
+      no_size,
+      then-givers-gt-MOST_GIVERS-via-then-givers-gt-MOST_GIVERS,
+      then-givers-gt-MOST_GIVERS-via-else-givers-gt-MOST_GIVERS+then-bytes-ranges-2,
+    )
 
 pub returns-then-not-are_ranges-clause-none : goal.returns-then-not-are_ranges-clause-none
 returns-then-not-are_ranges-clause-none c = grind (arith, not_ranges)
