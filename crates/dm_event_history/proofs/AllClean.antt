@@ -15,8 +15,8 @@ use Rattle.dm_append_label.specs.declared.fault.LabelFault.{LabelFault}
 use Rattle.dm_event_history.specs.declared.stop.Stop.{Stop}
 use Rattle.dm_event_history.specs.Saving.{may_save}
 use Rattle.dm_event_history.proofs.Deciding.{decided, true_false}
-use Rattle.dm_event_history.proofs.Having.{CourseHas, HasAll, calls_have, may_lack_has}
-use Rattle.dm_event_history.specs.Actors.{Actor, Running}
+use Rattle.dm_event_history.proofs.Having.{CourseHas, calls_have, may_lack_has}
+use Rattle.dm_event_history.specs.Actors.{Actor, HasAll, Running}
 use Rattle.dm_event_history.specs.Relay as relays
 use Rattle.dm_event_history.specs.Relay.{Desk, Goods, Label, Relay}
 use Rattle.dm_event_history.specs.Calls.{Calls, Course, Ending, Looks, MayLackFirst, ends}

@@ -24,7 +24,7 @@ use Rattle.dm_event_history.specs.declared.reply.Reply.TheVariants.{Scanned, Imp
 use Rattle.dm_event_history.specs.declared.reply.Reply.TheVariants as replies
 use Rattle.dm_event_history.specs.declared.stop.Stop.{Stop}
 use Rattle.dm_event_history.specs.Saving.{may_save}
-use Rattle.dm_event_history.specs.Actors.{Actor, Running}
+use Rattle.dm_event_history.specs.Actors.{Actor, HasAll, Running}
 use Rattle.dm_event_history.specs.Relay as relays
 use Rattle.dm_event_history.specs.Relay.{Desk, Label, Relay, start, nothing}
 use Rattle.dm_event_history.specs.Calls.{Calls, Course, Ending, Faults, Looks, MayLackFirst, ends}
@@ -34,26 +34,18 @@ use Rattle.dm_event_history.specs.Runs.{Moment, IsRun}
 use Rattle.dm_event_history.specs.Clean.{ArePrinted}
 use Rattle.dm_event_history.specs.Places.{AreDisjoint}
 use Rattle.dm_event_history.specs.Headline.{AreSavedFair, IsFairEvent}
-use Rattle.dm_event_history.specs.Held.{Forgets, IsPossiblyHeld, IsSurelyHeld, MayForget, MayTake, Takes}
+use Rattle.dm_event_history.specs.Held.{AreBetween, Forgets, Has, IsBetween, MayForget, MayTake, Takes}
 use Rattle.dm_event_history.proofs.Deciding.{same_or_other}
 use Rattle.dm_event_history.proofs.AllClean.{unsaved_course}
 use Rattle.dm_event_history.proofs.Headline.{each_run_is_sound}
 use Rattle.dm_event_history.proofs.Beginning.{empty_there, nothing_at}
 use Rattle.dm_event_history.proofs.Adds.{held_all, lone_some, Answer}
-use Rattle.dm_event_history.proofs.Having.{CourseHas, HasAll, calls_have, has_map, looks_have, may_lack_has, restarts_have}
+use Rattle.dm_event_history.proofs.Having.{CourseHas, calls_have, has_map, looks_have, may_lack_has, restarts_have}
 use Rattle.dm_event_history.proofs.Answered.{IsAnswered, is_answered, is_made}
-use Rattle.dm_event_history.proofs.Told.{AddTold, Has, IsAfter, own_scan, scan_told, was_wanted, with_pages_has, with_pages_keeps, with_pages_only, without_keeps, without_only}
+use Rattle.dm_event_history.proofs.Told.{AddTold, IsAfter, own_scan, scan_told, was_wanted, with_pages_has, with_pages_keeps, with_pages_only, without_keeps, without_only}
 use Rattle.dm_assembly_desk.proofs.LonePages.{lone_here}
 use Rattle.dm_event_history.proofs.Gotten.{set_at}
 use Rattle.dm_event_history.specs.WhoActs.{PrinterAt, actor_of}
-
-pub record IsBetween {A : Type 0} (h : List (Moment A)) (desk : ℕ) (held : Documents) : Type 0 where
-  pub surely : (id m : ℕ) → IsSurelyHeld h desk id m → Has held id m
-  pub possibly : (id m : ℕ) → Has held id m → IsPossiblyHeld h desk id m
-
-abbrev pub AreBetween : {A : Type 0} → List (Moment A) → Relay → Type 0
-AreBetween h relay = (number : ℕ) (desk : Desk) → slice_get relay.desks number ≡ Some desk →
-    HasAll (IsBetween h number) desk.actor
 
 abbrev after : {A : Type 0} → Relay → Event A → Reply A → List (Moment A) → List (Moment A)
 after before event reply earlier = record { before = before; event = event; reply = reply } ∷ earlier

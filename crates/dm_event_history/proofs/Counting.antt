@@ -86,7 +86,7 @@ calls_store {A} {C} faults stop Comes actor end plain each acts = grind (arith, 
 abbrev stored_count : Actor LedgerView → ℕ
 stored_count actor = free_count (stored_of actor).free
 
--- by an event that may have saved, or is told to, or that changed the count, just its numbers are gained and lost
+-- where an event may have saved, and tells so or changed the count, just its numbers are gained and lost
 abbrev IsCounted : Bool → Bool → ℕ → ℕ → ℕ → ℕ → Type 0
 IsCounted may told old new gain loss =
     let saved = may && (told || not (old == new)) in

@@ -5,15 +5,9 @@ use Rattle.dm_event_history.specs.declared.event.Event.{Event}
 use Rattle.dm_event_history.specs.declared.reply.Reply.{Reply}
 use Rattle.dm_event_history.specs.declared.stop.Stop.{Stop}
 use Rattle.dm_event_history.specs.Saving.{Stores, leaves_new, may_save, stop_of}
-use Rattle.dm_event_history.specs.Actors.{Actor, Running, Failed, Down}
+use Rattle.dm_event_history.specs.Actors.{Actor, HasAll, Running, Failed, Down}
 use Rattle.dm_event_history.specs.Relay.{Goods}
 use Rattle.dm_event_history.specs.Calls.{Answers, Calls, Course, Ending, Faults, LacksMemory, Looks, MayLackFirst, Restarts, Saves, ends}
-
--- all that it shows and stores is so
-abbrev pub HasAll : (Documents → Type 0) → Actor Documents → Type 0
-HasAll Q (Running held) = Q held
-HasAll Q (Failed shown stored) = Q shown × Q stored
-HasAll Q (Down stored) = Q stored
 
 pub has_map : (P Q : Documents → Type 0) → ((held : Documents) → P held → Q held) → (actor : Actor Documents) →
     HasAll P actor → HasAll Q actor

@@ -24,6 +24,7 @@ use Rattle.dm_assembly_desk.proofs.AddLaws.{page_given}
 use Rattle.dm_event_history.specs.declared.reply.Reply.{Reply}
 use Rattle.dm_event_history.specs.declared.reply.Reply.TheVariants.{Scanned, ScanRefused, Imported}
 use Rattle.dm_event_history.specs.Actors.{Actor, Running}
+use Rattle.dm_event_history.specs.Held.{Has}
 use Rattle.dm_event_history.specs.Calls.{Course}
 use Rattle.dm_event_history.specs.DeskCalls.{MayBe, import_faults, page_reply, scan_course, scan_faults, verdict_course}
 use Rattle.dm_assembly_desk.specs.declared.fault.ForgetFault.{ForgetFault}
@@ -102,9 +103,6 @@ abbrev pub forget_by : Documents → ℕ → Option Pages → Verdict (Result (U
 forget_by held id o = if is_none o then Stays (Err forget_fault.NotHeld) else Becomes (finite.remove held id) (Ok tt)
 
 -- ---- what is held then, page by page
-
-abbrev pub Has : Documents → ℕ → ℕ → Type 0
-Has held id m = IsSome (page_at held id m)
 
 pub no_page : (o : Option (List ℕ)) → IsSome o → o ≡ None → ⊥
 no_page o some none = grind arith

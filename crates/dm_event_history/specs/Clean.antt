@@ -11,7 +11,7 @@ use Rattle.dm_event_history.specs.declared.event.Event.{Event}
 use Rattle.dm_event_history.specs.declared.event.Event.TheVariants.{Scan, Ask, Import}
 use Rattle.dm_event_history.specs.declared.reply.Reply.{Reply}
 use Rattle.dm_event_history.specs.declared.reply.Reply.TheVariants.{Document}
-use Rattle.dm_event_history.specs.Actors.{Actor, Running, Failed, Down}
+use Rattle.dm_event_history.specs.Actors.{Actor, HasAll}
 use Rattle.dm_event_history.specs.Relay.{Relay, Desk, Label, Export}
 use Rattle.dm_event_history.specs.Steps.{Step}
 
@@ -46,9 +46,7 @@ pub record HaveLeft (labels : List Label) (held : Documents) : Type 0 where
 
 -- all that a desk shows and stores is so
 abbrev pub IsCleanActor : List Label → Actor Documents → Type 0
-IsCleanActor labels (Running held) = HaveLeft labels held
-IsCleanActor labels (Failed shown stored) = HaveLeft labels shown × HaveLeft labels stored
-IsCleanActor labels (Down stored) = HaveLeft labels stored
+IsCleanActor labels actor = HasAll (HaveLeft labels) actor
 
 abbrev pub IsClean : Relay → ℕ → Type 0
 IsClean relay number = (desk : Desk) → slice_get relay.desks number ≡ Some desk → IsCleanActor relay.labels desk.actor

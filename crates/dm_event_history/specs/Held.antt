@@ -1,13 +1,15 @@
 -- Which pages a desk surely holds, and which it may hold, by what was asked and answered alone.
 use Rattle.std.specs.Prelude.{◌≡◌, ◌⊎◌, ℕ, true, Some, List, [], ◌∷◌, slice_get, IsSome}
 use Rattle.dm_assembly_desk.specs.Pages.{page}
+use Rattle.dm_assembly_desk.specs.Documents.{Documents, page_at}
 use Rattle.dm_event_history.specs.declared.event.Event.{Event}
 use Rattle.dm_event_history.specs.declared.event.Event.TheVariants.{Scan, Forget, Import}
 use Rattle.dm_event_history.specs.declared.reply.Reply.{Reply}
 use Rattle.dm_event_history.specs.declared.reply.Reply.TheVariants.{Scanned, Forgotten, Imported}
 use Rattle.dm_event_history.specs.Saving.{may_save}
+use Rattle.dm_event_history.specs.Actors.{HasAll}
 use Rattle.dm_event_history.specs.Relay as relays
-use Rattle.dm_event_history.specs.Relay.{Relay, Label}
+use Rattle.dm_event_history.specs.Relay.{Desk, Relay, Label}
 use Rattle.dm_event_history.specs.Runs.{Moment}
 
 -- the label of this number is that of page m of a document
@@ -61,3 +63,17 @@ IsPossiblyHeld [] desk id m = ⊥
 IsPossiblyHeld (moment ∷ earlier) desk id m =
     MayTake moment.before moment.event moment.reply desk id m
     ⊎ ((¬ Forgets moment.event moment.reply desk id) × IsPossiblyHeld earlier desk id m)
+
+-- page m of a document is among these
+abbrev pub Has : Documents → ℕ → ℕ → Type 0
+Has held id m = IsSome (page_at held id m)
+
+-- all that is surely held there is among these, and each of these is possibly held
+pub record IsBetween {A : Type 0} (h : List (Moment A)) (desk : ℕ) (held : Documents) : Type 0 where
+  pub surely : (id m : ℕ) → IsSurelyHeld h desk id m → Has held id m
+  pub possibly : (id m : ℕ) → Has held id m → IsPossiblyHeld h desk id m
+
+-- so it is of all that the desks show and store
+abbrev pub AreBetween : {A : Type 0} → List (Moment A) → Relay → Type 0
+AreBetween h relay = (number : ℕ) (desk : Desk) → slice_get relay.desks number ≡ Some desk →
+    HasAll (IsBetween h number) desk.actor

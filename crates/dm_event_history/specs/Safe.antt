@@ -28,7 +28,7 @@ use Rattle.dm_event_history.specs.Relay.{CutDocument, Desk, Label, Relay, start}
 use Rattle.dm_event_history.specs.Runs.{Moment, IsRun}
 use Rattle.dm_event_history.specs.Places.{AreDisjoint}
 use Rattle.dm_event_history.specs.Headline.{AreSavedFair, IsFairEvent}
-use Rattle.dm_event_history.specs.Held.{IsPossiblyHeld, IsSurelyHeld}
+use Rattle.dm_event_history.specs.Held.{AreBetween, IsPossiblyHeld, IsSurelyHeld}
 
 -- what was printed under an identification, by the labels that left
 abbrev pub docs : List Label → ℕ → Option CutDocument
@@ -188,6 +188,12 @@ IsSafe before known (Import desk number stop) (Imported imported) =
 IsSafe before known (Import desk number stop) (ImportRefused fault) =
     IsImportRefusedSafe before known desk number fault
 IsSafe before known event reply = Unit {0}
+
+-- As long as each scan that may have saved its page was fair, desks show and store all that is surely held there, and
+-- nothing but what is possibly held.
+abbrev pub EachFairDeskIsBetween : Type 0 → Type 0
+EachFairDeskIsBetween A = (ranges : List Range) (rooms : List ℕ) (h : List (Moment A)) (end : Relay) →
+    AreDisjoint ranges → IsRun (start ranges rooms) h end → AreSavedFair h → AreBetween h end
 
 -- As long as each scan that may have saved its page was fair each reply is safe, but that to a scan that is not fair.
 abbrev pub EachFairReplyIsSafe : Type 0 → Type 0

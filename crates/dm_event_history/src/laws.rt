@@ -6,7 +6,7 @@ ghost use Rattle.dm_event_history.specs.Headline.{EachRunIsSound, EachRunIsTrue,
 ghost use Rattle.dm_event_history.specs.Laws.{NothingIsOpenButMemory};
 ghost use Rattle.dm_event_history.specs.Legal.{EachStepIsLegal};
 ghost use Rattle.dm_event_history.specs.Places.{EachStepIsSound, EachStepKeepsNumbers};
-ghost use Rattle.dm_event_history.specs.Safe.{EachFairReplyIsSafe};
+ghost use Rattle.dm_event_history.specs.Safe.{EachFairDeskIsBetween, EachFairReplyIsSafe};
 ghost use Rattle.dm_event_history.specs.Told.{EachExhaustedIsSo, EachFailedFailed, EachRunIsAsTold, EachRunTakesOnce, EachStepIsRefusedSo};
 ghost use Rattle.dm_event_history.specs.Worked.{AreNone, AreRuns};
 
@@ -50,10 +50,11 @@ pub fn headline<A: Allocator>()
     ensures moments { EachRunIsTrue A }
 {}
 
-/// As long as each scan that may have saved its page was fair, each reply but that to a scan that is not fair agrees
-/// with what was printed, and with what was scanned, imported and forgotten at its desk.
+/// As long as each scan that may have saved its page was fair, desks hold what was scanned, imported and forgotten there
+/// tells, and each reply but that to a scan that is not fair agrees with it, and with what was printed.
 pub fn safe_replies<A: Allocator>()
-    ensures { EachFairReplyIsSafe A }
+    ensures held { EachFairDeskIsBetween A }
+    ensures replies { EachFairReplyIsSafe A }
 {}
 
 /// The replies of a run tell which of its printers and desks are down, and which have failed. `Failed` is answered only
