@@ -4,7 +4,7 @@
  *     find-symbols [PICTURE] < PICTURES > IMAGES
  *
  * Pictures are PBM, PGM or PPM, one after another: grey, turned, and a little smoothed, with dark symbols. Each symbol
- * wants two modules of white around it, better four, and four pixels per module. A symbol that is found but can't be
+ * wants four modules of white around it, and four pixels per module. A symbol that is found but can't be
  * sampled is not guessed at: a line on standard error names its place, and the status is 1, as where nothing is found.
  * Large symbols in noise take long: each picture is looked at three times at most, for at most SECONDS each.
  *

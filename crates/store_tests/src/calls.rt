@@ -119,10 +119,10 @@ fn of_set<A: Allocator + Copy>(
     };
     let mut set = FileSet::new(memory, RealDisk::new(memory, files), path);
     match call {
-        Call::LoadKey(limit) => loaded(set.load(1, *limit)),
+        Call::LoadKey(limit) => loaded(StoreSet::load(&mut set, 1, *limit)),
         Call::RemoveKey => removed(set.remove(1)),
         Call::Keys(limit, wanted) => listed(set.keys(*limit), wanted),
-        _ => replaced(set.replace(1, b"three")),
+        _ => replaced(StoreSet::replace(&mut set, 1, b"three")),
     }
 }
 
