@@ -61,6 +61,7 @@ use Rattle.dm_event_history.proofs.Stays.{lone_clean, lone_export, page_in}
 use Rattle.dm_event_history.proofs.Headline.{each_fair_run_is_clean, each_run_is_sound}
 use Rattle.dm_event_history.proofs.Answered.{IsOwn, is_answered, is_looked, is_made}
 use Rattle.dm_event_history.proofs.Told.{AddRefused, add_ended, no_page, own_import, own_scan, scan_told, scan_was_refused, was_wanted}
+use Rattle.dm_event_history.specs.Held.{AreBetween, IsBetween}
 use Rattle.dm_event_history.proofs.Between.{run_between}
 use Rattle.dm_assembly_desk.proofs.LonePages.{lone_here}
 
