@@ -4,6 +4,7 @@
 
 use crate::calls::{Call, Memory, answer, text_of};
 use crate::scripted::{Listed, Scripted, Steps};
+use dm_store::{FileStore, RealDisk, ReplaceFault, Store};
 use std::io::ErrorKind;
 use std::process::Abort;
 use std::test::Fail;
@@ -229,17 +230,17 @@ impl Place<'_> {
     }
 }
 
-// The path of the folder for this test, below the system's folder for temporary files.
-fn path_above(rt: &HostRuntime) -> io::Result<String> {
+// The path of a test's own file or folder, below the system's folder for temporary files.
+fn path_of(rt: &HostRuntime, name: &str) -> io::Result<String> {
     let process = process::id(rt.process());
     let temporary = env::temp_dir(rt)?;
     let temporary = temporary.as_path().as_str();
-    Ok(format!(in rt.alloc(); "{temporary}/store_tests-{process}-above")?)
+    Ok(format!(in rt.alloc(); "{temporary}/store_tests-{process}-{name}")?)
 }
 
 #[test]
 fn each_call_fails_and_is_refused(rt: HostRuntime) -> Result<(), Fail> {
-    let above = path_above(&rt)?;
+    let above = path_of(&rt, "above")?;
     let is_empty = make(&rt, above.as_str(), "", "nothing");
     assert!(rt; is_empty && fs::create_dir(&rt, above.as_str()).is_ok());
     let folder = format!(in rt.alloc(); "{above}/pages")?;
@@ -257,6 +258,21 @@ fn each_call_fails_and_is_refused(rt: HostRuntime) -> Result<(), Fail> {
         assert!(rt; place.refuse_each(&rt, case));
     }
     fs::remove_dir_all(&rt, above.as_str())?;
+    Ok(())
+}
+
+// A file that came to the path of a new one stays, and no draft is left.
+#[test]
+fn a_new_file_takes_the_place_of_nothing(rt: HostRuntime) -> Result<(), Fail> {
+    let path = path_of(&rt, "new")?;
+    let draft = format!(in rt.alloc(); "{path}.new")?;
+    let disk = RealDisk::of_new_files(rt.alloc(), &rt);
+    let mut store = FileStore::new(rt.alloc(), disk, path.clone()?);
+    assert!(rt; store.replace(b"one") == Ok(()));
+    assert!(rt; store.replace(b"three") == Err(ReplaceFault::Device));
+    assert!(rt; held(&rt, path.as_str()) == "one");
+    assert!(rt; held(&rt, draft.as_str()) == "nothing");
+    fs::remove_file(&rt, path.as_str())?;
     Ok(())
 }
 
