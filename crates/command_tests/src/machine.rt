@@ -42,7 +42,7 @@ pub struct MachineDisk<'a> {
 }
 
 impl Disk for MachineDisk<'_> {
-    ghost use Rattle.dm_store.specs.Unclaimed.{unclaimed};
+    ghost use Rattle.dm_store.specs.Disk.{unclaimed};
 
     type Memory = Global;
 

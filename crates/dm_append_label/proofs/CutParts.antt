@@ -10,8 +10,7 @@ use Rattle.dm_check_blocks.specs.Sizes.{data_words}
 use Rattle.dm_encodation.specs.declared.scheme.Scheme.{Scheme}
 use Rattle.dm_encodation.specs.declared.scheme.Scheme.TheVariants.{Ascii, C40, Text, Base256}
 use Rattle.dm_encodation.specs.Written.{IsGreatestPrefix, need_of, text, ascii, run_and_rest, run_length, greatest, base_256}
-use Rattle.dm_append_label.specs.Labels.{Fits}
-use Rattle.dm_append_label.specs.Parts.{AreFullEnds, until_two, parts_from, PartsFit, IsCut, EachCutIs, HasOneCut}
+use Rattle.dm_append_label.specs.Labels.{Fits, AreFullEnds, until_two, parts_from, PartsFit, IsCut, EachCutIs, HasOneCut}
 
 -- ---- each part fits
 

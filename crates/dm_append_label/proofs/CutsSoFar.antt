@@ -2,7 +2,7 @@
 use Rattle.std.proofs.Common.{◌≡◌, ℕ, ◌+◌, ◌-◌, ◌<◌, List, [], ◌∷◌, ◌++◌, length, take, drop, refl, sym, ap, subst, ◌∙◌, append_assoc, length-append, length-drop, arith}
 use Rattle.std.proofs.lemmas.List.{append-nil, take_all}
 use Rattle.dm_encodation.specs.declared.scheme.Scheme.{Scheme}
-use Rattle.dm_append_label.specs.Parts.{AreFullEnds}
+use Rattle.dm_append_label.specs.Labels.{AreFullEnds}
 use Rattle.dm_encodation.specs.Written.{IsGreatestPrefix}
 
 -- The document up to `from` is cut at these ends: ends of the rest complete them to ends of the whole, and all ends of

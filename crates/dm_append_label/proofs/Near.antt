@@ -2,18 +2,14 @@
 -- page.
 use Rattle.std.proofs.Common.{◌≡◌, ℕ, ◌+◌, ◌-◌, ◌*◌, ◌/◌, ◌%◌, ◌≤◌, List, [], ◌∷◌, Result, Ok, Err, take, drop, length, get_or, sym, ap, subst, ◌∙◌, arith, eq-eqb, le-ltb}
 use Rattle.dm_check_blocks.specs.declared.size.Size.{Size}
-use Rattle.dm_check_blocks.specs.Blocks.{IsSymbol}
+use Rattle.dm_check_blocks.specs.Sizes.{IsSymbol}
 use Rattle.dm_encodation.specs.Grammar.{ReadsOnly}
-use Rattle.dm_finder_frame.specs.Grids.{GridView}
-use Rattle.dm_symbol.specs.Correction.{CorrectedView, CorrectsGrid, CorrectsNear, IsCorrectedAs}
-use Rattle.dm_symbol.specs.Symbols.{IsNear, data_of, grid_of_words}
+use Rattle.dm_finder_frame.specs.Frame.{GridView}
+use Rattle.dm_symbol.specs.Correction.{CorrectedView, CorrectsGrid, CorrectsNear, IsCorrectedAs, IsNear, data_of, grid_of_words}
 use Rattle.dm_symbol.specs.declared.fault.SymbolFault.{SymbolFault}
 use Rattle.dm_symbol.specs.declared.fault.SymbolFault.TheVariants as symbol_faults
-use Rattle.dm_append_label.specs.Pages.{PageView}
-use Rattle.dm_append_label.specs.Heads.{HeadView, IsHead, head_at, head_from, head_of, head_words}
-use Rattle.dm_append_label.specs.FaultOrigin.{page_fault, symbol_fault}
-use Rattle.dm_append_label.specs.Labels.{Carries}
-use Rattle.dm_append_label.specs.Opening.{IsPageOf, LabelOpens, Opens, OpensNear, ReadsPage}
+use Rattle.dm_append_label.specs.Labels.{PageView, HeadView, IsHead, head_at, head_from, head_of, head_words, Carries}
+use Rattle.dm_append_label.specs.Opening.{page_fault, symbol_fault, IsPageOf, LabelOpens, Opens, OpensNear, ReadsPage}
 use Rattle.dm_append_label.specs.declared.opening.TheConstants.{MOST_PAGE_BYTES}
 use Rattle.dm_append_label.specs.declared.fault.HeadFault.{HeadFault}
 use Rattle.dm_append_label.specs.declared.fault.HeadFault.TheVariants as head_faults

@@ -3,12 +3,10 @@ use Rattle.std.proofs.Common.{◌≡◌, ℕ, List, take, drop, refl, sym, ap, s
 use Rattle.dm_check_blocks.specs.declared.size.Size.{Size}
 use Rattle.dm_encodation.specs.declared.scheme.Scheme.{Scheme}
 use Rattle.dm_encodation.specs.Grammar.{ReadsOnly}
-use Rattle.dm_finder_frame.specs.Grids.{GridView}
-use Rattle.dm_symbol.specs.Symbols.{DrawsSymbol, data_of, grid_of_words}
-use Rattle.dm_append_label.specs.Pages.{PageView}
-use Rattle.dm_append_label.specs.Heads.{HeadView, head_of}
-use Rattle.dm_append_label.specs.Labels.{Carries, Seals}
-use Rattle.dm_append_label.specs.inner.SealedData.{IsDataOf}
+use Rattle.dm_finder_frame.specs.Frame.{GridView}
+use Rattle.dm_symbol.specs.Correction.{DrawsSymbol, data_of, grid_of_words}
+use Rattle.dm_append_label.specs.Labels.{PageView, HeadView, head_of, Carries, Seals}
+use Rattle.dm_append_label.specs.inner.ReadHeads.{IsDataOf}
 
 -- the head of a page, by its parts
 pub same_head : (page : PageView) (m n id : ℕ) → m ≡ page.m → n ≡ page.n → id ≡ page.id

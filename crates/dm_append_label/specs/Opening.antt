@@ -1,26 +1,25 @@
 -- What a grid opens as. Each refusal is the first, in this order, that applies: the finder patterns, the blocks, the
 -- head, and the text after it (ISO/IEC 16022:2006, 5.6 and 5.7, Annexes A, E and F; how many modules of the finder
 -- patterns may be wrong is this project's own rule).
-use Rattle.std.specs.Prelude.{◌≡◌, ℕ, ◌≤◌, List, length, drop, Result, Ok, Err, IfOk}
-use Rattle.dm_gf256.specs.Polynomial.{differ}
+use Rattle.std.specs.Prelude.{◌≡◌, ℕ, ◌≤◌, List, length, drop, Result, Ok, Err, IfOk, codes}
+use Rattle.dm_gf256.specs.Field.{differ}
 use Rattle.dm_encodation.specs.Grammar.{ReadsOnly, StuckOnly}
 use Rattle.dm_encodation.specs.declared.fault.DecodeFault.{DecodeFault}
-use Rattle.dm_finder_frame.specs.Frame.{wrong_frame_modules}
-use Rattle.dm_finder_frame.specs.Grids.{GridView}
-use Rattle.dm_finder_frame.specs.UnframeOutcome.{HasGoodFrame, HasBadFrame}
-use Rattle.dm_symbol.specs.Correction.{HasBadBlock, IsReadAs}
-use Rattle.dm_symbol.specs.Symbols.{IsNear, data_of, words_of_grid}
-use Rattle.dm_append_label.specs.Pages.{PageView}
-use Rattle.dm_append_label.specs.Heads.{HeadView, head_of, head_at}
-use Rattle.dm_append_label.specs.Labels.{Carries}
+use Rattle.dm_finder_frame.specs.Frame.{wrong_frame_modules, GridView, HasGoodFrame, HasBadFrame}
+use Rattle.dm_symbol.specs.Correction.{HasBadBlock, IsReadAs, IsNear, data_of, words_of_grid}
+use Rattle.dm_append_label.specs.Labels.{PageView, HeadView, head_of, head_at, Carries}
 use Rattle.dm_append_label.specs.declared.opening.TheConstants.{MOST_PAGE_BYTES}
 use Rattle.dm_append_label.specs.declared.fault.HeadFault.{HeadFault}
-use Rattle.dm_append_label.specs.declared.fault.HeadFault.TheVariants as head_faults
 use Rattle.dm_append_label.specs.declared.fault.PageFault.{PageFault}
-use Rattle.dm_append_label.specs.declared.fault.PageFault.TheVariants as page_faults
 use Rattle.dm_append_label.specs.declared.fault.LabelFault.{LabelFault}
-use Rattle.dm_append_label.specs.declared.fault.LabelFault.TheVariants as faults
 use Rattle.dm_append_label.specs.declared.opening.Opened.{Opened}
+use Rattle.dm_symbol.specs.declared.fault.SymbolFault.{SymbolFault}
+use Rattle.dm_encodation.specs.Faults.{decode_fault_name}
+use Rattle.dm_append_label.specs.declared.fault.LabelFault.TheVariants.{Border, Block, NotAppended, Sequence, FileId, Content, Memory}
+use Rattle.dm_append_label.specs.declared.fault.HeadFault.TheVariants as head_faults
+use Rattle.dm_append_label.specs.declared.fault.PageFault.TheVariants as page_faults
+use Rattle.dm_append_label.specs.declared.fault.LabelFault.TheVariants as faults
+use Rattle.dm_symbol.specs.declared.fault.SymbolFault.TheVariants as symbol_faults
 
 -- ---- data words
 
@@ -87,3 +86,31 @@ pub record LabelOpens {A : Type 0} (grid : GridView) (result : Result (Opened A)
   pub opens : Opens grid result
   pub near : (label : GridView) (page : PageView) → Carries page label → IsNear grid label → OpensNear page result
   pub short : IfOk result (λ opened. length opened.page.bytes ≤ MOST_PAGE_BYTES)
+
+-- ---- Which fault of a label a fault of its symbol or of its page is.
+
+abbrev pub symbol_fault : SymbolFault → LabelFault
+symbol_fault (symbol_faults.Border wrong) = faults.Border wrong
+symbol_fault (symbol_faults.Block block) = faults.Block block
+symbol_fault symbol_faults.Memory = faults.Memory
+
+abbrev pub head_fault : HeadFault → LabelFault
+head_fault head_faults.NotAppended = faults.NotAppended
+head_fault (head_faults.Sequence word) = faults.Sequence word
+head_fault head_faults.FileId = faults.FileId
+
+abbrev pub page_fault : PageFault → LabelFault
+page_fault (page_faults.Head fault) = head_fault fault
+page_fault (page_faults.Content fault) = faults.Content fault
+page_fault page_faults.Memory = faults.Memory
+
+-- ---- The names of the faults of labels, as they are printed: each is that of its innermost fault.
+
+abbrev pub label_fault_name : LabelFault → List ℕ
+label_fault_name (Border wrong) = codes "Border"
+label_fault_name (Block block) = codes "Block"
+label_fault_name NotAppended = codes "NotAppended"
+label_fault_name (Sequence word) = codes "Sequence"
+label_fault_name FileId = codes "FileId"
+label_fault_name (Content fault) = decode_fault_name fault
+label_fault_name Memory = codes "Memory"

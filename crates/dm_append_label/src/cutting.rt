@@ -1,7 +1,7 @@
 //! A document cut into the parts of its labels.
 
 ghost use Rattle.std.specs.Prelude.{◌≡◌, ◌≤◌, length, IfOk, OnErr};
-ghost use Rattle.dm_append_label.specs.Parts.{AreEnds, HasNoEnds, IsCut, until_two};
+ghost use Rattle.dm_append_label.specs.Labels.{AreEnds, HasNoEnds, IsCut, until_two};
 
 use crate::head::HEAD_WORDS;
 use crate::laws::parts_of_a_document;

@@ -23,7 +23,7 @@ impl Model for FileId {
 
 impl FileId {
     ghost use Rattle.std.specs.Prelude.{◌≡◌, ◌<◌, [], ◌∷◌, IfSome, IsSome, ◌↔◌};
-    ghost use Rattle.dm_append_label.specs.Pages.{id_words, IsIdWord};
+    ghost use Rattle.dm_append_label.specs.Labels.{id_words, IsIdWord};
 
     /// The identification of a number from 0 to 64,515.
     pub fn of_number(number: u16) -> Option<FileId>

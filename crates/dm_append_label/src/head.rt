@@ -1,7 +1,7 @@
 //! Heads of labels, written and read.
 
 ghost use Rattle.std.specs.Prelude.{◌≡◌, ◌≤◌, ◌<◌, length, IfOk};
-ghost use Rattle.dm_append_label.specs.Heads.{IsHead, head_at, head_from, head_words};
+ghost use Rattle.dm_append_label.specs.Labels.{IsHead, head_at, head_from, head_words};
 ghost use Rattle.dm_append_label.specs.inner.ReadHeads.{ReadsHead, view_of};
 
 use crate::fault::HeadFault;

@@ -2,7 +2,7 @@
 
 ghost use Rattle.std.specs.Prelude.{◌≡◌};
 ghost use Rattle.std.specs.Ordering.{nat_cmp};
-ghost use Rattle.dm_append_label.specs.Parts.{EachCutIs, HasOneCut};
+ghost use Rattle.dm_append_label.specs.Labels.{EachCutIs, HasOneCut};
 
 use crate::file_id::FileId;
 use crate::opening::MOST_PAGE_BYTES;

@@ -1,7 +1,7 @@
 //! From a grid to a page.
 
 ghost use Rattle.std.specs.Prelude.{◌≡◌, ◌≤◌, length, IfOk};
-ghost use Rattle.dm_symbol.specs.Symbols.{data_of};
+ghost use Rattle.dm_symbol.specs.Correction.{data_of};
 ghost use Rattle.dm_append_label.specs.Opening.{LabelOpens, Opens, ReadsPage};
 
 use crate::fault::{LabelFault, PageFault};

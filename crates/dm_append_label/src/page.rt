@@ -15,7 +15,7 @@ pub struct Page<A: Allocator = Global> {
 
 impl<A: Allocator> Model for Page<A> {
     ghost use Rattle.std.specs.Prelude.{◌≤◌};
-    ghost use Rattle.dm_append_label.specs.Pages.{PageView};
+    ghost use Rattle.dm_append_label.specs.Labels.{PageView};
 
     ghost Value = { PageView };
 

@@ -2,7 +2,7 @@
 
 ghost use Rattle.std.specs.Prelude.{IfOk, IsErrOf, ◌↔◌};
 ghost use Rattle.dm_append_label.specs.Labels.{Carries, IsTooLong, Seals};
-ghost use Rattle.dm_append_label.specs.inner.SealedData.{IsDataOf};
+ghost use Rattle.dm_append_label.specs.inner.ReadHeads.{IsDataOf};
 ghost use Rattle.dm_append_label.specs.declared.fault.SealFault.TheVariants.{TooLong};
 
 use crate::fault::SealFault;

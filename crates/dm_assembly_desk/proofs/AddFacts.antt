@@ -5,8 +5,7 @@ use Rattle.std.specs.Prelude.{is_none, is_some}
 use Rattle.std.specs.Option.{option_or}
 use Rattle.std.proofs.lemmas.Bool.{and_parts}
 use Rattle.std.proofs.lemmas.Slice.Eq.{bytes_eq-Decides}
-use Rattle.dm_assembly_desk.specs.Pages.{Pages, page, names}
-use Rattle.dm_assembly_desk.specs.Merging.{union_of, added_mask, agrees_at, agree}
+use Rattle.dm_assembly_desk.specs.Documents.{Pages, page, names, union_of, added_mask, agrees_at, agree}
 use Rattle.dm_assembly_desk.proofs.Masks.{half, odd, none_named, names_mask}
 
 and_none : (b : Bool) → (b && false) ≡ false

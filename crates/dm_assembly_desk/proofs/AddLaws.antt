@@ -7,13 +7,8 @@ use Rattle.std.specs.Option.{option_or}
 use Rattle.std.specs.Ordering.{nat_cmp, eq_by_cmp}
 use Rattle.std.specs.FinMap.{get, len, get-insert}
 use Rattle.dm_store.specs.Saved.{Outcome}
-use Rattle.dm_assembly_desk.specs.Pages.{Pages, page, mask}
-use Rattle.dm_assembly_desk.specs.Files.{IsEntry, IsShort}
-use Rattle.dm_assembly_desk.specs.Documents.{Documents, AreEntries, own_pages, page_at, KeepsPages}
-use Rattle.dm_assembly_desk.specs.Views.{DeskView}
-use Rattle.dm_assembly_desk.specs.Merging.{union_of, added_mask}
-use Rattle.dm_assembly_desk.specs.Holding.{Carries, Ends, answer_by}
-use Rattle.dm_assembly_desk.specs.Adding.{add_kind, pages_with, with_pages, reply_of, verdict_by, Adds}
+use Rattle.dm_assembly_desk.specs.Documents.{Pages, page, mask, IsEntry, IsShort, Documents, AreEntries, own_pages, page_at, KeepsPages, DeskView, union_of, added_mask}
+use Rattle.dm_assembly_desk.specs.Adding.{Carries, Ends, answer_by, add_kind, pages_with, with_pages, reply_of, verdict_by, Adds}
 use Rattle.dm_assembly_desk.specs.declared.reply.Kind.{Kind}
 use Rattle.dm_assembly_desk.specs.declared.reply.Kind.TheVariants.{New, Again, Complete}
 use Rattle.dm_assembly_desk.specs.declared.reply.Imported.{Imported}

@@ -7,11 +7,10 @@ use Rattle.std.specs.Ordering.{nat_cmp}
 use Rattle.std.specs.declared.cmp.Ordering.TheVariants.{Less}
 use Rattle.std.specs.FinMap.{entries, keys, empty, len, len-entries, len-empty, same_entries_map}
 use Rattle.std.proofs.lemmas.List.{take_all, length-take}
-use Rattle.dm_store.specs.Sets.{Contents}
-use Rattle.dm_assembly_desk.specs.Pages.{Pages}
-use Rattle.dm_assembly_desk.specs.Documents.{Documents}
-use Rattle.dm_assembly_desk.specs.JointFiles.{entries_of, joint_file, SpellsAll, HoldsJointFile, IsOfOtherJointVersion, HasJointFileFault}
-use Rattle.dm_assembly_desk.specs.inner.ReadingJoint.{entries_at}
+use Rattle.dm_store.specs.Saved.{Contents}
+use Rattle.dm_assembly_desk.specs.Documents.{Pages, Documents}
+use Rattle.dm_assembly_desk.specs.Opening.{entries_of, joint_file, SpellsAll, HoldsJointFile, IsOfOtherJointVersion, HasJointFileFault}
+use Rattle.dm_assembly_desk.specs.inner.Reading.{entries_at}
 use Rattle.dm_assembly_desk.specs.declared.fault.MoveFault.{MoveFault}
 use Rattle.dm_assembly_desk.specs.declared.fault.MoveFault.TheVariants.{NotPages, Version, Damaged, Device, Memory}
 use Rattle.dm_assembly_desk.proofs.FileLaws.{all_taken, four_of, fifth_of}
@@ -88,7 +87,7 @@ one_old bytes a b s t =
     let lb : length (joint_file b) ≤ 42636295 = omega (arith, t.short, ap (λ (bs : List ℕ). length bs) t.spelled) in
     let read : (len a, entries_of (entries a)) ≡ (len b, entries_of (entries b)) =
     pair_is _ _ (sym (old_again a s.entries la) ∙
-    ap Rattle.dm_assembly_desk.specs.inner.ReadingJoint.joint_file_at same ∙ old_again b t.entries lb) in
+    ap Rattle.dm_assembly_desk.specs.inner.Reading.joint_file_at same ∙ old_again b t.entries lb) in
     let all : Some (entries a) ≡ Some (entries b) = sym (reads_held a bytes s) ∙
     ap (λ (x : ℕ × List ℕ). entries_at x.0 0 x.1) read ∙ reads_held b bytes t in
     same_entries_map a b (entries_is (entries a) (entries b) all)

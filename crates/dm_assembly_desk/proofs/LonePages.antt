@@ -2,10 +2,9 @@
 use Rattle.std.proofs.Common.{◌≡◌, ℕ, zero, suc, ◌-◌, ◌<◌, ◌≤◌, List, [], ◌∷◌, length, map, take, Bor, Option, Some, None, refl, ap, arith, replicate}
 use Rattle.std.specs.Prelude.{◌≢◌, slice_set}
 use Rattle.std.specs.List.{AllByRecursion}
-use Rattle.dm_append_label.specs.Pages.{PageView}
-use Rattle.dm_assembly_desk.specs.Pages.{Pages, page, lent_bytes, mask}
-use Rattle.dm_assembly_desk.specs.Files.{IsEntry, IsShort}
-use Rattle.dm_assembly_desk.specs.Accepting.{lone}
+use Rattle.dm_append_label.specs.Labels.{PageView}
+use Rattle.dm_assembly_desk.specs.Documents.{Pages, page, lent_bytes, mask, IsEntry, IsShort}
+use Rattle.dm_assembly_desk.specs.Adding.{lone}
 
 blanks : (n k : ℕ) → n ≤ k → map lent_bytes (take n (replicate k None)) ≡ replicate n None
 blanks zero k le = refl

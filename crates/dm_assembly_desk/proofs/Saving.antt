@@ -4,16 +4,12 @@ use Rattle.std.specs.Prelude.{option_map, IsTrue, IsSome, is_some}
 use Rattle.std.specs.Ordering.{nat_cmp, eq_by_cmp}
 use Rattle.std.specs.Cmp.{nat_cmp_total}
 use Rattle.std.specs.FinMap.{get, insert, remove, len, get-insert, get-remove, len-insert, len-remove}
-use Rattle.dm_store.specs.Saved.{SavePlan, SavesFine, FaultOld, FaultNew, SavesOpen, Outcome, Done, Faulted, Refused, HeldAfterFault, outcome_of, Saves}
-use Rattle.dm_store.specs.Sets.{SavedSet, Contents, SavesKey, RemovesKey, outcome_of_remove}
+use Rattle.dm_store.specs.Saved.{SavePlan, SavesFine, FaultOld, FaultNew, SavesOpen, Outcome, Done, Faulted, Refused, HeldAfterFault, outcome_of, Saves, SavedSet, Contents, SavesKey, RemovesKey, outcome_of_remove}
 use Rattle.dm_store.specs.declared.set.RemoveFault.{RemoveFault}
 use Rattle.dm_store.specs.declared.set.RemoveFault.TheVariants as removing
 use Rattle.dm_store.specs.declared.store.ReplaceFault.{ReplaceFault}
-use Rattle.dm_assembly_desk.specs.Pages.{Pages}
-use Rattle.dm_assembly_desk.specs.Files.{IsEntry, file}
-use Rattle.dm_assembly_desk.specs.Documents.{Documents, AreEntries, HoldsFiles}
-use Rattle.dm_assembly_desk.specs.Views.{DeskView, IsInOrder}
-use Rattle.dm_assembly_desk.specs.Holding.{SavesDocument, shown, Ends}
+use Rattle.dm_assembly_desk.specs.Documents.{Pages, IsEntry, file, Documents, AreEntries, HoldsFiles, DeskView, IsInOrder}
+use Rattle.dm_assembly_desk.specs.Adding.{SavesDocument, shown, Ends}
 use Rattle.dm_assembly_desk.proofs.Loading.{itself, same_key, entries_insert}
 use Rattle.dm_assembly_desk.proofs.Undoing.{get_here}
 

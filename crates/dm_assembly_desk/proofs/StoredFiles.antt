@@ -6,14 +6,10 @@ use Rattle.std.specs.Cmp.{nat_cmp_total}
 use Rattle.std.specs.List.Sorted.{IsStrictlySortedBy}
 use Rattle.std.specs.Map.{keys_of}
 use Rattle.std.specs.FinMap.{entries, len, find, get-entries, get-from_entries, len-entries, same_map, nat_cmp-IsAntisymmetric}
-use Rattle.dm_store.specs.Saved.{LoadsFine, LoadsOpen}
-use Rattle.dm_store.specs.Sets.{SavedSet, Contents}
+use Rattle.dm_store.specs.Saved.{LoadsFine, LoadsOpen, SavedSet, Contents}
 use Rattle.dm_store.proofs.SortedMaps.{as_map, len_is}
-use Rattle.dm_assembly_desk.specs.Pages.{Pages}
-use Rattle.dm_assembly_desk.specs.Files.{IsEntry, file, HasFileFault}
-use Rattle.dm_assembly_desk.specs.Documents.{Documents, HoldsFiles}
+use Rattle.dm_assembly_desk.specs.Documents.{Pages, IsEntry, file, HasFileFault, Documents, HoldsFiles, IsCapacity}
 use Rattle.dm_assembly_desk.specs.Opening.{FirstFault, HasDeskFault}
-use Rattle.dm_assembly_desk.specs.Views.{IsCapacity}
 use Rattle.dm_assembly_desk.specs.declared.file.FileFault.{FileFault}
 use Rattle.dm_assembly_desk.specs.declared.file.FileFault.TheVariants.{NotPages, Version, Damaged}
 use Rattle.dm_assembly_desk.specs.declared.fault.DeskFault.{DeskFault}

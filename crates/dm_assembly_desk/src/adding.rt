@@ -5,13 +5,10 @@ ghost use Rattle.std.specs.Prelude.{map as each};
 ghost use Rattle.std.specs.Prelude.{◌≡◌, ◌≤◌, ◌<◌, false, None, [], length, unwrap_or, IfOk, OnOk, OnErr};
 ghost use Rattle.std.specs.FinMap as map;
 ghost use Rattle.std.specs.Option.{option_copied};
-ghost use Rattle.dm_store.specs.Saved.{outcome_of};
-ghost use Rattle.dm_store.specs.Sets.{SavesKey};
-ghost use Rattle.dm_assembly_desk.specs.Pages.{lent_bytes};
-ghost use Rattle.dm_assembly_desk.specs.Files.{file, IsEntry};
-ghost use Rattle.dm_assembly_desk.specs.Merging.{union_of};
+ghost use Rattle.dm_store.specs.Saved.{outcome_of, SavesKey};
+ghost use Rattle.dm_assembly_desk.specs.Documents.{lent_bytes, file, IsEntry, union_of};
 ghost use Rattle.dm_assembly_desk.specs.Adding.{kind_of, add_kind};
-ghost use Rattle.dm_assembly_desk.specs.FaultOrigin.{keep_fault};
+ghost use Rattle.dm_assembly_desk.specs.Faults.{keep_fault};
 
 use crate::desk::Desk;
 use crate::document::Document;
@@ -50,8 +47,8 @@ impl From<ReplaceFault> for AddFault {
 
 impl<S: StoreSet, A: Allocator + Copy> Desk<S, A> {
     ghost use Rattle.dm_assembly_desk.specs.Adding.{Adds};
-    ghost use Rattle.dm_assembly_desk.specs.Holding.{Ends};
-    ghost use Rattle.dm_assembly_desk.specs.Views.{IsInOrder};
+    ghost use Rattle.dm_assembly_desk.specs.Adding.{Ends};
+    ghost use Rattle.dm_assembly_desk.specs.Documents.{IsInOrder};
 
     /// Answers the pages of a document, and holds and saves at once those that were not held. Where that fails, what
     /// was held is held.

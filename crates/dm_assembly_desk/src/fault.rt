@@ -1,7 +1,7 @@
 //! Why a desk refuses, each with its name as it is printed.
 
 ghost use Rattle.std.specs.Prelude.{◌≡◌};
-ghost use Rattle.dm_assembly_desk.specs.FaultOrigin.{scan_fault, scan_fault_of, import_fault, import_fault_of, desk_fault_of, load_fault, save_fault};
+ghost use Rattle.dm_assembly_desk.specs.Faults.{scan_fault, scan_fault_of, import_fault, import_fault_of, desk_fault_of, load_fault, save_fault};
 
 use crate::adding::AddFault;
 use crate::file::FileFault;
@@ -197,7 +197,7 @@ impl From<FileFault> for ImportFault {
 }
 
 impl DeskFault {
-    ghost use Rattle.dm_assembly_desk.specs.FaultNames.{desk_fault_name};
+    ghost use Rattle.dm_assembly_desk.specs.Faults.{desk_fault_name};
 
     /// The variant's name.
     pub fn name(self) -> &'static str
@@ -216,7 +216,7 @@ impl DeskFault {
 }
 
 impl ScanFault {
-    ghost use Rattle.dm_assembly_desk.specs.FaultNames.{scan_fault_name};
+    ghost use Rattle.dm_assembly_desk.specs.Faults.{scan_fault_name};
 
     /// The variant's name, and for `Label` that of the label's fault.
     pub fn name(self) -> &'static str
@@ -234,7 +234,7 @@ impl ScanFault {
 }
 
 impl AskFault {
-    ghost use Rattle.dm_assembly_desk.specs.FaultNames.{ask_fault_name};
+    ghost use Rattle.dm_assembly_desk.specs.Faults.{ask_fault_name};
 
     /// The variant's name.
     pub fn name(self) -> &'static str
@@ -249,7 +249,7 @@ impl AskFault {
 }
 
 impl ForgetFault {
-    ghost use Rattle.dm_assembly_desk.specs.FaultNames.{forget_fault_name};
+    ghost use Rattle.dm_assembly_desk.specs.Faults.{forget_fault_name};
 
     /// The variant's name.
     pub fn name(self) -> &'static str
@@ -265,7 +265,7 @@ impl ForgetFault {
 }
 
 impl ExportFault {
-    ghost use Rattle.dm_assembly_desk.specs.FaultNames.{export_fault_name};
+    ghost use Rattle.dm_assembly_desk.specs.Faults.{export_fault_name};
 
     /// The variant's name.
     pub fn name(self) -> &'static str
@@ -279,7 +279,7 @@ impl ExportFault {
 }
 
 impl ImportFault {
-    ghost use Rattle.dm_assembly_desk.specs.FaultNames.{import_fault_name};
+    ghost use Rattle.dm_assembly_desk.specs.Faults.{import_fault_name};
 
     /// The variant's name.
     pub fn name(self) -> &'static str
@@ -299,7 +299,7 @@ impl ImportFault {
 }
 
 impl MoveFault {
-    ghost use Rattle.dm_assembly_desk.specs.FaultNames.{move_fault_name};
+    ghost use Rattle.dm_assembly_desk.specs.Faults.{move_fault_name};
 
     /// The variant's name.
     pub fn name(self) -> &'static str

@@ -11,14 +11,13 @@ use borrow.Rule.Slice.PartMut.{put_mid}
 use Rattle.std.specs.List.{All, slice_range}
 use Rattle.std.specs.Int.Bits.{bit_xor, xor_zero_r}
 use Rattle.std.proofs.lemmas.Nat.{xor_comm, xor_lt}
-use Rattle.dm_gf256.specs.Field.{plain, reduced, product, power}
-use Rattle.dm_gf256.specs.Polynomial.{value, IsBlockWord}
+use Rattle.dm_gf256.specs.Field.{plain, reduced, product, power, value, IsBlockWord}
 use Rattle.dm_gf256.proofs.TablesByComputing.{all_below}
 use Rattle.dm_gf256.proofs.Linear.{product-xor_l}
 use Rattle.dm_gf256.proofs.LoopSteps.{double_low}
 use Rattle.dm_gf256.proofs.Ring.{all_below-at, product_assoc, product_byte, product-zero_r, one-product, power_byte, power-add}
 use Rattle.dm_gf256.proofs.Divide.{value-add_scaled, value-append, xor_solve, add_scaled-by_places}
-use Rattle.dm_check_blocks.specs.inner.Division.{row_at, IsDivided}
+use Rattle.dm_check_blocks.specs.inner.Remainders.{row_at, IsDivided}
 use Rattle.dm_check_blocks.proofs.Remainders.{zeros_value, whole}
 
 -- an even multiple is twice that by the half

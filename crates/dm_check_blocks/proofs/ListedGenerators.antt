@@ -3,8 +3,7 @@
 use Rattle.std.proofs.Common.{◌≡◌, ℕ, zero, suc, ◌<◌, ◌≤◌, refl, ◌∙◌, ap, arith, List, [], ◌∷◌, ◌++◌, length, ⊎_elim}
 use Rattle.std.proofs.lemmas.Bool.{cases_lt}
 use Rattle.std.specs.Int.Bits.{bit_xor, xor_self}
-use Rattle.dm_gf256.specs.Field.{product, power, plain, reduced}
-use Rattle.dm_gf256.specs.Polynomial.{value, add_scaled, IsBlockWord}
+use Rattle.dm_gf256.specs.Field.{product, power, plain, reduced, value, add_scaled, IsBlockWord}
 use Rattle.dm_gf256.proofs.Ring.{product-zero_l, product-zero_r}
 use Rattle.dm_gf256.proofs.Divide.{value-times_root}
 use Rattle.dm_check_blocks.specs.inner.Remainders.{IsGenerator}

@@ -1,7 +1,7 @@
 -- There is one block word with a given message.
 use Rattle.std.proofs.Common.{◌≡◌, ℕ, ◌+◌, ◌≤◌, refl, sym, ◌∙◌, arith, List, [], ◌∷◌, ◌++◌, length, length-append}
 use Rattle.std.proofs.Common.{Bool, true, false, cond, eqb, eq-eqb}
-use Rattle.dm_gf256.specs.Polynomial.{differ, IsBlockWord}
+use Rattle.dm_gf256.specs.Field.{differ, IsBlockWord}
 use Rattle.dm_gf256.proofs.OneBlockWord.{one_block_word}
 use Rattle.dm_gf256.proofs.Vanish.{Bytes}
 use Rattle.std.proofs.lemmas.List.{append_cancel_left}

@@ -1,8 +1,7 @@
 -- The remainder of a message by the generator polynomial, by its value at a root.
 use Rattle.std.proofs.Common.{◌≡◌, ℕ, zero, suc, ◌+◌, ◌-◌, ◌<◌, ◌≤◌, refl, sym, ◌∙◌, ap, arith, List, [], ◌∷◌, ◌++◌, length, get_or, set, take, drop}
 use Rattle.std.specs.Int.Bits.{bit_xor}
-use Rattle.dm_gf256.specs.Field.{product, power}
-use Rattle.dm_gf256.specs.Polynomial.{value, add_scaled}
+use Rattle.dm_gf256.specs.Field.{product, power, value, add_scaled}
 use Rattle.std.specs.Int.Bits.{xor_self}
 use Rattle.std.proofs.lemmas.List.{take_more, take_all}
 use Rattle.dm_gf256.proofs.Linear.{product-xor_l}

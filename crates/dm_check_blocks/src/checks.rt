@@ -2,7 +2,7 @@
 
 ghost use Rattle.std.specs.Prelude.{◌≡◌, ◌<◌, ◌≤◌, ◌+◌, ℕ, List, length, ◌++◌, ◌∷◌};
 ghost use Rattle.std.specs.List.{All};
-ghost use Rattle.dm_gf256.specs.Polynomial.{IsBlockWord};
+ghost use Rattle.dm_gf256.specs.Field.{IsBlockWord};
 ghost use Rattle.dm_check_blocks.specs.inner.Remainders.{IsGenerator, AddsWord};
 
 use crate::generator::MOST_CHECKS;

@@ -1,8 +1,7 @@
 //! Generator polynomials.
 
 ghost use Rattle.std.specs.Prelude.{◌≡◌, ◌≤◌, ◌+◌, ℕ, length, take, slice_index};
-ghost use Rattle.dm_gf256.specs.Field.{power};
-ghost use Rattle.dm_gf256.specs.Polynomial.{value};
+ghost use Rattle.dm_gf256.specs.Field.{power, value};
 
 use dm_gf256::{Gf, add_multiple};
 

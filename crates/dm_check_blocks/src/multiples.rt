@@ -9,8 +9,7 @@ ghost use Rattle.std.specs.Int.Bits.{bit_xor};
 ghost use Rattle.dm_gf256.specs.Field.{product};
 ghost use Rattle.dm_check_blocks.specs.declared.generator.TheConstants.{MOST_CHECKS};
 ghost use Rattle.dm_check_blocks.specs.declared.multiples.TheConstants.{ROW_WORDS};
-ghost use Rattle.dm_check_blocks.specs.inner.Division.{row_at, IsDivided};
-ghost use Rattle.dm_check_blocks.specs.inner.Remainders.{IsGenerator, IsStep, AreMultiples};
+ghost use Rattle.dm_check_blocks.specs.inner.Remainders.{row_at, IsDivided, IsGenerator, IsStep, AreMultiples};
 
 use crate::generator::{MOST_CHECKS, coefficients_of};
 use crate::listed::listed;

@@ -5,15 +5,14 @@ use Rattle.std.proofs.lemmas.List.Elements.{All-get_or, All-from_get_or, recursi
 use Rattle.std.specs.List.{All}
 use Rattle.std.specs.Int.Bits.{bit_xor}
 use Rattle.std.proofs.lemmas.Nat.{xor_comm}
-use Rattle.dm_gf256.specs.Field.{power, product}
-use Rattle.dm_gf256.specs.Polynomial.{add_scaled, value, IsBlockWord}
+use Rattle.dm_gf256.specs.Field.{power, product, add_scaled, value, IsBlockWord}
 use Rattle.dm_gf256.proofs.Divide.{length-add_scaled, value-add_scaled, value-append, xor_solve}
 use Rattle.dm_gf256.proofs.OneBlockWord.{one_block_word}
 use Rattle.dm_gf256.proofs.Ring.{one-product, power_byte, product_byte}
 use Rattle.dm_check_blocks.proofs.DivisionSteps.{zeros_at}
 use Rattle.dm_check_blocks.proofs.OneCompletion.{differ_most}
 use Rattle.dm_check_blocks.proofs.Remainders.{zeros_value}
-use Rattle.dm_corrector.specs.inner.Remainders.{IsRemainder}
+use Rattle.dm_corrector.specs.inner.Polynomials.{IsRemainder}
 
 -- a remainder with the values of a block at the generator polynomial's roots is zero exactly for a block word
 zero_remainder : (c : ℕ) (rest block : List ℕ) → c ≤ 255 → length rest ≡ c → All (λ word. word < 256) rest →

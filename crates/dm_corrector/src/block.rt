@@ -2,10 +2,9 @@
 
 ghost use Rattle.std.specs.Prelude.{◌≡◌, ◌<◌, ◌≤◌, ◌-◌, ◌↔◌, ℕ, List, length, take, IfOk, IsTrue, OnOk, OnErr};
 ghost use Rattle.std.specs.List.{All};
-ghost use Rattle.dm_gf256.specs.Polynomial.{differ, IsBlockWord};
-ghost use Rattle.dm_corrector.specs.Corrections.{Corrects};
-ghost use Rattle.dm_corrector.specs.inner.Endings.{EndsCorrection};
-ghost use Rattle.dm_corrector.specs.inner.Remainders.{IsRemainder};
+ghost use Rattle.dm_gf256.specs.Field.{differ, IsBlockWord};
+ghost use Rattle.dm_corrector.specs.Symbols.{Corrects};
+ghost use Rattle.dm_corrector.specs.inner.Polynomials.{EndsCorrection, IsRemainder};
 
 use crate::elements::is_zero;
 use crate::error_values::take_out;

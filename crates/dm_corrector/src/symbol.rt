@@ -1,12 +1,10 @@
 //! Correction of a whole symbol, block by block.
 
 ghost use Rattle.std.specs.Prelude.{◌≡◌, ◌≢◌, ◌<◌, ◌+◌, ◌*◌, ◌%◌, ℕ, List, length, slice_index, take, IfOk, IfErr, OnOk, OnErr};
-ghost use Rattle.dm_gf256.specs.Polynomial.{differ, IsBlockWord};
-ghost use Rattle.dm_check_blocks.specs.Sizes.{all_words, blocks, block_checks, block_data};
-ghost use Rattle.dm_check_blocks.specs.Blocks.{block_of, IsSymbol};
-ghost use Rattle.dm_corrector.specs.Corrections.{Corrects};
-ghost use Rattle.dm_corrector.specs.Symbols.{CorrectsSymbol, IsFirstFaulty};
-ghost use Rattle.dm_corrector.specs.inner.Scattering.{AddsDifferences};
+ghost use Rattle.dm_gf256.specs.Field.{differ, IsBlockWord};
+ghost use Rattle.dm_check_blocks.specs.Sizes.{all_words, blocks, block_checks, block_data, block_of, IsSymbol};
+ghost use Rattle.dm_corrector.specs.Symbols.{Corrects, CorrectsSymbol, IsFirstFaulty};
+ghost use Rattle.dm_corrector.specs.inner.Polynomials.{AddsDifferences};
 
 use crate::block::{Uncorrectable, correct_completed};
 use crate::massey::Massey;

@@ -5,10 +5,8 @@ use Rattle.std.specs.Char.{is_ascii_digit}
 use Rattle.std.proofs.lemmas.Bool.{lt-ltb, le-ltb}
 use Rattle.std.proofs.lemmas.List.{append-nil, drop_more}
 use Rattle.dm_encodation.specs.Written.{ascii_byte, ascii}
-use Rattle.dm_encodation.specs.inner.Pieces.{has_digits}
-use Rattle.dm_encodation.specs.inner.Pairs.{AreBetween, word_of, words_of_pairs}
+use Rattle.dm_encodation.specs.inner.Counting.{has_digits, AreBetween, word_of, words_of_pairs, has_lone_digit, CountsAscii}
 use Rattle.dm_encodation.specs.declared.counter.AsciiCounter.{AsciiCounter}
-use Rattle.dm_encodation.specs.inner.Counting.{has_lone_digit, CountsAscii}
 
 -- what the test says of the first two bytes
 pub record BeginsWithDigits (bytes : List ℕ) : Type 0 where

@@ -5,8 +5,7 @@ use Rattle.std.proofs.lemmas.Bool.{cases_lt, eqb-true, le-leb, lt-leb, ne_eqb}
 use Rattle.std.proofs.lemmas.List.{append-nil, length-append, nil_from_length}
 use Rattle.dm_encodation.specs.inner.Counting.{base_256_need}
 use Rattle.dm_encodation.specs.Grammar
-use Rattle.dm_encodation.specs.Grammar.{IsLength, Reads}
-use Rattle.dm_encodation.specs.Words.{randomised}
+use Rattle.dm_encodation.specs.Grammar.{IsLength, Reads, randomised}
 use Rattle.dm_encodation.specs.Written.{length_words, base_256}
 use Rattle.dm_encodation.proofs.ReadsToReading.{length-randomised, randomised-append}
 

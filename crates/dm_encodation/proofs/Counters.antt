@@ -2,8 +2,7 @@
 use Rattle.std.proofs.Common.{◌≡◌, ℕ, zero, suc, ◌+◌, ◌*◌, ◌<◌, ◌≤◌, ◌^◌, List, [], length, drop, refl, arith}
 use Rattle.std.proofs.lemmas.Bool.{cases_lt, leb-false, lt-leb, ne_eqb, cond_both}
 use Rattle.std.proofs.lemmas.List.{length-append, length-take-le, length-drop}
-use Rattle.dm_encodation.specs.inner.Pairs.{AreBetween, words_of_pairs}
-use Rattle.dm_encodation.specs.inner.Counting.{Counts, CountsRun, IsSmall, IsSmallRun, base_256_need, run_need}
+use Rattle.dm_encodation.specs.inner.Counting.{AreBetween, words_of_pairs, Counts, CountsRun, IsSmall, IsSmallRun, base_256_need, run_need}
 use Rattle.dm_encodation.specs.declared.counter.AsciiCounter.{AsciiCounter}
 use Rattle.dm_encodation.specs.declared.counter.RunCounter.{RunCounter}
 use Rattle.dm_encodation.specs.declared.counter.Counter.{Counter}

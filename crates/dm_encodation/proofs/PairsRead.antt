@@ -1,7 +1,7 @@
 -- Words of two digits each are read as their digits, and leave the reader in ASCII.
 use Rattle.std.proofs.Common.{◌≡◌, ℕ, zero, suc, ◌+◌, ◌-◌, ◌≤◌, List, ◌++◌, length, get_or, drop, Ok, subst, arith}
 use Rattle.dm_encodation.specs.declared.mode.Mode.TheVariants.{Ascii}
-use Rattle.dm_encodation.specs.inner.Pairs.{ArePairs, digits_of, digits_from}
+use Rattle.dm_encodation.specs.inner.Counting.{ArePairs, digits_of, digits_from}
 use Rattle.dm_encodation.specs.inner.Reading.{prepend, reading, step, ascii_step}
 use Rattle.dm_encodation.proofs.DecodeLoopSteps.{goes_on}
 

@@ -10,10 +10,8 @@ use Rattle.dm_encodation.specs.declared.mode.Pending.{Pending}
 use Rattle.dm_encodation.specs.declared.mode.Mode.{Mode}
 use Rattle.dm_encodation.specs.declared.mode.Mode.TheVariants.{Ascii, Upper, Run, Half, Length, LongLength, Bytes, Rest, Padded}
 use Rattle.dm_encodation.specs.declared.fault.DecodeFault.TheVariants.{Reserved}
-use Rattle.dm_encodation.specs.Characters.{Triple, IsTriple, triple_values, pair}
-use Rattle.dm_encodation.specs.Words.{state_255, randomised}
+use Rattle.dm_encodation.specs.Grammar.{Triple, IsTriple, triple_values, pair, state_255, randomised, latch, IsLength, EndsOpen, Segment, Reads}
 use Rattle.dm_encodation.specs.Grammar
-use Rattle.dm_encodation.specs.Grammar.{latch, IsLength, EndsOpen, Segment, Reads}
 use Rattle.dm_encodation.specs.inner.Reading.{◌>>=◌, prepend, Stepped, Valued, no_pending, upper_step, at_pair, pair_step, values_step, value_255, bytes_left, step, ended, finish, reading}
 use Rattle.dm_encodation.proofs.AsciiStepCases.{AsciiStep, ascii_view}
 use Rattle.dm_encodation.proofs.ReadsToReading.{bind_ok, ok_is, values_joined, randomised-append, length-randomised}

@@ -11,10 +11,8 @@ use Rattle.dm_encodation.specs.declared.mode.Mode.TheVariants.{Ascii, Run, Lengt
 use Rattle.dm_encodation.specs.declared.mode.ValueFault.{ValueFault}
 use Rattle.dm_encodation.specs.declared.mode.ValueFault.TheVariants.{Fnc1, Missing}
 use Rattle.dm_encodation.specs.declared.fault.DecodeFault.{DecodeFault}
-use Rattle.dm_encodation.specs.Characters.{Triple, IsTriple, triple_values, pair, IsMeaningless}
-use Rattle.dm_encodation.specs.Words.{state_255}
+use Rattle.dm_encodation.specs.Grammar.{Triple, IsTriple, triple_values, pair, IsMeaningless, state_255, latch, IsLength, EndsOpen, Segment, Reads, IsUnsupported, BadPair, StuckHere, Stuck}
 use Rattle.dm_encodation.specs.Grammar
-use Rattle.dm_encodation.specs.Grammar.{latch, IsLength, EndsOpen, Segment, Reads, IsUnsupported, BadPair, StuckHere, Stuck}
 use Rattle.dm_encodation.specs.inner.Reading.{◌>>=◌, prepend, Stepped, Valued, no_pending, value_step, ascii_step, upper_step, at_pair, pair_step, values_step, value_255, step, ended, finish, reading}
 use Rattle.dm_encodation.proofs.AsciiStepCases.{AsciiStep, ascii_view}
 use Rattle.dm_encodation.proofs.ReadsToReading.{chars_step, values_joined}

@@ -11,11 +11,9 @@ use Rattle.dm_encodation.specs.declared.mode.Pending.{Pending}
 use Rattle.dm_encodation.specs.declared.mode.Mode.{Mode}
 use Rattle.dm_encodation.specs.declared.mode.Mode.TheVariants.{Ascii, Upper, Run, Half, Length, LongLength, Bytes, Rest, Padded}
 use Rattle.dm_encodation.specs.declared.fault.DecodeFault.{DecodeFault}
-use Rattle.dm_encodation.specs.Characters
-use Rattle.dm_encodation.specs.Characters.{values_below_128, Unfinished, values_of, Triple, IsTriple, triple_values, pair, Chars, IsMeaningless, IsFnc1}
-use Rattle.dm_encodation.specs.Words.{state_255, randomised}
 use Rattle.dm_encodation.specs.Grammar
-use Rattle.dm_encodation.specs.Grammar.{latch, IsLength, EndsOpen, Segment, Reads, IsUnsupported, StuckHere, Stuck}
+use Rattle.dm_encodation.specs.Grammar.{values_below_128, Unfinished, values_of, Triple, IsTriple, triple_values, pair, Chars, IsMeaningless, IsFnc1, state_255, randomised, latch, IsLength, EndsOpen, Segment, Reads, IsUnsupported, StuckHere, Stuck}
+use Rattle.dm_encodation.specs.Grammar
 use Rattle.dm_encodation.proofs.AsciiStepCases.{AsciiStep, ascii_view}
 use Rattle.dm_encodation.specs.inner.Reading.{◌>>=◌, prepend, Stepped, no_pending, ascii_step, upper_step, byte_in, value_step, values_step, Valued, at_pair, pair_step, value_255, bytes_left, step, ended, finish, reading}
 

@@ -5,13 +5,11 @@ use Rattle.std.specs.Char.{is_ascii_digit}
 use Rattle.std.proofs.lemmas.Bool.{and_parts, leb-true, lt-ltb, le-ltb, cases_lt, cond_both}
 use Rattle.std.proofs.lemmas.List.{append-nil, get_or-drop}
 use Rattle.dm_encodation.specs.declared.mode.Mode.TheVariants.{Ascii}
-use Rattle.dm_encodation.specs.Words.{pads, later_pads, state_253}
+use Rattle.dm_encodation.specs.Grammar.{pads, later_pads, state_253, Segment, Reads, Stuck, StuckHere, BadPair, StuckOnly, ReadsOnly, Triple}
 use Rattle.dm_encodation.specs.Written.{ascii_byte, ascii}
 use Rattle.dm_encodation.specs.Grammar
-use Rattle.dm_encodation.specs.Grammar.{Segment, Reads, Stuck, StuckHere, BadPair, StuckOnly, ReadsOnly}
 use Rattle.dm_encodation.specs.inner.Reading.{reading}
 use Rattle.dm_encodation.specs.declared.letters.Letters.{Letters}
-use Rattle.dm_encodation.specs.Characters.{Triple}
 use Rattle.dm_encodation.specs.declared.fault.DecodeFault.{DecodeFault}
 use Rattle.dm_encodation.specs.declared.fault.DecodeFault.TheVariants.{Memory}
 use Rattle.dm_encodation.proofs.ReadsToReading.{complete, ok_is}

@@ -4,9 +4,9 @@ use Rattle.std.specs.List.{flat_map}
 use Rattle.std.proofs.lemmas.List.{append-nil, take_all}
 use Rattle.dm_encodation.specs.declared.letters.Letters.{Letters}
 use Rattle.dm_encodation.specs.declared.run.Held.{Held}
-use Rattle.dm_encodation.specs.Characters.{values_of}
+use Rattle.dm_encodation.specs.Grammar.{values_of}
 use Rattle.dm_encodation.specs.Written.{pairs}
-use Rattle.dm_encodation.specs.inner.Runs.{held_values}
+use Rattle.dm_encodation.specs.inner.Counting.{held_values}
 
 -- values that wait are no pair
 pairs_held : (h : Held) → pairs (held_values h ++ []) ≡ []

@@ -5,11 +5,9 @@ use Rattle.std.specs.List.{flat_map, AllByRecursion, list_all}
 use Rattle.std.proofs.lemmas.Bool.{ltb-true, cond_both, lt-ltb, eq-eqb, ne_eqb, leb-false, agree_below, agree_below_at, and_parts}
 use Rattle.std.proofs.lemmas.List.{append-nil, length-drop, take_all, take-append-drop}
 use Rattle.dm_encodation.specs.declared.letters.Letters.{Letters}
-use Rattle.dm_encodation.specs.Characters
-use Rattle.dm_encodation.specs.Characters.{Triple, IsTriple, triple_values, pair, Chars, values_below_128, values_of}
-use Rattle.dm_encodation.specs.Words.{pads}
 use Rattle.dm_encodation.specs.Grammar
-use Rattle.dm_encodation.specs.Grammar.{latch, EndsOpen, Segment, Reads}
+use Rattle.dm_encodation.specs.Grammar.{Triple, IsTriple, triple_values, pair, Chars, values_below_128, values_of, pads, latch, EndsOpen, Segment, Reads}
+use Rattle.dm_encodation.specs.Grammar
 use Rattle.dm_encodation.specs.Written.{ascii, run_length, is_whole_run, pairs, words_after_run, run_and_rest, words_after_text}
 use Rattle.dm_encodation.proofs.Reread.{ascii_read, pads_read}
 use Rattle.dm_encodation.proofs.RunWords.{run_within, run_passes}

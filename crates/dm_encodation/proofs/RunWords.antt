@@ -5,11 +5,10 @@ use Rattle.std.specs.List.{flat_map}
 use Rattle.std.proofs.lemmas.Bool.{eqb-true, eq-eqb, ne_eqb, cond_both}
 use Rattle.std.proofs.lemmas.List.{append-nil, length-append, length_push, length-take-le, length-drop, take_more, take_all, drop_all, take-append-le, drop-append-le}
 use Rattle.std.proofs.lemmas.List.Concat.{flat_map-append}
-use Rattle.dm_encodation.specs.Characters.{values_below_128, values_of}
+use Rattle.dm_encodation.specs.Grammar.{values_below_128, values_of, latch}
 use Rattle.dm_encodation.specs.inner.Counting.{CountsAscii, CountsRun, run_need}
 use Rattle.dm_encodation.specs.declared.counter.RunCounter.{RunCounter}
 use Rattle.dm_encodation.specs.declared.letters.Letters.{Letters}
-use Rattle.dm_encodation.specs.Grammar.{latch}
 use Rattle.dm_encodation.specs.Written.{ascii, greatest, run_length, pairs, words_after_run, run_and_rest}
 use Rattle.dm_encodation.proofs.AsciiWords.{some_ascii, length-ascii}
 

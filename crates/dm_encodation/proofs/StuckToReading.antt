@@ -13,11 +13,9 @@ use Rattle.dm_encodation.specs.declared.mode.ValueFault.{ValueFault}
 use Rattle.dm_encodation.specs.declared.mode.ValueFault.TheVariants.{Fnc1, Missing}
 use Rattle.dm_encodation.specs.declared.fault.DecodeFault.{DecodeFault}
 use Rattle.dm_encodation.specs.declared.fault.DecodeFault.TheVariants.{Unsupported, Reserved, Cut}
-use Rattle.dm_encodation.specs.Characters
-use Rattle.dm_encodation.specs.Characters.{Unfinished, Triple, IsTriple, triple_values, pair, Chars, IsMeaningless, IsFnc1}
-use Rattle.dm_encodation.specs.Words.{state_255, randomised}
 use Rattle.dm_encodation.specs.Grammar
-use Rattle.dm_encodation.specs.Grammar.{latch, IsLength, EndsOpen, Segment, Reads, IsUnsupported, BadPair, StuckHere, Stuck}
+use Rattle.dm_encodation.specs.Grammar.{Unfinished, Triple, IsTriple, triple_values, pair, Chars, IsMeaningless, IsFnc1, state_255, randomised, latch, IsLength, EndsOpen, Segment, Reads, IsUnsupported, BadPair, StuckHere, Stuck}
+use Rattle.dm_encodation.specs.Grammar
 use Rattle.dm_encodation.specs.inner.Reading.{◌>>=◌, prepend, Stepped, Valued, no_pending, value_step, ascii_step, upper_step, at_pair, pair_step, values_step, bytes_left, step, finish, reading}
 use Rattle.dm_encodation.proofs.AsciiStepCases.{AsciiStep, ascii_view}
 use Rattle.dm_encodation.proofs.ReadsToReading.{bind_ok, ok_is, reading_silent, complete_segment, length_read, run_read, chars_step, characters_read, pair_is, step_latch, value_255-state_255, values_joined, splits}

@@ -3,13 +3,11 @@
 use Rattle.std.specs.Prelude.{ℕ, zero, suc, ◌+◌, ◌-◌, ◌*◌, ◌/◌, ◌%◌, ◌≤◌, List, [], ◌∷◌, ◌++◌, length, take, drop, Bool, false, ◌&&◌, ◌==◌, nat_lt, nat_le, if◌then◌else◌}
 use Rattle.std.specs.Char.{is_ascii_digit}
 use Rattle.std.specs.List.{flat_map}
-use Rattle.dm_encodation.specs.Characters.{values_of}
-use Rattle.dm_encodation.specs.Grammar.{latch}
+use Rattle.dm_encodation.specs.Grammar.{values_of, latch, randomised, pads}
 use Rattle.dm_encodation.specs.declared.letters.Letters.{Letters}
 use Rattle.dm_encodation.specs.declared.letters.Letters.TheVariants.{Capital, Small}
 use Rattle.dm_encodation.specs.declared.scheme.Scheme.{Scheme}
 use Rattle.dm_encodation.specs.declared.scheme.Scheme.TheVariants.{Ascii, C40, Text, Base256}
-use Rattle.dm_encodation.specs.Words.{randomised, pads}
 
 -- one byte alone
 abbrev pub ascii_byte : ℕ → List ℕ

@@ -1,8 +1,7 @@
 //! The words of a text in ASCII encodation.
 
 ghost use Rattle.std.specs.Prelude.{◌≡◌, ◌+◌, ◌*◌, ◌<◌, ◌≤◌, ◌++◌, [], length, MatchOption, IfOk, IfSome, OnOk};
-ghost use Rattle.dm_encodation.specs.inner.Pairs.{AreBetween, words_of_pairs};
-ghost use Rattle.dm_encodation.specs.inner.Pieces.{piece_words, has_digits, IsPiece};
+ghost use Rattle.dm_encodation.specs.inner.Counting.{AreBetween, words_of_pairs, piece_words, has_digits, IsPiece};
 ghost use Rattle.dm_encodation.specs.Written.{ascii};
 
 use crate::between::between_end;

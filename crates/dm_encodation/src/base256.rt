@@ -1,7 +1,7 @@
 //! The words of a text in Base 256 encodation.
 
 ghost use Rattle.std.specs.Prelude.{◌≡◌, ◌+◌, ◌<◌, ◌≤◌, ◌^◌, ◌++◌, length, OnOk, vec_len};
-ghost use Rattle.dm_encodation.specs.Words.{state_255, randomised};
+ghost use Rattle.dm_encodation.specs.Grammar.{state_255, randomised};
 ghost use Rattle.dm_encodation.specs.Written.{base_256, length_words};
 
 use std::alloc::{AllocError, Allocator};

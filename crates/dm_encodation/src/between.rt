@@ -1,7 +1,7 @@
 //! The bytes between two bounds that stand one after another.
 
 ghost use Rattle.std.specs.Prelude.{◌≡◌, ◌+◌, ◌≤◌, length, true};
-ghost use Rattle.dm_encodation.specs.inner.Pairs.{AreBetween};
+ghost use Rattle.dm_encodation.specs.inner.Counting.{AreBetween};
 
 // The number of bytes that are looked at together.
 const TOGETHER: usize = 16;

@@ -1,7 +1,7 @@
 //! The characters of C40 and Text, by the values that spell them.
 
 ghost use Rattle.std.specs.Prelude.{◌≡◌, ◌<◌, ◌≤◌, ◌++◌, ◌∷◌, [], length, IfSome};
-ghost use Rattle.dm_encodation.specs.Characters.{values_of, values_below_128};
+ghost use Rattle.dm_encodation.specs.Grammar.{values_of, values_below_128};
 ghost use Rattle.dm_encodation.specs.inner.Reading;
 ghost use Rattle.dm_encodation.specs.inner.StepViews.{option_bytes};
 

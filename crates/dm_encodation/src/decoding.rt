@@ -3,7 +3,7 @@
 ghost use Rattle.std.specs.Prelude.{◌≡◌, ◌≢◌, ◌+◌, ◌-◌, ◌*◌, ◌≤◌, ◌++◌};
 ghost use Rattle.std.specs.Prelude.{ℕ, List, length, drop, Ok, IfOk, IfErr, OnOk, IsErrOf};
 ghost use Rattle.dm_encodation.specs.Grammar.{ReadsOnly, StuckOnly};
-ghost use Rattle.dm_encodation.specs.inner.Pairs.{ArePairs, digits_from};
+ghost use Rattle.dm_encodation.specs.inner.Counting.{ArePairs, digits_from};
 ghost use Rattle.dm_encodation.specs.inner.Reading.{reading};
 ghost use Rattle.dm_encodation.specs.inner.StepViews.{bytes_of, Checks, Fails};
 ghost use Rattle.dm_encodation.specs.declared.fault.DecodeFault.TheVariants.{Memory};

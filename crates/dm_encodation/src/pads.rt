@@ -1,7 +1,7 @@
 //! The pads after a text.
 
 ghost use Rattle.std.specs.Prelude.{◌≡◌, ◌+◌, ◌-◌, ◌<◌, ◌^◌, ◌++◌, OnOk, vec_len};
-ghost use Rattle.dm_encodation.specs.Words.{pads, state_253};
+ghost use Rattle.dm_encodation.specs.Grammar.{pads, state_253};
 ghost use Rattle.dm_encodation.specs.Written.{words_after_text};
 
 use std::alloc::{AllocError, Allocator};

@@ -2,9 +2,8 @@
 
 ghost use Rattle.std.specs.Prelude.{◌≡◌, ◌<◌, ◌≤◌, ◌++◌, ◌∷◌, [], length, OnOk, IfOk};
 ghost use Rattle.std.specs.List.{flat_map};
-ghost use Rattle.dm_encodation.specs.Characters.{values_of, values_below_128};
-ghost use Rattle.dm_encodation.specs.Grammar.{latch};
-ghost use Rattle.dm_encodation.specs.inner.Runs.{AreValues, Writes};
+ghost use Rattle.dm_encodation.specs.Grammar.{values_of, values_below_128, latch};
+ghost use Rattle.dm_encodation.specs.inner.Counting.{AreValues, Writes};
 ghost use Rattle.dm_encodation.specs.Written.{pairs, run_length, run_and_rest, is_whole_run};
 
 use crate::ascii::push_ascii;

@@ -2,13 +2,9 @@
 use Rattle.std.proofs.Common.{◌≡◌, ◌≢◌, ◌⊎◌, ◌≤◌, ℕ, zero, suc, ◌&&◌, leb, true, false, Option, Some, None, Result, Ok, Err, List, [], ◌∷◌, length, IsSome, refl, ap, sym, ◌∙◌, arith, eq-eqb}
 use Rattle.std.specs.Prelude.{is_none, is_some}
 use Rattle.std.specs.FinMap.{get, len}
-use Rattle.dm_append_label.specs.Pages.{PageView}
-use Rattle.dm_assembly_desk.specs.Accepting.{lone}
-use Rattle.dm_assembly_desk.specs.Adding.{add_kind, add_verdict, reply_of, with_pages}
-use Rattle.dm_assembly_desk.specs.Holding.{Verdict, Stays, Becomes}
-use Rattle.dm_assembly_desk.specs.Documents.{Documents, own_pages, page_at}
-use Rattle.dm_assembly_desk.specs.Merging.{added_mask, may_join}
-use Rattle.dm_assembly_desk.specs.Pages.{Pages, mask, names, page}
+use Rattle.dm_append_label.specs.Labels.{PageView}
+use Rattle.dm_assembly_desk.specs.Adding.{lone, add_kind, add_verdict, reply_of, with_pages, Verdict, Stays, Becomes}
+use Rattle.dm_assembly_desk.specs.Documents.{Documents, own_pages, page_at, added_mask, may_join, Pages, mask, names, page}
 use Rattle.dm_assembly_desk.specs.declared.adding.AddFault.{AddFault}
 use Rattle.dm_assembly_desk.specs.declared.adding.AddFault.TheVariants as adds
 use Rattle.dm_assembly_desk.specs.declared.reply.Imported as imported_type

@@ -1,10 +1,10 @@
 -- As long as each scan that may have saved is fair, all desks and all exports are clean.
 use Rattle.std.proofs.Common.{arith, ◌≡◌, inl, inr, ℕ, Some, true, Result, List, [], ◌++◌, length, slice_get, sym, ap, subst, ◌∙◌}
-use Rattle.dm_finder_frame.specs.Grids.{flipped}
+use Rattle.dm_finder_frame.specs.Frame.{flipped}
 use Rattle.dm_check_blocks.specs.declared.size.Size.{Size}
 use Rattle.dm_encodation.specs.declared.scheme.Scheme.{Scheme}
 use Rattle.dm_print_ledger.specs.declared.range.Range.{Range}
-use Rattle.dm_print_ledger.specs.Views.{LedgerView, TicketView}
+use Rattle.dm_print_ledger.specs.Ledger.{LedgerView, TicketView}
 use Rattle.dm_assembly_desk.specs.Documents.{Documents}
 use Rattle.dm_event_history.specs.declared.event.Event.{Event}
 use Rattle.dm_event_history.specs.declared.event.Event.TheVariants.{Print, Scan, RestartPrinter, RestartDesk, Ask, Forget, Give, Take, Export, Import}
@@ -13,18 +13,13 @@ use Rattle.dm_event_history.proofs.Gotten.{in_either, set_at}
 use Rattle.dm_append_label.specs.declared.opening.Opened.{Opened}
 use Rattle.dm_append_label.specs.declared.fault.LabelFault.{LabelFault}
 use Rattle.dm_event_history.specs.declared.stop.Stop.{Stop}
-use Rattle.dm_event_history.specs.Saving.{may_save}
+use Rattle.dm_event_history.specs.Steps.{may_save, Acts, DeskGoes, IsNamed, PrinterGoes, Step}
 use Rattle.dm_event_history.proofs.Deciding.{decided, true_false}
 use Rattle.dm_event_history.proofs.Having.{CourseHas, calls_have, may_lack_has}
-use Rattle.dm_event_history.specs.Actors.{Actor, HasAll, Running}
+use Rattle.dm_event_history.specs.Relay.{Actor, HasAll, Running, Desk, Goods, Label, Relay}
 use Rattle.dm_event_history.specs.Relay as relays
-use Rattle.dm_event_history.specs.Relay.{Desk, Goods, Label, Relay}
-use Rattle.dm_event_history.specs.Calls.{Calls, Course, Ending, Looks, MayLackFirst, ends}
-use Rattle.dm_event_history.specs.PrinterCalls.{GiveComes, PrintComes, TakeComes}
-use Rattle.dm_event_history.specs.DeskCalls.{ExportTells, MayBe, ScanComes, scan_course, scan_faults}
-use Rattle.dm_event_history.specs.Steps.{Acts, DeskGoes, IsNamed, PrinterGoes, Step}
-use Rattle.dm_event_history.specs.Clean.{ArePrinted, HaveLeft, IsClean, IsCleanActor, IsCleanExport, IsHarmless}
-use Rattle.dm_event_history.specs.Headline.{AreAllClean, IsFairEvent}
+use Rattle.dm_event_history.specs.Calls.{Calls, Course, Ending, Looks, MayLackFirst, ends, GiveComes, PrintComes, TakeComes, ExportTells, MayBe, ScanComes, scan_course, scan_faults}
+use Rattle.dm_event_history.specs.Headline.{ArePrinted, HaveLeft, IsClean, IsCleanActor, IsCleanExport, IsHarmless, AreAllClean, IsFairEvent}
 use Rattle.dm_event_history.proofs.LeavingGoods.{IsClosed, Leaves, OfCourse, calls_leave, may_lack_leaves, restarts_leave}
 use Rattle.dm_event_history.proofs.DeskGoods.{ask_leaves, forget_leaves, import_leaves, scan_leaves}
 use Rattle.dm_event_history.proofs.Stays.{actor_more, each_step_keeps_clean, more_left, more_pages}

@@ -6,8 +6,7 @@ use Rattle.dm_event_history.specs.declared.reply.Reply.TheVariants as replies
 use Rattle.dm_event_history.specs.declared.stop.Stop.{Stop}
 use Rattle.dm_event_history.specs.declared.stop.Stop.TheVariants as stops
 use Rattle.dm_event_history.specs.declared.stop.Stop.TheVariants.{InSave, SaveFault, AfterLabels}
-use Rattle.dm_event_history.specs.Actors.{Actor, Running, Failed, Down, shown_of}
-use Rattle.dm_event_history.specs.Relay.{Goods}
+use Rattle.dm_event_history.specs.Relay.{Actor, Running, Failed, Down, shown_of, Goods}
 use Rattle.dm_event_history.specs.Calls.{Answers, Calls, Course, Ending, Faults, LacksMemory, Looks, MayLackFirst, Reaches, Saves, ends}
 
 -- the reply is one that a call comes to, and none of a call that is stopped, down or failed or lacks memory

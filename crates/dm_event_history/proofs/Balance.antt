@@ -5,10 +5,8 @@ use Rattle.dm_check_blocks.specs.declared.size.Size.{Size}
 use Rattle.dm_encodation.specs.declared.scheme.Scheme.{Scheme}
 use Rattle.dm_store.specs.declared.fuse.Kept.TheVariants.{Old, New}
 use Rattle.dm_print_ledger.specs.declared.range.Range.{Range}
-use Rattle.dm_print_ledger.specs.Ranges.{is_free}
-use Rattle.dm_print_ledger.specs.Views.{LedgerView, TicketView}
-use Rattle.dm_print_ledger.specs.Changes.{least, single}
-use Rattle.dm_print_ledger.specs.Verdicts.{ticket_of}
+use Rattle.dm_print_ledger.specs.Ledger.{is_free, LedgerView, TicketView}
+use Rattle.dm_print_ledger.specs.Verdicts.{least, single, ticket_of}
 use Rattle.dm_event_history.specs.declared.stop.Stop.{Stop}
 use Rattle.dm_event_history.specs.declared.stop.Stop.TheVariants as stops
 use Rattle.dm_event_history.specs.declared.stop.Stop.TheVariants.{InSave, SaveFault, AfterLabels}
@@ -16,11 +14,9 @@ use Rattle.dm_event_history.specs.declared.reply.Reply.{Reply}
 use Rattle.dm_event_history.proofs.Deciding.{decided}
 use Rattle.dm_event_history.proofs.Gotten.{get_more, set_at}
 use Rattle.dm_event_history.proofs.LedgerFacts.{LosesNumbers, give_loses, made_print}
-use Rattle.dm_event_history.specs.Actors.{Actor, Running, Failed, Down, stored_of}
-use Rattle.dm_event_history.specs.Relay.{Goods, Label, Relay, Used, nothing, with_printer}
-use Rattle.dm_event_history.specs.Calls.{Answers, Calls, Course, Ending, Faults, LacksMemory, MayLackFirst, Reaches, Restarts, Saves, cut_off, ends}
-use Rattle.dm_event_history.specs.PrinterCalls.{GiveComes, PrintComes}
-use Rattle.dm_event_history.specs.Places.{IsInOrder, gone, is_taken, one_if, places}
+use Rattle.dm_event_history.specs.Relay.{Actor, Running, Failed, Down, stored_of, Goods, Label, Relay, Used, nothing, with_printer}
+use Rattle.dm_event_history.specs.Calls.{Answers, Calls, Course, Ending, Faults, LacksMemory, MayLackFirst, Reaches, Restarts, Saves, cut_off, ends, GiveComes, PrintComes}
+use Rattle.dm_event_history.specs.Headline.{IsInOrder, gone, is_taken, one_if, places}
 use Rattle.dm_event_history.proofs.Numbers.{all_in, free_set, gone_lost, gone_more, lost_takes_none, on_more, on_new, on_same, taken_same}
 use Rattle.dm_event_history.proofs.Reaching.{reached, reaches}
 

@@ -5,18 +5,12 @@ use Rattle.std.specs.FinMap as finite
 use Rattle.std.specs.FinMap.{get-empty}
 use Rattle.std.specs.Ordering.{nat_cmp}
 use Rattle.dm_print_ledger.specs.declared.range.Range.{Range}
-use Rattle.dm_print_ledger.specs.Ranges.{is_in}
-use Rattle.dm_print_ledger.specs.Views.{LedgerView}
-use Rattle.dm_assembly_desk.specs.Pages.{Pages, page}
-use Rattle.dm_assembly_desk.specs.Documents.{Documents, page_at}
-use Rattle.dm_event_history.specs.Places.{AreDisjoint, IsApart}
+use Rattle.dm_print_ledger.specs.Ledger.{is_in, LedgerView}
+use Rattle.dm_assembly_desk.specs.Documents.{Pages, page, Documents, page_at}
+use Rattle.dm_event_history.specs.Headline.{AreDisjoint, IsApart, ArePrinted, HaveLeft, AreAllClean, IsSound, free_at, one_if, opened}
 use Rattle.dm_event_history.proofs.Deciding.{decided}
 use Rattle.dm_event_history.proofs.Opened.{apart_of}
-use Rattle.dm_event_history.specs.Actors.{Actor, Running, stored_of}
-use Rattle.dm_event_history.specs.Relay.{Desk, Label, empty_desk, fresh_from, start}
-use Rattle.dm_event_history.specs.Clean.{ArePrinted, HaveLeft}
-use Rattle.dm_event_history.specs.Headline.{AreAllClean}
-use Rattle.dm_event_history.specs.Places.{IsSound, free_at, one_if, opened}
+use Rattle.dm_event_history.specs.Relay.{Actor, Running, stored_of, Desk, Label, empty_desk, fresh_from, start}
 use Rattle.dm_event_history.proofs.Told.{page_none}
 
 -- ---- numbers

@@ -2,7 +2,7 @@
 -- it may hold.
 use Rattle.std.proofs.Common.{◌≡◌, ◌≢◌, ◌⊎◌, ◌<◌, inl, inr, true, ℕ, length, arith, Some, Ok, Result, List, [], ◌∷◌, slice_get, IsSome, refl, sym, ap, subst, ◌∙◌}
 use Rattle.std.specs.FinMap as finite
-use Rattle.dm_append_label.specs.Heads.{IsHead, head_of}
+use Rattle.dm_append_label.specs.Labels.{IsHead, head_of}
 use Rattle.dm_append_label.specs.Opening.{LabelOpens, OpensNear}
 use Rattle.dm_append_label.specs.declared.opening.Opened.{Opened}
 use Rattle.dm_append_label.specs.declared.fault.LabelFault.{LabelFault}
@@ -11,11 +11,9 @@ use Rattle.dm_assembly_desk.specs.declared.reply.Accepted.{Accepted}
 use Rattle.dm_assembly_desk.specs.declared.reply.Imported as imported_type
 use Rattle.dm_assembly_desk.specs.declared.reply.Kind.{Kind}
 use Rattle.dm_assembly_desk.specs.declared.reply.Kind.TheVariants as kinds
-use Rattle.dm_assembly_desk.specs.Pages.{Pages, page}
-use Rattle.dm_assembly_desk.specs.Documents.{Documents}
-use Rattle.dm_assembly_desk.specs.Accepting.{lone}
-use Rattle.dm_assembly_desk.specs.Adding.{with_pages, add_kind}
-use Rattle.dm_finder_frame.specs.Grids.{flipped}
+use Rattle.dm_assembly_desk.specs.Documents.{Pages, page, Documents}
+use Rattle.dm_assembly_desk.specs.Adding.{lone, with_pages, add_kind}
+use Rattle.dm_finder_frame.specs.Frame.{flipped}
 use Rattle.dm_print_ledger.specs.declared.range.Range.{Range}
 use Rattle.dm_event_history.specs.declared.event.Event.{Event}
 use Rattle.dm_event_history.specs.declared.event.Event.TheVariants.{Scan, RestartDesk, Ask, Forget, Export, Import}
@@ -23,18 +21,12 @@ use Rattle.dm_event_history.specs.declared.reply.Reply.{Reply}
 use Rattle.dm_event_history.specs.declared.reply.Reply.TheVariants.{Scanned, Imported}
 use Rattle.dm_event_history.specs.declared.reply.Reply.TheVariants as replies
 use Rattle.dm_event_history.specs.declared.stop.Stop.{Stop}
-use Rattle.dm_event_history.specs.Saving.{may_save}
-use Rattle.dm_event_history.specs.Actors.{Actor, HasAll, Running}
+use Rattle.dm_event_history.specs.Steps.{may_save, Acts, DeskGoes, HasModules, IsNamed, Step, Moment, IsRun, PrinterAt, actor_of}
+use Rattle.dm_event_history.specs.Relay.{Actor, HasAll, Running, Desk, Label, Relay, start, nothing}
 use Rattle.dm_event_history.specs.Relay as relays
-use Rattle.dm_event_history.specs.Relay.{Desk, Label, Relay, start, nothing}
-use Rattle.dm_event_history.specs.Calls.{Calls, Course, Ending, Faults, Looks, MayLackFirst, ends}
-use Rattle.dm_event_history.specs.DeskCalls.{AskTells, ExportTells, ForgetComes, ImportComes, ScanComes, forget_faults, import_faults, scan_course, scan_faults, page_reply}
-use Rattle.dm_event_history.specs.Steps.{Acts, DeskGoes, HasModules, IsNamed, Step}
-use Rattle.dm_event_history.specs.Runs.{Moment, IsRun}
-use Rattle.dm_event_history.specs.Clean.{ArePrinted}
-use Rattle.dm_event_history.specs.Places.{AreDisjoint}
-use Rattle.dm_event_history.specs.Headline.{AreSavedFair, IsFairEvent}
-use Rattle.dm_event_history.specs.Held.{AreBetween, Forgets, Has, IsBetween, MayForget, MayTake, Takes}
+use Rattle.dm_event_history.specs.Calls.{Calls, Course, Ending, Faults, Looks, MayLackFirst, ends, AskTells, ExportTells, ForgetComes, ImportComes, ScanComes, forget_faults, import_faults, scan_course, scan_faults, page_reply}
+use Rattle.dm_event_history.specs.Headline.{ArePrinted, AreDisjoint, AreSavedFair, IsFairEvent}
+use Rattle.dm_event_history.specs.Safe.{AreBetween, Forgets, Has, IsBetween, MayForget, MayTake, Takes}
 use Rattle.dm_event_history.proofs.Deciding.{same_or_other}
 use Rattle.dm_event_history.proofs.AllClean.{unsaved_course}
 use Rattle.dm_event_history.proofs.Headline.{each_run_is_sound}
@@ -45,7 +37,6 @@ use Rattle.dm_event_history.proofs.Answered.{IsAnswered, is_answered, is_made}
 use Rattle.dm_event_history.proofs.Told.{AddTold, IsAfter, own_scan, scan_told, was_wanted, with_pages_has, with_pages_keeps, with_pages_only, without_keeps, without_only}
 use Rattle.dm_assembly_desk.proofs.LonePages.{lone_here}
 use Rattle.dm_event_history.proofs.Gotten.{set_at}
-use Rattle.dm_event_history.specs.WhoActs.{PrinterAt, actor_of}
 
 abbrev after : {A : Type 0} → Relay → Event A → Reply A → List (Moment A) → List (Moment A)
 after before event reply earlier = record { before = before; event = event; reply = reply } ∷ earlier

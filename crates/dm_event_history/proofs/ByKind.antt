@@ -1,17 +1,16 @@
 -- Calls of each kind: their replies are plain; and a walk over all events by the kind of what each does.
 use Rattle.std.proofs.Common.{arith, ◌≡◌, ℕ, Bool, true, false, length, Option, None, Some, Ok, Err, Result, List, refl}
-use Rattle.dm_finder_frame.specs.Grids.{GridView, flipped}
+use Rattle.dm_finder_frame.specs.Frame.{GridView, flipped}
 use Rattle.dm_check_blocks.specs.declared.size.Size.{Size}
 use Rattle.dm_encodation.specs.declared.scheme.Scheme.{Scheme}
 use Rattle.dm_append_label.specs.declared.opening.Opened.{Opened}
 use Rattle.dm_append_label.specs.declared.fault.LabelFault.{LabelFault}
 use Rattle.dm_append_label.specs.declared.fault.LabelFault.TheVariants as label_fault
 use Rattle.dm_print_ledger.specs.declared.range.Range.{Range}
-use Rattle.dm_print_ledger.specs.Views.{LedgerView, TicketView}
+use Rattle.dm_print_ledger.specs.Ledger.{LedgerView, TicketView}
 use Rattle.dm_print_ledger.specs.declared.fault.OpenFault.TheVariants as open_fault
 use Rattle.dm_assembly_desk.specs.declared.fault.DeskFault.TheVariants as desk_fault
-use Rattle.dm_assembly_desk.specs.Pages.{Pages}
-use Rattle.dm_assembly_desk.specs.Documents.{Documents}
+use Rattle.dm_assembly_desk.specs.Documents.{Pages, Documents}
 use Rattle.dm_assembly_desk.specs.declared.adding.AddFault.TheVariants as adds
 use Rattle.dm_assembly_desk.specs.declared.reply.Imported as imported_type
 use Rattle.dm_assembly_desk.specs.Adding.{add_verdict}
@@ -22,17 +21,11 @@ use Rattle.dm_event_history.specs.declared.event.Event.TheVariants.{Print, Scan,
 use Rattle.dm_event_history.specs.declared.reply.Reply.{Reply}
 use Rattle.dm_event_history.specs.declared.reply.Reply.TheVariants as replies
 use Rattle.dm_event_history.specs.declared.stop.Stop.{Stop}
-use Rattle.dm_event_history.specs.WhoActs.{DeskAt, PrinterAt, actor_of}
-use Rattle.dm_event_history.specs.Actors.{Actor}
+use Rattle.dm_event_history.specs.Steps.{DeskAt, PrinterAt, actor_of, Acts, DeskGoes, PrinterGoes, stop_of}
+use Rattle.dm_event_history.specs.Relay.{Actor, Goods, Relay}
 use Rattle.dm_event_history.specs.Relay as relays
-use Rattle.dm_event_history.specs.Relay.{Goods, Relay}
-use Rattle.dm_event_history.specs.Calls.{Answers, Calls, Course, Ending, Faults, LacksMemory, Looks, MayLackFirst, Restarts, Saves}
-use Rattle.dm_event_history.specs.PrinterCalls.{GiveComes, PrintComes, TakeComes, give_faults, print_faults, take_faults}
-use Rattle.dm_event_history.specs.DeskCalls.{AskTells, ExportTells, ForgetComes, ImportComes, MayBe, ScanComes, forget_faults, import_faults, scan_course, scan_faults, verdict_course, pages_reply}
-use Rattle.dm_event_history.specs.Steps.{Acts, DeskGoes, PrinterGoes}
-use Rattle.dm_event_history.specs.Saving.{stop_of}
-use Rattle.dm_event_history.specs.Legal.{NeedsRunning, is_new, tells_of_save}
-use Rattle.dm_event_history.specs.Told.{down_after, failed_after, tells_failed}
+use Rattle.dm_event_history.specs.Calls.{Answers, Calls, Course, Ending, Faults, LacksMemory, Looks, MayLackFirst, Restarts, Saves, GiveComes, PrintComes, TakeComes, give_faults, print_faults, take_faults, AskTells, ExportTells, ForgetComes, ImportComes, MayBe, ScanComes, forget_faults, import_faults, scan_course, scan_faults, verdict_course, pages_reply}
+use Rattle.dm_event_history.specs.Told.{NeedsRunning, is_new, tells_of_save, down_after, failed_after, tells_failed}
 
 -- ---- replies of calls
 

@@ -4,8 +4,7 @@ use Rattle.std.proofs.lemmas.Bool.Decides.{nat_tests}
 use Rattle.std.specs.Option.{option_map_or}
 use Rattle.dm_check_blocks.specs.declared.size.Size.{Size}
 use Rattle.dm_encodation.specs.declared.scheme.Scheme.{Scheme}
-use Rattle.dm_print_ledger.specs.Ranges.{free_count, size_of}
-use Rattle.dm_print_ledger.specs.Views.{LedgerView, TicketView}
+use Rattle.dm_print_ledger.specs.Ledger.{free_count, size_of, LedgerView, TicketView}
 use Rattle.dm_print_ledger.specs.declared.range.Range.{Range}
 use Rattle.dm_print_ledger.specs.declared.fault.OpenFault.TheVariants as open_fault
 use Rattle.dm_print_ledger.specs.declared.fault.PrintFault.TheVariants as print_fault
@@ -18,16 +17,10 @@ use Rattle.dm_store.specs.declared.fuse.Kept.TheVariants.{Old}
 use Rattle.dm_event_history.specs.declared.stop.Stop.{Stop}
 use Rattle.dm_event_history.specs.declared.stop.Stop.TheVariants as stops
 use Rattle.dm_event_history.specs.declared.stop.Stop.TheVariants.{BeforeSave, InSave, SaveFault}
-use Rattle.dm_event_history.specs.Legal.{tells_of_save}
-use Rattle.dm_event_history.specs.WhoActs.{Named, PrinterAt, actor_of, is_same}
-use Rattle.dm_event_history.specs.Saving.{Stores, leaves_new, may_save, stop_of}
-use Rattle.dm_event_history.specs.Actors.{Actor, Running, Failed, stored_of}
-use Rattle.dm_event_history.specs.Relay.{Goods, Relay, fresh_from, start}
-use Rattle.dm_event_history.specs.Calls.{Answers, Calls, Course, Ending, Faults, LacksMemory, MayLackFirst, Reaches, Restarts, Saves, ends}
-use Rattle.dm_event_history.specs.PrinterCalls.{GiveComes, PrintComes, TakeComes, give_faults, print_faults, take_faults}
-use Rattle.dm_event_history.specs.Steps.{Acts, PrinterGoes, Step}
-use Rattle.dm_event_history.specs.Runs.{IsRun, Moment}
-use Rattle.dm_event_history.specs.Told.{EachExhaustedIsSo, gains, has_saved, loses, stock, sum_saved}
+use Rattle.dm_event_history.specs.Told.{tells_of_save, EachExhaustedIsSo, gains, has_saved, loses, stock, sum_saved}
+use Rattle.dm_event_history.specs.Steps.{Named, PrinterAt, actor_of, is_same, Stores, leaves_new, may_save, stop_of, Acts, PrinterGoes, Step, IsRun, Moment}
+use Rattle.dm_event_history.specs.Relay.{Actor, Running, Failed, stored_of, Goods, Relay, fresh_from, start}
+use Rattle.dm_event_history.specs.Calls.{Answers, Calls, Course, Ending, Faults, LacksMemory, MayLackFirst, Reaches, Restarts, Saves, ends, GiveComes, PrintComes, TakeComes, give_faults, print_faults, take_faults}
 use Rattle.dm_event_history.proofs.Deciding.{other_number}
 use Rattle.dm_event_history.proofs.Having.{saves_may}
 use Rattle.dm_event_history.proofs.ByKind.{ArePlain, IsPlainCourse, fine_give, fine_print, fine_take, give_plain, print_plain, take_plain}

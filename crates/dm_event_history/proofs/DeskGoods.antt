@@ -1,11 +1,10 @@
 -- Nothing leaves by the calls of desks that save, nor by an ask.
 use Rattle.std.proofs.Common.{arith, ℕ}
 use Rattle.dm_event_history.specs.declared.stop.Stop.{Stop}
-use Rattle.dm_finder_frame.specs.Grids.{GridView}
+use Rattle.dm_finder_frame.specs.Frame.{GridView}
 use Rattle.dm_event_history.specs.Relay as relays
 use Rattle.dm_event_history.specs.Relay.{Goods, Label, Move, nothing}
-use Rattle.dm_event_history.specs.Calls.{Calls, Faults, Looks, MayLackFirst}
-use Rattle.dm_event_history.specs.DeskCalls.{AskTells, ForgetComes, ImportComes, ScanComes}
+use Rattle.dm_event_history.specs.Calls.{Calls, Faults, Looks, MayLackFirst, AskTells, ForgetComes, ImportComes, ScanComes}
 use Rattle.dm_event_history.proofs.LeavingGoods.{IsClosed, Leaves}
 
 pub scan_leaves : {A : Type 0} (P : Goods → Type 0) → IsClosed P → (faults : Faults A) (stop : Stop) (room : ℕ)

@@ -1,16 +1,13 @@
 -- `Failed` is answered by what answered `Save` since it was last restarted.
 use Rattle.std.proofs.Common.{arith, ◌≡◌, ℕ, Bool, true, false, List, sym, ap, ◌∙◌}
-use Rattle.dm_print_ledger.specs.Views.{LedgerView}
+use Rattle.dm_print_ledger.specs.Ledger.{LedgerView}
 use Rattle.dm_assembly_desk.specs.Documents.{Documents}
 use Rattle.dm_event_history.specs.declared.event.Event.{Event}
 use Rattle.dm_event_history.specs.declared.reply.Reply.{Reply}
 use Rattle.dm_event_history.specs.declared.stop.Stop.{Stop}
-use Rattle.dm_event_history.specs.WhoActs.{DeskAt, Named, PrinterAt, actor_of}
-use Rattle.dm_event_history.specs.Actors.{Actor, Running, Failed, Down}
-use Rattle.dm_event_history.specs.Relay.{Goods, Relay}
+use Rattle.dm_event_history.specs.Steps.{DeskAt, Named, PrinterAt, actor_of, Acts, DeskGoes, PrinterGoes, Moment}
+use Rattle.dm_event_history.specs.Relay.{Actor, Running, Failed, Down, Goods, Relay}
 use Rattle.dm_event_history.specs.Calls.{Calls, Course, Ending, Faults, Looks, MayLackFirst, Reaches, Restarts, ends}
-use Rattle.dm_event_history.specs.Steps.{Acts, DeskGoes, PrinterGoes}
-use Rattle.dm_event_history.specs.Runs.{Moment}
 use Rattle.dm_event_history.specs.Told.{AreAsTold, EachFailedFailed, IsAsTold, is_failed, tells_failed}
 use Rattle.dm_event_history.proofs.Reaching.{reaches}
 use Rattle.dm_event_history.proofs.AsTold.{each_run_is_as_told}

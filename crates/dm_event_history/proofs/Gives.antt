@@ -4,24 +4,20 @@ use Rattle.std.specs.Prelude.{is_some, unwrap_or, if◌then◌else◌}
 use Rattle.std.specs.List.{list_all, concat}
 use Rattle.std.specs.FinMap as finite
 use Rattle.std.proofs.lemmas.List.{length-map}
-use Rattle.dm_append_label.specs.Parts.{AreParts}
+use Rattle.dm_append_label.specs.Labels.{AreParts}
 use Rattle.dm_append_label.proofs.CutParts.{each_cut_is}
 use Rattle.dm_assembly_desk.specs.declared.fault.AskFault.{AskFault}
 use Rattle.dm_assembly_desk.specs.declared.fault.AskFault.TheVariants as ask_fault
-use Rattle.dm_assembly_desk.specs.Pages.{Pages, document_of, missing_mask, page, page_bytes}
-use Rattle.dm_assembly_desk.specs.Documents.{Documents}
-use Rattle.dm_assembly_desk.specs.Asking as asking
-use Rattle.dm_assembly_desk.specs.Asking.{Asks}
+use Rattle.dm_assembly_desk.specs.Documents.{Pages, document_of, missing_mask, page, page_bytes, Documents}
+use Rattle.dm_assembly_desk.specs.Adding as asking
+use Rattle.dm_assembly_desk.specs.Adding.{Asks}
 use Rattle.dm_event_history.specs.declared.event.Event.TheVariants.{Ask}
 use Rattle.dm_event_history.specs.declared.reply.Reply.{Reply}
 use Rattle.dm_event_history.specs.declared.reply.Reply.TheVariants.{Document}
-use Rattle.dm_event_history.specs.Relay.{CutDocument}
-use Rattle.dm_event_history.specs.Actors.{Actor}
-use Rattle.dm_event_history.specs.Relay.{Label}
-use Rattle.dm_event_history.specs.Calls.{Ending, Looks}
-use Rattle.dm_event_history.specs.DeskCalls.{AskTells, ask_reply}
+use Rattle.dm_event_history.specs.Relay.{CutDocument, Actor, Label}
+use Rattle.dm_event_history.specs.Calls.{Ending, Looks, AskTells, ask_reply}
 use Rattle.dm_event_history.specs.Steps.{Step}
-use Rattle.dm_event_history.specs.Clean.{AreOfOneDocument, ArePrinted, EachCleanDeskGives, HasLeft, HaveLeft, IsCleanActor}
+use Rattle.dm_event_history.specs.Headline.{AreOfOneDocument, ArePrinted, EachCleanDeskGives, HasLeft, HaveLeft, IsCleanActor}
 use Rattle.dm_event_history.proofs.MergedPages.{whole_pages}
 
 same_lists : {X : Type 0} (xs ys : List X) → length xs ≡ length ys →

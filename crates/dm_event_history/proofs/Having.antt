@@ -4,9 +4,8 @@ use Rattle.dm_assembly_desk.specs.Documents.{Documents}
 use Rattle.dm_event_history.specs.declared.event.Event.{Event}
 use Rattle.dm_event_history.specs.declared.reply.Reply.{Reply}
 use Rattle.dm_event_history.specs.declared.stop.Stop.{Stop}
-use Rattle.dm_event_history.specs.Saving.{Stores, leaves_new, may_save, stop_of}
-use Rattle.dm_event_history.specs.Actors.{Actor, HasAll, Running, Failed, Down}
-use Rattle.dm_event_history.specs.Relay.{Goods}
+use Rattle.dm_event_history.specs.Steps.{Stores, leaves_new, may_save, stop_of}
+use Rattle.dm_event_history.specs.Relay.{Actor, HasAll, Running, Failed, Down, Goods}
 use Rattle.dm_event_history.specs.Calls.{Answers, Calls, Course, Ending, Faults, LacksMemory, Looks, MayLackFirst, Restarts, Saves, ends}
 
 pub has_map : (P Q : Documents → Type 0) → ((held : Documents) → P held → Q held) → (actor : Actor Documents) →

@@ -1,18 +1,14 @@
 -- The headline, of every run.
 use Rattle.std.proofs.Common.{◌≡◌, ◌+◌, ◌≤◌, ℕ, zero, suc, Some, List, [], ◌∷◌, slice_get, refl, sym, ap, subst, arith, eq-eqb}
 use Rattle.dm_print_ledger.specs.declared.range.Range.{Range}
-use Rattle.dm_print_ledger.specs.Views.{LedgerView}
+use Rattle.dm_print_ledger.specs.Ledger.{LedgerView}
 use Rattle.dm_assembly_desk.specs.Documents.{Documents}
 use Rattle.dm_event_history.specs.declared.event.Event.{Event}
 use Rattle.dm_event_history.specs.declared.reply.Reply.{Reply}
-use Rattle.dm_event_history.specs.Actors.{Actor}
-use Rattle.dm_event_history.specs.Relay.{Label, Move, Relay, Used, start}
+use Rattle.dm_event_history.specs.Relay.{Actor, Label, Move, Relay, Used, start}
 use Rattle.dm_event_history.specs.Calls.{Ending}
-use Rattle.dm_event_history.specs.Steps.{Acts, DeskGoes, PrinterGoes, Step}
-use Rattle.dm_event_history.specs.Runs.{IsRun, Moment}
-use Rattle.dm_event_history.specs.Clean.{AreOfOneDocument, ArePrinted}
-use Rattle.dm_event_history.specs.Places.{AreDisjoint, IsSound, gone, places}
-use Rattle.dm_event_history.specs.Headline.{AreAllClean, AreSavedFair, AreTrueMoments, EachRunIsSound, EachRunIsTrue, EachRunKeepsNumbers, PrintsOnce}
+use Rattle.dm_event_history.specs.Steps.{Acts, DeskGoes, PrinterGoes, Step, IsRun, Moment}
+use Rattle.dm_event_history.specs.Headline.{AreOfOneDocument, ArePrinted, AreDisjoint, IsSound, gone, places, AreAllClean, AreSavedFair, AreTrueMoments, EachRunIsSound, EachRunIsTrue, EachRunKeepsNumbers, PrintsOnce}
 use Rattle.dm_event_history.proofs.Gotten.{get_more}
 use Rattle.dm_event_history.proofs.AllClean.{all_stay_so}
 use Rattle.dm_event_history.proofs.Beginning.{fresh_free, start_clean, start_printed, start_sound}

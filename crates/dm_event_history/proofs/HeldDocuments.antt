@@ -3,8 +3,7 @@ use Rattle.std.proofs.Common.{◌≡◌, ◌≢◌, ℕ, Bool, cond, Some, None,
 use Rattle.std.specs.FinMap as map
 use Rattle.std.specs.FinMap.{get-insert, get-remove}
 use Rattle.std.specs.Cmp.{nat_cmp_total}
-use Rattle.dm_assembly_desk.specs.Pages.{Pages}
-use Rattle.dm_assembly_desk.specs.Documents.{Documents}
+use Rattle.dm_assembly_desk.specs.Documents.{Pages, Documents}
 use Rattle.dm_assembly_desk.proofs.Loading.{apart, itself}
 
 pub get_same : (held : Documents) (id : ℕ) (pages : Pages) → map.get (map.insert held id pages) id ≡ Some pages

@@ -1,18 +1,16 @@
 -- A step moves numbers, and makes or ends none: whichever event it is.
 use Rattle.std.proofs.Common.{arith, ◌≡◌, ℕ, Some, length, slice_get, sym, subst}
 use Rattle.std.proofs.lemmas.List.{append-nil}
-use Rattle.dm_print_ledger.specs.Views.{LedgerView, TicketView}
+use Rattle.dm_print_ledger.specs.Ledger.{LedgerView, TicketView}
 use Rattle.dm_event_history.specs.declared.event.Event.{Event}
 use Rattle.dm_event_history.specs.declared.event.Event.TheVariants.{Print, RestartPrinter, Give, Take}
 use Rattle.dm_event_history.specs.declared.reply.Reply.{Reply}
 use Rattle.dm_event_history.specs.declared.stop.Stop.{Stop}
 use Rattle.dm_event_history.proofs.Gotten.{get_more}
-use Rattle.dm_event_history.specs.Actors.{Actor}
-use Rattle.dm_event_history.specs.Relay.{Desk, Goods, Relay, with_desk}
-use Rattle.dm_event_history.specs.Calls.{Calls, Ending}
-use Rattle.dm_event_history.specs.PrinterCalls.{TakeComes, take_faults}
+use Rattle.dm_event_history.specs.Relay.{Actor, Desk, Goods, Relay, with_desk}
+use Rattle.dm_event_history.specs.Calls.{Calls, Ending, TakeComes, take_faults}
 use Rattle.dm_event_history.specs.Steps.{Acts, PrinterGoes}
-use Rattle.dm_event_history.specs.Places.{EachStepKeepsNumbers, IsInOrder, places}
+use Rattle.dm_event_history.specs.Headline.{EachStepKeepsNumbers, IsInOrder, places}
 use Rattle.dm_event_history.proofs.Balance.{Balances, balanced_order, balanced_places, calls_balance, give_balanced, may_lack_balances, print_balanced, restarts_balance}
 use Rattle.dm_event_history.proofs.Taking.{take_ends, taking_order, taking_places}
 use Rattle.dm_event_history.proofs.QuietDesks.{ChangesDesk, IsQuiet, quiet_desks}

@@ -6,7 +6,7 @@ use Rattle.std.specs.Option.{option_map_or}
 use Rattle.std.specs.Prelude.{IfSome, IsSomeAnd, is_some}
 use Rattle.dm_check_blocks.specs.declared.size.Size.{Size}
 use Rattle.dm_encodation.specs.declared.scheme.Scheme.{Scheme}
-use Rattle.dm_append_label.specs.Parts.{AreParts}
+use Rattle.dm_append_label.specs.Labels.{AreParts}
 use Rattle.dm_print_ledger.specs.declared.range.Range.{Range}
 use Rattle.dm_print_ledger.specs.declared.limits.TheConstants.{MOST_RANGES, MOST_GIVERS}
 use Rattle.dm_print_ledger.specs.declared.fault.PrintFault.{PrintFault}
@@ -14,16 +14,10 @@ use Rattle.dm_print_ledger.specs.declared.fault.PrintFault.TheVariants as print_
 use Rattle.dm_print_ledger.specs.declared.fault.GiveFault.TheVariants as give_fault
 use Rattle.dm_print_ledger.specs.declared.fault.TakeFault.{TakeFault}
 use Rattle.dm_print_ledger.specs.declared.fault.TakeFault.TheVariants as take_fault
-use Rattle.dm_print_ledger.specs.Changes.{are_free, has_free, least, single, without, union_of}
-use Rattle.dm_print_ledger.specs.FreeNumbers.{AreFree, AreTaken, IsLeastFree, TakesOut, PutsIn, Notes}
-use Rattle.dm_print_ledger.specs.Givers.{givers_with, is_old, last_taken}
-use Rattle.dm_print_ledger.specs.Ledger.{is_sound}
-use Rattle.dm_print_ledger.specs.Ranges.{are_ranges, free_count, is_range}
-use Rattle.dm_print_ledger.specs.Verdicts.{print_verdict, give_verdict, take_verdict, giver_of}
-use Rattle.dm_print_ledger.specs.Views.{LedgerView, TicketView}
+use Rattle.dm_print_ledger.specs.Verdicts.{are_free, has_free, least, single, without, union_of, AreFree, AreTaken, IsLeastFree, TakesOut, PutsIn, Notes, print_verdict, give_verdict, take_verdict, giver_of}
+use Rattle.dm_print_ledger.specs.Ledger.{givers_with, is_old, last_taken, is_sound, are_ranges, free_count, is_range, LedgerView, TicketView}
 use Rattle.dm_event_history.specs.declared.reply.Reply.{Reply}
-use Rattle.dm_event_history.specs.Calls.{Saves}
-use Rattle.dm_event_history.specs.PrinterCalls.{IsCut, PrintComes, PrintLeaves, cut_of}
+use Rattle.dm_event_history.specs.Calls.{Saves, IsCut, PrintComes, PrintLeaves, cut_of}
 use Rattle.dm_event_history.specs.Relay.{Goods}
 use Rattle.dm_print_ledger.proofs.LedgerLaws.{ranges_are_numbers, first_is_least, givers_are_noted}
 use Rattle.dm_print_ledger.proofs.OutLaws.{covered_free, covers_from, takes_out}

@@ -1,7 +1,7 @@
 -- Each step is legal.
 use Rattle.std.proofs.Common.{arith, ◌≡◌, ◌≢◌, ◌↔◌, ◌⊎◌, ◌<◌, IsSomeAnd, ℕ, Bool, true, false, Option, Some, None, length, slice_get, refl, sym, subst}
 use Rattle.dm_store.specs.declared.fuse.Kept.TheVariants.{Old, New}
-use Rattle.dm_print_ledger.specs.Views.{LedgerView}
+use Rattle.dm_print_ledger.specs.Ledger.{LedgerView}
 use Rattle.dm_print_ledger.specs.declared.fault.OpenFault.TheVariants as open_fault
 use Rattle.dm_assembly_desk.specs.declared.fault.DeskFault.TheVariants as desk_fault
 use Rattle.dm_assembly_desk.specs.Documents.{Documents}
@@ -12,14 +12,10 @@ use Rattle.dm_event_history.specs.declared.reply.Reply.TheVariants as replies
 use Rattle.dm_event_history.specs.declared.stop.Stop.{Stop}
 use Rattle.dm_event_history.specs.declared.stop.Stop.TheVariants as stops
 use Rattle.dm_event_history.specs.declared.stop.Stop.TheVariants.{InSave, SaveFault, AfterLabels}
-use Rattle.dm_event_history.specs.WhoActs.{DeskAt, Named, PrinterAt, actor_of}
-use Rattle.dm_event_history.specs.Saving.{IsStopping, stop_of}
-use Rattle.dm_event_history.specs.Actors.{Actor, Running, Failed, Down}
-use Rattle.dm_event_history.specs.Relay.{Desk, Goods, Relay}
+use Rattle.dm_event_history.specs.Steps.{DeskAt, Named, PrinterAt, actor_of, IsStopping, stop_of, Acts, DeskGoes, IsNamed, PrinterGoes}
+use Rattle.dm_event_history.specs.Relay.{Actor, Running, Failed, Down, Desk, Goods, Relay}
 use Rattle.dm_event_history.specs.Calls.{Answers, Calls, Course, Ending, Faults, LacksMemory, Looks, MayLackFirst, Reaches, Restarts, Saves, ends}
-use Rattle.dm_event_history.specs.Steps.{Acts, DeskGoes, IsNamed, PrinterGoes}
-use Rattle.dm_event_history.specs.Told.{down_after}
-use Rattle.dm_event_history.specs.Legal.{EachStepIsLegal, IsDown, IsDownAt, IsLegal, NeedsRunning, tells_of_save}
+use Rattle.dm_event_history.specs.Told.{down_after, EachStepIsLegal, IsDown, IsDownAt, IsLegal, NeedsRunning, tells_of_save}
 use Rattle.dm_event_history.proofs.Reaching.{reaches}
 use Rattle.dm_event_history.proofs.ByKind.{ArePlain, IsPlainAnswer, IsPlainCourse, by_kind}
 use Rattle.dm_event_history.proofs.Deciding.{never}

@@ -4,8 +4,7 @@ use Rattle.std.specs.Prelude.{is_some}
 use Rattle.std.proofs.Common.{map as mapped}
 use Rattle.std.specs.List.{list_all, concat}
 use Rattle.std.proofs.lemmas.Slice.Eq.{bytes_eq-Decides}
-use Rattle.dm_assembly_desk.specs.Pages.{Pages, page, lacks, page_bytes, document_of}
-use Rattle.dm_assembly_desk.specs.Merging.{agrees_at, agree}
+use Rattle.dm_assembly_desk.specs.Documents.{Pages, page, lacks, page_bytes, document_of, agrees_at, agree}
 use Rattle.std.proofs.lemmas.Bool.{and_parts}
 use Rattle.dm_event_history.proofs.Deciding.{decided}
 

@@ -9,7 +9,7 @@ use Rattle.dm_store.specs.declared.fuse.Kept.TheVariants.{Old}
 use Rattle.dm_event_history.specs.Worked.{first_ticket, range}
 use Rattle.dm_print_ledger.specs.declared.fault.TakeFault.TheVariants as take_fault
 use Rattle.dm_event_history.specs.Relay.{Relay}
-use Rattle.dm_event_history.specs.Runs.{Said, Tells, said}
+use Rattle.dm_event_history.specs.Steps.{Said, Tells, said}
 use Rattle.dm_event_history.specs.Laws.{IsOfMemory}
 use Rattle.dm_event_history.specs.Worked.{AreNone, one_printer, print, two_printers}
 use Rattle.dm_event_history.proofs.OneStep.{only_memory}

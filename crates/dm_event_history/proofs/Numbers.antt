@@ -1,12 +1,10 @@
 -- Where a number is, after one thing is changed.
 use Rattle.std.proofs.Common.{◌≡◌, ◌≢◌, ◌⊎◌, ◌+◌, ◌≤◌, ◌<◌, ℕ, zero, suc, Bool, true, false, ◌==◌, ◌||◌, if◌then◌else◌, Some, List, [], ◌∷◌, ◌++◌, length, map, slice_get, slice_set, refl, ap, ◌∙◌, arith, eq-eqb}
-use Rattle.dm_print_ledger.specs.Ranges.{is_free, is_in}
-use Rattle.dm_print_ledger.specs.Views.{LedgerView, TicketView}
+use Rattle.dm_print_ledger.specs.Ledger.{is_free, is_in, LedgerView, TicketView}
 use Rattle.dm_event_history.proofs.Deciding.{other_number, same_or_other}
-use Rattle.dm_event_history.specs.Actors.{Actor, stored_of}
-use Rattle.dm_event_history.specs.Relay.{Lost, Move, Took, Used}
+use Rattle.dm_event_history.specs.Relay.{Actor, stored_of, Lost, Move, Took, Used}
 use Rattle.dm_event_history.specs.Calls.{lost}
-use Rattle.dm_event_history.specs.Places.{free_at, gone, is_taken, on_tickets, one_if}
+use Rattle.dm_event_history.specs.Headline.{free_at, gone, is_taken, on_tickets, one_if}
 
 -- ---- printers
 

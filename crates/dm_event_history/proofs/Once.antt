@@ -3,22 +3,17 @@ use Rattle.std.proofs.Common.{◌≡◌, ◌⊎◌, ◌+◌, ◌≤◌, inl, inr
 use Rattle.dm_check_blocks.specs.declared.size.Size.{Size}
 use Rattle.dm_encodation.specs.declared.scheme.Scheme.{Scheme}
 use Rattle.dm_print_ledger.specs.declared.range.Range.{Range}
-use Rattle.dm_print_ledger.specs.Changes.{least}
-use Rattle.dm_print_ledger.specs.Ranges.{is_free}
-use Rattle.dm_print_ledger.specs.Views.{LedgerView, TicketView}
+use Rattle.dm_print_ledger.specs.Verdicts.{least}
+use Rattle.dm_print_ledger.specs.Ledger.{is_free, LedgerView, TicketView}
 use Rattle.dm_event_history.specs.declared.event.Event.{Event}
 use Rattle.dm_event_history.specs.declared.event.Event.TheVariants.{Print, RestartPrinter, Give, Take}
 use Rattle.dm_event_history.specs.declared.reply.Reply.{Reply}
 use Rattle.dm_event_history.specs.declared.stop.Stop.{Stop}
-use Rattle.dm_event_history.specs.Relay.{CutDocument}
+use Rattle.dm_event_history.specs.Relay.{CutDocument, Actor, Running, Failed, Down, stored_of, Goods, Label, Move, Relay}
 use Rattle.dm_event_history.proofs.Gotten.{in_either}
-use Rattle.dm_event_history.specs.Actors.{Actor, Running, Failed, Down, stored_of}
-use Rattle.dm_event_history.specs.Relay.{Goods, Label, Move, Relay}
-use Rattle.dm_event_history.specs.Calls.{Answers, Calls, Course, Ending, LacksMemory, MayLackFirst, Saves}
-use Rattle.dm_event_history.specs.PrinterCalls.{AreLabelsFor, GiveComes, PrintComes, TakeComes, cut_of, print_faults}
+use Rattle.dm_event_history.specs.Calls.{Answers, Calls, Course, Ending, LacksMemory, MayLackFirst, Saves, AreLabelsFor, GiveComes, PrintComes, TakeComes, cut_of, print_faults}
 use Rattle.dm_event_history.specs.Steps.{Acts, PrinterGoes}
-use Rattle.dm_event_history.specs.Clean.{AreOfOneDocument}
-use Rattle.dm_event_history.specs.Places.{AreOnce, EachStepIsSound, IsSound, gone, one_if}
+use Rattle.dm_event_history.specs.Headline.{AreOfOneDocument, AreOnce, EachStepIsSound, IsSound, gone, one_if}
 use Rattle.dm_event_history.proofs.LedgerFacts.{made_print}
 use Rattle.dm_event_history.proofs.LeavingGoods.{IsClosed, OfCourse, as_known, calls_leave, ends_leave, known_goods, may_lack_leaves, restarts_leave}
 use Rattle.dm_event_history.proofs.Reaching.{reached, reaches}

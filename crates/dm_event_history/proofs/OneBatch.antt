@@ -5,16 +5,13 @@ use Rattle.dm_check_blocks.specs.Sizes.{data_words}
 use Rattle.dm_check_blocks.proofs.Symbols.{one_symbol}
 use Rattle.dm_encodation.specs.declared.scheme.Scheme.{Scheme}
 use Rattle.dm_encodation.specs.Written.{filled}
-use Rattle.dm_finder_frame.specs.Grids.{GridView}
-use Rattle.dm_symbol.specs.Symbols.{grid_of_words}
-use Rattle.dm_append_label.specs.Heads.{head_of, head_words}
-use Rattle.dm_append_label.specs.Pages.{PageView}
-use Rattle.dm_append_label.specs.Parts.{AreParts, parts_from}
+use Rattle.dm_finder_frame.specs.Frame.{GridView}
+use Rattle.dm_symbol.specs.Correction.{grid_of_words}
+use Rattle.dm_append_label.specs.Labels.{head_of, head_words, PageView, AreParts, parts_from}
 use Rattle.dm_append_label.proofs.CutParts.{one_cut}
-use Rattle.dm_print_ledger.specs.Printing.{IsLabelOf}
-use Rattle.dm_event_history.specs.Relay.{CutDocument}
-use Rattle.dm_event_history.specs.Relay.{Label}
-use Rattle.dm_event_history.specs.PrinterCalls.{AreLabelsFor, IsLabelFor}
+use Rattle.dm_print_ledger.specs.Verdicts.{IsLabelOf}
+use Rattle.dm_event_history.specs.Relay.{CutDocument, Label}
+use Rattle.dm_event_history.specs.Calls.{AreLabelsFor, IsLabelFor}
 
 pub parts_once : (size : Size) (scheme : Scheme) (document : List ℕ) (a b : List (List ℕ)) →
     AreParts size scheme document a → AreParts size scheme document b → a ≡ b

@@ -3,17 +3,14 @@ use Rattle.std.proofs.Common.{arith, ◌≡◌, ◌⊎◌, ℕ, Option, None, So
 use Rattle.std.specs.Prelude.{IsSomeAnd, is_some}
 use Rattle.dm_check_blocks.specs.declared.size.Size.{Size}
 use Rattle.dm_encodation.specs.declared.scheme.Scheme.{Scheme}
-use Rattle.dm_finder_frame.specs.Grids.{GridView}
+use Rattle.dm_finder_frame.specs.Frame.{GridView}
 use Rattle.dm_print_ledger.specs.declared.range.Range.{Range}
-use Rattle.dm_print_ledger.specs.Changes.{least}
-use Rattle.dm_print_ledger.specs.Verdicts.{print_verdict}
-use Rattle.dm_print_ledger.specs.Views.{LedgerView, TicketView}
+use Rattle.dm_print_ledger.specs.Verdicts.{least, print_verdict}
+use Rattle.dm_print_ledger.specs.Ledger.{LedgerView, TicketView}
 use Rattle.dm_event_history.specs.declared.reply.Reply.{Reply}
 use Rattle.dm_event_history.specs.declared.reply.Reply.TheVariants.{PrintRefused}
 use Rattle.dm_event_history.specs.Relay.{Export, Goods}
-use Rattle.dm_event_history.specs.Calls.{Course, LacksMemory}
-use Rattle.dm_event_history.specs.PrinterCalls.{Comes, GiveComes, IsCut, PrintComes, PrintLeaves, TakeComes, cut_of}
-use Rattle.dm_event_history.specs.DeskCalls.{ForgetComes, ImportComes, MayBe, ScanComes}
+use Rattle.dm_event_history.specs.Calls.{Course, LacksMemory, Comes, GiveComes, IsCut, PrintComes, PrintLeaves, TakeComes, cut_of, ForgetComes, ImportComes, MayBe, ScanComes}
 use Rattle.dm_event_history.proofs.OneReading.{reading_once}
 use Rattle.dm_event_history.proofs.OneBatch.{parts_once, labels_once}
 

@@ -1,13 +1,11 @@
 -- A call ends in one way, but for memory.
 use Rattle.std.proofs.Common.{arith, ◌≡◌, ◌⊎◌, ℕ, Option}
 use Rattle.std.specs.FinMap as finite
-use Rattle.dm_assembly_desk.specs.Pages.{Pages}
+use Rattle.dm_assembly_desk.specs.Documents.{Pages}
 use Rattle.dm_event_history.specs.declared.reply.Reply.{Reply}
 use Rattle.dm_event_history.specs.declared.stop.Stop.{Stop}
-use Rattle.dm_event_history.specs.Actors.{Actor}
-use Rattle.dm_event_history.specs.Relay.{Goods}
-use Rattle.dm_event_history.specs.Calls.{Calls, Course, Ending, Faults, Looks, MayLackFirst, Restarts}
-use Rattle.dm_event_history.specs.DeskCalls.{AskTells, ExportTells, ExportsHeld}
+use Rattle.dm_event_history.specs.Relay.{Actor, Goods}
+use Rattle.dm_event_history.specs.Calls.{Calls, Course, Ending, Faults, Looks, MayLackFirst, Restarts, AskTells, ExportTells, ExportsHeld}
 use Rattle.dm_event_history.specs.Laws.{IsOfMemory}
 use Rattle.dm_event_history.proofs.OneCourse.{IsDetermined}
 

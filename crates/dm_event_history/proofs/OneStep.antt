@@ -1,16 +1,13 @@
 -- Nothing is open but memory.
 use Rattle.std.proofs.Common.{arith, ◌≡◌, ◌⊎◌, ℕ, Some, length, sym, subst, ◌∙◌}
-use Rattle.dm_finder_frame.specs.Grids.{flipped}
-use Rattle.dm_print_ledger.specs.Views.{LedgerView}
+use Rattle.dm_finder_frame.specs.Frame.{flipped}
+use Rattle.dm_print_ledger.specs.Ledger.{LedgerView}
 use Rattle.dm_assembly_desk.specs.Documents.{Documents}
 use Rattle.dm_event_history.specs.declared.event.Event.{Event}
 use Rattle.dm_event_history.specs.declared.event.Event.TheVariants.{Print, Scan, RestartPrinter, RestartDesk, Ask, Forget, Give, Take, Export, Import}
 use Rattle.dm_event_history.specs.declared.reply.Reply.{Reply}
-use Rattle.dm_event_history.specs.Actors.{Actor}
-use Rattle.dm_event_history.specs.Relay.{Relay, Label}
-use Rattle.dm_event_history.specs.Calls.{Calls, Ending, MayLackFirst}
-use Rattle.dm_event_history.specs.PrinterCalls.{PrintComes, print_faults}
-use Rattle.dm_event_history.specs.DeskCalls.{AskTells, ScanComes, scan_faults}
+use Rattle.dm_event_history.specs.Relay.{Actor, Relay, Label}
+use Rattle.dm_event_history.specs.Calls.{Calls, Ending, MayLackFirst, PrintComes, print_faults, AskTells, ScanComes, scan_faults}
 use Rattle.dm_event_history.specs.Steps.{Acts, DeskGoes, PrinterGoes}
 use Rattle.dm_event_history.specs.Laws.{IsOfMemory, NothingIsOpenButMemory}
 use Rattle.dm_event_history.proofs.OneCourse.{print_determined, give_determined, take_determined, scan_determined, forget_determined, import_determined}

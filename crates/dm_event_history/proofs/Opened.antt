@@ -3,7 +3,7 @@ use Rattle.std.proofs.Common.{◌≡◌, ◌≢◌, ◌<◌, ℕ, Some, List, le
 use Rattle.std.proofs.Math.Decide.{dec_lt}
 use Rattle.std.proofs.lemmas.Option.{get_or_from_slice_get, slice_get_within}
 use Rattle.dm_print_ledger.specs.declared.range.Range.{Range}
-use Rattle.dm_event_history.specs.Places.{AreDisjoint, IsApart}
+use Rattle.dm_event_history.specs.Headline.{AreDisjoint, IsApart}
 
 -- of disjoint ranges any two are apart
 pub apart_of : (ranges : List Range) → AreDisjoint ranges → (p q : ℕ) (r s : Range) → p ≢ q →

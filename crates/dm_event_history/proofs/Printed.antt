@@ -2,23 +2,18 @@
 use Rattle.std.proofs.Common.{◌≡◌, ◌+◌, ℕ, zero, suc, Some, List, [], ◌∷◌, ◌++◌, length, slice_get, take, sym, ap, subst, ◌∙◌, arith}
 use Rattle.dm_check_blocks.specs.declared.size.Size.{Size}
 use Rattle.dm_encodation.specs.declared.scheme.Scheme.{Scheme}
-use Rattle.dm_append_label.specs.Labels.{Carries}
-use Rattle.dm_append_label.specs.Pages.{PageView}
-use Rattle.dm_append_label.specs.Parts.{AreParts}
+use Rattle.dm_append_label.specs.Labels.{Carries, PageView, AreParts}
 use Rattle.dm_print_ledger.specs.declared.range.Range.{Range}
-use Rattle.dm_print_ledger.specs.Changes.{least}
-use Rattle.dm_print_ledger.specs.Views.{LedgerView, TicketView}
+use Rattle.dm_print_ledger.specs.Verdicts.{least}
+use Rattle.dm_print_ledger.specs.Ledger.{LedgerView, TicketView}
 use Rattle.dm_event_history.specs.declared.event.Event.{Event}
 use Rattle.dm_event_history.specs.declared.event.Event.TheVariants.{Print, RestartPrinter, Give, Take}
 use Rattle.dm_event_history.specs.declared.reply.Reply.{Reply}
-use Rattle.dm_event_history.specs.Relay.{CutDocument}
+use Rattle.dm_event_history.specs.Relay.{CutDocument, Actor, Goods, Label, Relay}
 use Rattle.dm_event_history.proofs.Gotten.{in_either}
-use Rattle.dm_event_history.specs.Actors.{Actor}
-use Rattle.dm_event_history.specs.Relay.{Goods, Label, Relay}
-use Rattle.dm_event_history.specs.Calls.{Answers, Course, Ending, LacksMemory, Saves}
-use Rattle.dm_event_history.specs.PrinterCalls.{AreLabelsFor, GiveComes, PrintComes, TakeComes, cut_of}
+use Rattle.dm_event_history.specs.Calls.{Answers, Course, Ending, LacksMemory, Saves, AreLabelsFor, GiveComes, PrintComes, TakeComes, cut_of}
 use Rattle.dm_event_history.specs.Steps.{Acts, PrinterGoes}
-use Rattle.dm_event_history.specs.Clean.{ArePrinted, EachStepPrints, IsPrinted}
+use Rattle.dm_event_history.specs.Headline.{ArePrinted, EachStepPrints, IsPrinted}
 use Rattle.dm_event_history.proofs.LedgerFacts.{made_print}
 use Rattle.dm_event_history.proofs.LeavingGoods.{IsClosed, Leaves, OfCourse, calls_leave, known_goods, may_lack_leaves, restarts_leave}
 use Rattle.dm_event_history.proofs.QuietDesks.{ChangesDesk, IsQuiet, quiet_desks}

@@ -1,16 +1,15 @@
 -- Why events are refused.
 use Rattle.std.proofs.Common.{arith, None, ◌≡◌, ◌≢◌, inl, inr, ℕ, true, false, Some, Err, Result, List, slice_get, sym, ap, subst, Option, is_some}
-use Rattle.dm_finder_frame.specs.Grids.{GridView, flipped}
+use Rattle.dm_finder_frame.specs.Frame.{GridView, flipped}
 use Rattle.dm_check_blocks.specs.declared.size.Size.{Size}
 use Rattle.dm_encodation.specs.declared.scheme.Scheme.{Scheme}
-use Rattle.dm_append_label.specs.Pages.{PageView}
+use Rattle.dm_append_label.specs.Labels.{PageView, HasNoEnds}
 use Rattle.dm_append_label.specs.Opening.{LabelOpens, OpensNear}
 use Rattle.dm_append_label.specs.declared.opening.Opened.{Opened}
 use Rattle.dm_append_label.specs.declared.fault.LabelFault.{LabelFault}
 use Rattle.dm_store.specs.declared.fuse.Kept.{Kept}
-use Rattle.dm_append_label.specs.Parts.{HasNoEnds}
 use Rattle.dm_print_ledger.specs.Verdicts.{print_verdict}
-use Rattle.dm_print_ledger.specs.Views.{LedgerView}
+use Rattle.dm_print_ledger.specs.Ledger.{LedgerView}
 use Rattle.dm_print_ledger.specs.declared.fault.PrintFault.{PrintFault}
 use Rattle.dm_print_ledger.specs.declared.fault.PrintFault.TheVariants as print_fault
 use Rattle.dm_event_history.proofs.LedgerFacts.{print_refuses}
@@ -21,11 +20,8 @@ use Rattle.dm_event_history.specs.declared.reply.Reply.{Reply}
 use Rattle.dm_event_history.specs.declared.reply.Reply.TheVariants.{PrintRefused}
 use Rattle.dm_event_history.specs.declared.stop.Stop.{Stop}
 use Rattle.dm_event_history.specs.declared.stop.Stop.TheVariants.{SaveFault}
-use Rattle.dm_event_history.specs.Actors.{Actor, Running}
-use Rattle.dm_event_history.specs.Relay.{Goods, Label, Relay}
-use Rattle.dm_event_history.specs.Calls.{Answers, Calls, Course, Ending, Faults, Looks, MayLackFirst, Reaches, Restarts, ends}
-use Rattle.dm_event_history.specs.PrinterCalls.{IsCut, print_faults}
-use Rattle.dm_event_history.specs.DeskCalls.{MayBe, ScanComes, scan_course, scan_faults}
+use Rattle.dm_event_history.specs.Relay.{Actor, Running, Goods, Label, Relay}
+use Rattle.dm_event_history.specs.Calls.{Answers, Calls, Course, Ending, Faults, Looks, MayLackFirst, Reaches, Restarts, ends, IsCut, print_faults, MayBe, ScanComes, scan_course, scan_faults}
 use Rattle.dm_event_history.specs.Steps.{Acts, DeskGoes, PrinterGoes, Step}
 use Rattle.dm_event_history.specs.Headline.{IsFairEvent}
 use Rattle.dm_event_history.specs.Told.{EachStepIsRefusedSo, IsFramedSo, IsToFail, failed_after}

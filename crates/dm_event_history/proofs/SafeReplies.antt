@@ -7,11 +7,10 @@ use Rattle.std.specs.FinMap as finite
 use Rattle.std.specs.FinMap.{contains_key-keys}
 use Rattle.std.specs.Ordering.{nat_cmp}
 use Rattle.std.specs.Ordering.{eq_by_cmp}
-use Rattle.dm_append_label.specs.Pages.{PageView}
-use Rattle.dm_append_label.specs.Heads.{IsHead, head_of}
+use Rattle.dm_append_label.specs.Labels.{PageView, IsHead, head_of}
 use Rattle.dm_append_label.specs.declared.fault.LabelFault.TheVariants as label_fault
-use Rattle.dm_finder_frame.specs.Grids.{flipped}
-use Rattle.dm_symbol.specs.Symbols.{IsNear}
+use Rattle.dm_finder_frame.specs.Frame.{flipped}
+use Rattle.dm_symbol.specs.Correction.{IsNear}
 use Rattle.dm_assembly_desk.specs.declared.reply.Kind.{Kind}
 use Rattle.dm_assembly_desk.specs.declared.reply.Kind.TheVariants.{New, Again, Complete}
 use Rattle.dm_assembly_desk.specs.declared.reply.Imported as imported_type
@@ -21,16 +20,12 @@ use Rattle.dm_assembly_desk.specs.declared.fault.ScanFault.{ScanFault}
 use Rattle.dm_assembly_desk.specs.declared.fault.ScanFault.TheVariants as scan_fault
 use Rattle.dm_assembly_desk.specs.declared.fault.ImportFault.{ImportFault}
 use Rattle.dm_assembly_desk.specs.declared.fault.ImportFault.TheVariants as import_fault
-use Rattle.dm_assembly_desk.specs.Pages.{Pages, lacks, mask, missing_mask, names, page, document_of}
-use Rattle.dm_assembly_desk.specs.Documents.{Documents, page_at, own_pages}
-use Rattle.dm_assembly_desk.specs.Asking as asking
-use Rattle.dm_assembly_desk.specs.Asking.{Asks}
+use Rattle.dm_assembly_desk.specs.Documents.{Pages, lacks, mask, missing_mask, names, page, document_of, Documents, page_at, own_pages, added_mask, union_of}
+use Rattle.dm_assembly_desk.specs.Adding as asking
+use Rattle.dm_assembly_desk.specs.Adding.{Asks, lone, add_verdict, add_kind, added_to, reply_of}
 use Rattle.dm_assembly_desk.specs.declared.adding.AddFault.{AddFault}
 use Rattle.dm_assembly_desk.specs.declared.adding.AddFault.TheVariants as adds
 use Rattle.dm_assembly_desk.specs.declared.reply.Accepted.{Accepted}
-use Rattle.dm_assembly_desk.specs.Accepting.{lone}
-use Rattle.dm_assembly_desk.specs.Adding.{add_verdict, add_kind, added_to, reply_of}
-use Rattle.dm_assembly_desk.specs.Merging.{added_mask, union_of}
 use Rattle.dm_assembly_desk.proofs.AddFacts.{names_added, page_merged}
 use Rattle.dm_assembly_desk.proofs.AddLaws.{no_longer, KindSays, kind_says}
 use Rattle.dm_assembly_desk.proofs.Loading.{itself, keys_rise, length-keys}
@@ -42,17 +37,12 @@ use Rattle.dm_event_history.specs.declared.reply.Reply.{Reply}
 use Rattle.dm_event_history.specs.declared.reply.Reply.TheVariants.{Scanned, ScanRefused, Imported, ImportRefused}
 use Rattle.dm_event_history.specs.declared.reply.Reply.TheVariants as replies
 use Rattle.dm_event_history.specs.declared.stop.Stop.{Stop}
-use Rattle.dm_event_history.specs.Actors.{Actor, shown_of}
+use Rattle.dm_event_history.specs.Relay.{Actor, shown_of, CutDocument, Desk, Label, Relay}
 use Rattle.dm_event_history.specs.Relay as relays
-use Rattle.dm_event_history.specs.Relay.{CutDocument, Desk, Label, Relay}
-use Rattle.dm_event_history.specs.Calls.{Calls, Looks, MayLackFirst}
-use Rattle.dm_event_history.specs.DeskCalls.{AskTells, ExportTells, ForgetComes, ImportComes, ScanComes, ask_reply, forget_faults, import_faults, scan_course, scan_faults, verdict_course, page_reply, pages_reply}
-use Rattle.dm_event_history.specs.Steps.{Acts, DeskGoes, IsNamed, Step}
-use Rattle.dm_event_history.specs.Runs.{Moment}
-use Rattle.dm_event_history.specs.Clean.{ArePrinted, AreOfOneDocument, HaveLeft, IsCleanExport}
-use Rattle.dm_event_history.specs.Places.{IsSound}
-use Rattle.dm_event_history.specs.Headline.{AreAllClean, IsFairEvent}
-use Rattle.dm_event_history.specs.Safe.{EachFairReplyIsSafe, IsExportSafe, IsFullFor, IsImportKindSafe, IsImportRefusedSafe, IsImportedSafe, IsKindSafe, IsSafe, IsTrulyMissing, Known, docs, known_of}
+use Rattle.dm_event_history.specs.Calls.{Calls, Looks, MayLackFirst, AskTells, ExportTells, ForgetComes, ImportComes, ScanComes, ask_reply, forget_faults, import_faults, scan_course, scan_faults, verdict_course, page_reply, pages_reply}
+use Rattle.dm_event_history.specs.Steps.{Acts, DeskGoes, IsNamed, Step, Moment}
+use Rattle.dm_event_history.specs.Headline.{ArePrinted, AreOfOneDocument, HaveLeft, IsCleanExport, IsSound, AreAllClean, IsFairEvent}
+use Rattle.dm_event_history.specs.Safe.{EachFairReplyIsSafe, IsExportSafe, IsFullFor, IsImportKindSafe, IsImportRefusedSafe, IsImportedSafe, IsKindSafe, IsSafe, IsTrulyMissing, Known, docs, known_of, AreBetween, IsBetween}
 use Rattle.dm_event_history.proofs.Deciding.{decided, if_not, if_so, or_left, or_right, same_number, true_false}
 use Rattle.dm_event_history.proofs.MergedPages.{Differs, all_held, lacks_means, one_lacks}
 use Rattle.dm_event_history.proofs.Adds.{add_refuses, length-lone, lone_some, named_there, some_added, there_named}
@@ -61,7 +51,6 @@ use Rattle.dm_event_history.proofs.Stays.{lone_clean, lone_export, page_in}
 use Rattle.dm_event_history.proofs.Headline.{each_fair_run_is_clean, each_run_is_sound}
 use Rattle.dm_event_history.proofs.Answered.{IsOwn, is_answered, is_looked, is_made}
 use Rattle.dm_event_history.proofs.Told.{AddRefused, add_ended, no_page, own_import, own_scan, scan_told, scan_was_refused, was_wanted}
-use Rattle.dm_event_history.specs.Held.{AreBetween, IsBetween}
 use Rattle.dm_event_history.proofs.Between.{run_between}
 use Rattle.dm_assembly_desk.proofs.LonePages.{lone_here}
 

@@ -3,21 +3,18 @@ use Rattle.std.proofs.Common.{arith, ◌≡◌, ◌≢◌, inl, inr, ℕ, Option
 use Rattle.std.specs.Prelude.{unwrap_or}
 use Rattle.std.specs.Option.{option_or}
 use Rattle.std.specs.FinMap as finite
-use Rattle.dm_append_label.specs.Pages.{PageView}
-use Rattle.dm_append_label.specs.Heads.{IsHead, head_of}
+use Rattle.dm_append_label.specs.Labels.{PageView, IsHead, head_of}
 use Rattle.dm_append_label.specs.Opening.{OpensNear}
 use Rattle.dm_append_label.specs.declared.opening.Opened.{Opened}
 use Rattle.dm_append_label.specs.declared.fault.LabelFault.{LabelFault}
 use Rattle.dm_append_label.specs.declared.fault.LabelFault.TheVariants as label_fault
 use Rattle.dm_assembly_desk.specs.declared.reply.Kind.{Kind}
-use Rattle.dm_assembly_desk.specs.Pages.{Pages, page}
-use Rattle.dm_assembly_desk.specs.Documents.{Documents, page_at}
-use Rattle.dm_assembly_desk.specs.Accepting.{lone}
-use Rattle.dm_assembly_desk.specs.Adding.{add_kind, add_verdict, pages_with, with_pages}
+use Rattle.dm_assembly_desk.specs.Documents.{Pages, page, Documents, page_at}
+use Rattle.dm_assembly_desk.specs.Adding.{lone, add_kind, add_verdict, pages_with, with_pages}
 use Rattle.dm_assembly_desk.proofs.Undoing.{get_here}
 use Rattle.dm_assembly_desk.proofs.AddLaws.{no_longer, page_given}
 use Rattle.dm_assembly_desk.proofs.MergingLaws.{length_both}
-use Rattle.dm_print_ledger.specs.Views.{LedgerView}
+use Rattle.dm_print_ledger.specs.Ledger.{LedgerView}
 use Rattle.dm_event_history.specs.declared.event.Event.{Event}
 use Rattle.dm_event_history.specs.declared.event.Event.TheVariants.{Print, Scan, RestartPrinter, RestartDesk, Ask, Forget, Give, Take, Export, Import}
 use Rattle.dm_event_history.specs.declared.reply.Reply.{Reply}
@@ -25,13 +22,11 @@ use Rattle.dm_event_history.specs.declared.stop.Stop.{Stop}
 use Rattle.dm_event_history.proofs.Deciding.{same_or_other}
 use Rattle.dm_event_history.proofs.Gotten.{get_more, set_at}
 use Rattle.dm_event_history.proofs.HeldDocuments.{get_left, get_other, get_removed}
-use Rattle.dm_event_history.specs.Actors.{Actor}
+use Rattle.dm_event_history.specs.Relay.{Actor, Goods, Label, Relay}
 use Rattle.dm_event_history.specs.Relay as relays
-use Rattle.dm_event_history.specs.Relay.{Goods, Label, Relay}
-use Rattle.dm_event_history.specs.Calls.{Answers, Calls, Course, Ending, Faults, LacksMemory, Looks, MayLackFirst, Restarts, Saves}
-use Rattle.dm_event_history.specs.DeskCalls.{AskTells, ExportTells, MayBe, scan_course, verdict_course, page_reply, pages_reply, forget_reply}
+use Rattle.dm_event_history.specs.Calls.{Answers, Calls, Course, Ending, Faults, LacksMemory, Looks, MayLackFirst, Restarts, Saves, AskTells, ExportTells, MayBe, scan_course, verdict_course, page_reply, pages_reply, forget_reply}
 use Rattle.dm_event_history.specs.Steps.{Acts, DeskGoes, PrinterGoes}
-use Rattle.dm_event_history.specs.Clean.{ArePrinted, EachStepKeepsClean, HasLeft, HasPages, HaveLeft, IsClean, IsCleanActor, IsCleanExport, IsHarmless, IsPrinted}
+use Rattle.dm_event_history.specs.Headline.{ArePrinted, EachStepKeepsClean, HasLeft, HasPages, HaveLeft, IsClean, IsCleanActor, IsCleanExport, IsHarmless, IsPrinted}
 use Rattle.dm_event_history.proofs.Adds.{length-lone, lone_some, Answer, by_verdict}
 use Rattle.dm_event_history.proofs.Told.{forget_by, page_none, second_some}
 use Rattle.dm_assembly_desk.proofs.LonePages.{lone_here}

@@ -2,10 +2,8 @@
 use Rattle.std.proofs.Common.{◌≡◌, ◌≢◌, ◌+◌, ◌≤◌, ◌==◌, ◌||◌, inl, inr, ℕ, zero, suc, Bool, false, Some, List, [], ◌∷◌, ◌++◌, length, slice_get, refl, sym, ap, subst, ◌∙◌, arith, eq-eqb}
 use Rattle.std.specs.Prelude.{IsSomeAnd}
 use Rattle.dm_print_ledger.specs.declared.range.Range.{Range}
-use Rattle.dm_print_ledger.specs.Givers.{last_taken}
+use Rattle.dm_print_ledger.specs.Ledger.{last_taken, is_in, LedgerView, TicketView}
 use Rattle.dm_print_ledger.proofs.InLaws.{HasFree}
-use Rattle.dm_print_ledger.specs.Ranges.{is_in}
-use Rattle.dm_print_ledger.specs.Views.{LedgerView, TicketView}
 use Rattle.dm_print_ledger.specs.declared.fault.TakeFault.{TakeFault}
 use Rattle.dm_print_ledger.specs.declared.fault.TakeFault.TheVariants as take_fault
 use Rattle.dm_event_history.specs.declared.event.Event.{Event}
@@ -13,13 +11,10 @@ use Rattle.dm_event_history.specs.declared.event.Event.TheVariants.{Print, Resta
 use Rattle.dm_event_history.specs.declared.reply.Reply.{Reply}
 use Rattle.dm_event_history.specs.declared.reply.Reply.TheVariants.{TakeRefused}
 use Rattle.dm_event_history.specs.declared.stop.Stop.{Stop}
-use Rattle.dm_event_history.specs.Actors.{Actor, Running}
-use Rattle.dm_event_history.specs.Relay.{Lost, Move, Relay, Took, Used, start}
-use Rattle.dm_event_history.specs.Calls.{Answers, Calls, Course, Ending, LacksMemory, Saves}
-use Rattle.dm_event_history.specs.PrinterCalls.{TakeComes, take_faults}
-use Rattle.dm_event_history.specs.Steps.{Acts, PrinterGoes, Step}
-use Rattle.dm_event_history.specs.Runs.{IsRun, Moment}
-use Rattle.dm_event_history.specs.Places.{AreDisjoint, IsInOrder, IsSound, is_taken, one_if}
+use Rattle.dm_event_history.specs.Relay.{Actor, Running, Lost, Move, Relay, Took, Used, start}
+use Rattle.dm_event_history.specs.Calls.{Answers, Calls, Course, Ending, LacksMemory, Saves, TakeComes, take_faults}
+use Rattle.dm_event_history.specs.Steps.{Acts, PrinterGoes, Step, IsRun, Moment}
+use Rattle.dm_event_history.specs.Headline.{AreDisjoint, IsInOrder, IsSound, is_taken, one_if}
 use Rattle.dm_event_history.specs.Told.{EachRunTakesOnce}
 use Rattle.dm_event_history.proofs.Deciding.{decided, same_or_other, other_number}
 use Rattle.dm_event_history.proofs.Numbers.{free_some, on_taken}

@@ -5,7 +5,7 @@ use Rattle.dm_check_blocks.specs.Sizes.{row}
 use Rattle.dm_encodation.specs.declared.scheme.Scheme.TheVariants.{Ascii}
 use Rattle.dm_encodation.specs.Written.{IsGreatestPrefix, need_of}
 use Rattle.dm_encodation.specs.Written as written
-use Rattle.dm_append_label.specs.Parts.{AreParts}
+use Rattle.dm_append_label.specs.Labels.{AreParts}
 use Rattle.dm_event_history.specs.Worked.{digits, digits_cut}
 
 -- two of the digits fill a label

@@ -6,41 +6,33 @@ use Rattle.std.specs.FinMap.{get-empty, len-empty}
 use Rattle.std.specs.Ordering.{nat_cmp}
 use Rattle.dm_check_blocks.specs.declared.size.Size.TheVariants.{Side12}
 use Rattle.dm_encodation.specs.declared.scheme.Scheme.TheVariants.{Ascii}
-use Rattle.dm_symbol.specs.Symbols.{CarriesItsWords}
-use Rattle.dm_append_label.specs.Pages.{PageView}
+use Rattle.dm_symbol.specs.Correction.{CarriesItsWords}
+use Rattle.dm_append_label.specs.Labels.{PageView}
 use Rattle.dm_print_ledger.specs.declared.giver.Giver.{Giver}
 use Rattle.dm_print_ledger.specs.declared.fault.TakeFault.TheVariants as take_fault
-use Rattle.dm_print_ledger.specs.Views.{LedgerView, TicketView}
+use Rattle.dm_print_ledger.specs.Ledger.{LedgerView, TicketView}
 use Rattle.dm_print_ledger.specs.Creating.{opening}
 use Rattle.dm_assembly_desk.specs.declared.adding.AddFault.TheVariants as adds
 use Rattle.dm_assembly_desk.specs.declared.reply.Kind.TheVariants.{New, Again, Complete}
 use Rattle.dm_assembly_desk.specs.declared.fault.AskFault.TheVariants as ask_fault
-use Rattle.dm_assembly_desk.specs.Pages.{Pages}
+use Rattle.dm_assembly_desk.specs.Documents.{Pages, Documents, union_of, may_join, added_mask}
 use Rattle.dm_assembly_desk.specs.declared.adding.AddFault.{AddFault}
 use Rattle.dm_assembly_desk.specs.declared.reply.Accepted.{Accepted}
 use Rattle.dm_assembly_desk.specs.declared.reply.Kind.{Kind}
-use Rattle.dm_assembly_desk.specs.Documents.{Documents}
-use Rattle.dm_assembly_desk.specs.Merging.{union_of, may_join, added_mask}
-use Rattle.dm_assembly_desk.specs.Accepting.{lone}
-use Rattle.dm_assembly_desk.specs.Adding.{add_kind, pages_with, verdict_by, with_pages, kind_of}
-use Rattle.dm_assembly_desk.specs.Asking.{Asks}
+use Rattle.dm_assembly_desk.specs.Adding.{lone, add_kind, pages_with, verdict_by, with_pages, kind_of, Asks}
 use Rattle.dm_event_history.specs.declared.reply.Reply.TheVariants.{Printed, Scanned, Document, AskRefused, Given, Taken, TakeRefused, Restarted, Stopped, PrinterRefused}
 use Rattle.dm_event_history.specs.declared.reply.Reply.TheVariants as replies
 use Rattle.dm_event_history.specs.Worked.{digits, first_ticket, range}
 use Rattle.dm_event_history.proofs.HeldDocuments.{get_same}
-use Rattle.dm_event_history.specs.Actors.{Running, Down}
-use Rattle.dm_event_history.specs.Relay.{Desk, Goods, Label, Relay, Took, nothing, with_desk, with_printer}
-use Rattle.dm_event_history.specs.Calls.{Answers, Calls, Course, LacksMemory, Saves, cut_off, ending, ends}
-use Rattle.dm_event_history.specs.PrinterCalls.{GiveComes, PrintComes, TakeComes, take_faults}
+use Rattle.dm_event_history.specs.Relay.{Running, Down, Desk, Goods, Label, Relay, Took, nothing, with_desk, with_printer}
+use Rattle.dm_event_history.specs.Calls.{Answers, Calls, Course, LacksMemory, Saves, cut_off, ending, ends, GiveComes, PrintComes, TakeComes, take_faults, ScanComes, scan_faults, verdict_course, page_reply}
 use Rattle.std.proofs.lemmas.Option.{slice_get_within}
 use Rattle.dm_event_history.specs.declared.reply.Reply.{Reply}
 use Rattle.dm_event_history.specs.declared.stop.Stop.TheVariants as stops
-use Rattle.dm_event_history.specs.Steps.{HasModules, PrinterGoes, Step}
-use Rattle.dm_event_history.specs.Runs.{Tells}
+use Rattle.dm_event_history.specs.Steps.{HasModules, PrinterGoes, Step, Tells}
 use Rattle.dm_event_history.specs.Worked.{AreRuns, gathered, moved, one_printer, scan, stopped_after, stopped_before, two_printers}
 use Rattle.dm_event_history.proofs.WorkedLabels.{first_are, first_are_1, first_are_5, first_page, first_words, first_words_1, first_words_5, opened_page, opens, second_are, second_are_1, second_are_5, second_page, second_words, second_words_1, second_words_5}
 use Rattle.dm_event_history.proofs.WorkedSteps.{both_labels, desk_goes, label, ledger, printer_goes, saves_print}
-use Rattle.dm_event_history.specs.DeskCalls.{ScanComes, scan_faults, verdict_course, page_reply}
 
 -- ---- one step after another
 

@@ -2,22 +2,18 @@
 use Rattle.std.proofs.Common.{arith, ◌≡◌, ℕ, true, Ok, Some, List, [], ◌∷◌, slice_get, refl}
 use Rattle.dm_check_blocks.specs.declared.size.Size.TheVariants.{Side12}
 use Rattle.dm_encodation.specs.declared.scheme.Scheme.TheVariants.{Ascii}
-use Rattle.dm_symbol.specs.Symbols.{grid_of_words}
-use Rattle.dm_append_label.specs.Pages.{PageView}
+use Rattle.dm_symbol.specs.Correction.{grid_of_words}
+use Rattle.dm_append_label.specs.Labels.{PageView}
 use Rattle.dm_print_ledger.specs.declared.range.Range.{Range}
 use Rattle.dm_print_ledger.specs.declared.giver.Giver.{Giver}
-use Rattle.dm_print_ledger.specs.Changes.{least}
-use Rattle.dm_print_ledger.specs.Ledger.{is_sound}
-use Rattle.dm_print_ledger.specs.Verdicts.{print_verdict}
-use Rattle.dm_print_ledger.specs.Views.{LedgerView}
+use Rattle.dm_print_ledger.specs.Verdicts.{least, print_verdict}
+use Rattle.dm_print_ledger.specs.Ledger.{is_sound, LedgerView}
 use Rattle.dm_assembly_desk.specs.Documents.{Documents}
 use Rattle.dm_event_history.specs.declared.reply.Reply.TheVariants.{Printed}
 use Rattle.dm_event_history.specs.Worked.{digits, digits_cut}
 use Rattle.dm_event_history.proofs.WorkedParts.{are_rising_parts}
-use Rattle.dm_event_history.specs.Actors.{Actor}
-use Rattle.dm_event_history.specs.Relay.{Desk, Goods, Label, Relay, Used, with_desk, with_printer}
-use Rattle.dm_event_history.specs.Calls.{Ending, Saves}
-use Rattle.dm_event_history.specs.PrinterCalls.{PrintComes}
+use Rattle.dm_event_history.specs.Relay.{Actor, Desk, Goods, Label, Relay, Used, with_desk, with_printer}
+use Rattle.dm_event_history.specs.Calls.{Ending, Saves, PrintComes}
 use Rattle.dm_event_history.specs.Steps.{DeskGoes, PrinterGoes}
 use Rattle.dm_event_history.proofs.WorkedLabels.{AreWordsOf, first_page, is_label, second_page}
 

@@ -1,15 +1,210 @@
--- The headline, of every run of a relay whose printers begin with disjoint ranges.
-use Rattle.std.specs.Prelude.{◌≡◌, ◌<◌, ◌≤◌, ℕ, true, Some, length, List, [], ◌∷◌, slice_get}
-use Rattle.dm_print_ledger.specs.declared.range.Range.{Range}
+-- The headline: desks that are clean, where numbers are, and what holds of every run.
+use Rattle.std.specs.Prelude.{◌≡◌, ◌+◌, ℕ, Some, List, length, slice_get, IsSome, ◌⊎◌, ◌<◌, ◌≤◌, AllPairs, Bool, true, false, ◌==◌, ◌||◌, if◌then◌else◌, IsSomeAnd, [], ◌∷◌}
+use Rattle.std.specs.FinMap as finite
+use Rattle.dm_finder_frame.specs.Frame.{flipped}
+use Rattle.dm_symbol.specs.Correction.{IsNear}
+use Rattle.dm_append_label.specs.Labels.{Carries, AreParts}
+use Rattle.dm_assembly_desk.specs.Documents.{Pages, page, Documents, page_at}
 use Rattle.dm_event_history.specs.declared.event.Event.{Event}
-use Rattle.dm_event_history.specs.declared.event.Event.TheVariants.{Scan, Ask}
+use Rattle.dm_event_history.specs.declared.event.Event.TheVariants.{Scan, Ask, Import}
+use Rattle.dm_event_history.specs.declared.reply.Reply.{Reply}
 use Rattle.dm_event_history.specs.declared.reply.Reply.TheVariants.{Document}
-use Rattle.dm_event_history.specs.Saving.{may_save}
-use Rattle.dm_event_history.specs.Relay.{Relay, Label, Export, Used, start}
-use Rattle.dm_event_history.specs.Steps.{HasModules}
-use Rattle.dm_event_history.specs.Runs.{Moment, IsRun}
-use Rattle.dm_event_history.specs.Clean.{AreOfOneDocument, ArePrinted, IsClean, IsCleanExport, IsFair}
-use Rattle.dm_event_history.specs.Places.{AreDisjoint, AreOnce, IsSound, opened, places}
+use Rattle.dm_event_history.specs.Relay.{Actor, HasAll, stored_of, Relay, Desk, Label, Export, Move, Used, Took, Lost, start}
+use Rattle.dm_event_history.specs.Steps.{Step, HasModules, may_save, Moment, IsRun}
+use Rattle.dm_print_ledger.specs.declared.range.Range.{Range}
+use Rattle.dm_print_ledger.specs.Ledger.{is_free, is_in, last_taken, LedgerView, TicketView}
+
+-- ---- clean
+
+-- a label left of page m of the document of this identification, with these bytes
+pub record HasLeft (labels : List Label) (id m : ℕ) (bytes : List ℕ) : Type 0 where
+  pub number : ℕ
+  pub label : Label
+  pub there : slice_get labels number ≡ Some label
+  pub id_is : label.page.id ≡ id
+  pub m_is : label.page.m ≡ m
+  pub bytes_are : label.page.bytes ≡ bytes
+
+-- a label left of the document of this identification, which has that many pages
+pub record HasPages (labels : List Label) (id n : ℕ) : Type 0 where
+  pub number : ℕ
+  pub label : Label
+  pub there : slice_get labels number ≡ Some label
+  pub id_is : label.page.id ≡ id
+  pub n_is : label.page.n ≡ n
+
+-- a page of the document is there
+abbrev pub HasSome : Pages → Type 0
+HasSome pages = (m : ℕ) × IsSome (page pages m)
+
+-- of each page that is held a label left, and of each document, with as many pages; and a page of each is held
+pub record HaveLeft (labels : List Label) (held : Documents) : Type 0 where
+  pub pages : (id m : ℕ) (bytes : List ℕ) → page_at held id m ≡ Some bytes → HasLeft labels id m bytes
+  pub counts : (id : ℕ) (pages : Pages) → finite.get held id ≡ Some pages → HasPages labels id (length pages)
+  pub some : (id : ℕ) (pages : Pages) → finite.get held id ≡ Some pages → HasSome pages
+
+-- all that a desk shows and stores is so
+abbrev pub IsCleanActor : List Label → Actor Documents → Type 0
+IsCleanActor labels actor = HasAll (HaveLeft labels) actor
+
+abbrev pub IsClean : Relay → ℕ → Type 0
+IsClean relay number = (desk : Desk) → slice_get relay.desks number ≡ Some desk → IsCleanActor relay.labels desk.actor
+
+-- so it is of the pages of an export
+pub record IsCleanExport (labels : List Label) (export : Export) : Type 0 where
+  pub pages : (m : ℕ) (bytes : List ℕ) → page export.pages m ≡ Some bytes → HasLeft labels export.id m bytes
+  pub count : HasPages labels export.id (length export.pages)
+  pub some : HasSome export.pages
+
+-- ---- what keeps a desk clean
+
+-- a scan is fair where the flipped grid is near that of its label
+abbrev pub IsFair : Relay → ℕ → List (ℕ × ℕ) → Type 0
+IsFair relay number flips = (label : Label) → slice_get relay.labels number ≡ Some label →
+    IsNear (flipped label.grid flips) label.grid
+
+-- at this desk there is no scan that is not fair, and no import of an export that is not clean
+abbrev pub IsHarmless : {A : Type 0} → Relay → Event A → ℕ → Type 0
+IsHarmless relay (Scan desk number flips stop) own = desk ≡ own → IsFair relay number flips
+IsHarmless relay (Import desk number stop) own = desk ≡ own → (export : Export) →
+    slice_get relay.exports number ≡ Some export → IsCleanExport relay.labels export
+IsHarmless relay event own = Unit {0}
+
+-- ---- labels as they were printed
+
+-- the label is that of its part of the document that it is cut from
+pub record IsPrinted (label : Label) : Type 0 where
+  pub are_parts : AreParts label.cut.size label.cut.scheme label.cut.bytes label.cut.parts
+  pub place : ℕ
+  pub m_is : label.page.m ≡ place + 1
+  pub n_is : label.page.n ≡ length label.cut.parts
+  pub part : slice_get label.cut.parts place ≡ Some label.page.bytes
+  pub carries : Carries label.page label.grid
+
+abbrev pub ArePrinted : List Label → Type 0
+ArePrinted labels = (number : ℕ) (label : Label) → slice_get labels number ≡ Some label → IsPrinted label
+
+-- labels of one identification are cut from one document
+abbrev pub AreOfOneDocument : List Label → Type 0
+AreOfOneDocument labels = (i j : ℕ) (one other : Label) → slice_get labels i ≡ Some one →
+    slice_get labels j ≡ Some other → one.page.id ≡ other.page.id → one.cut ≡ other.cut
+
+-- ---- laws
+
+-- each label that leaves is as it was printed
+abbrev pub EachStepPrints : Type 0 → Type 0
+EachStepPrints A = (old new : Relay) (event : Event A) (reply : Reply A) → ArePrinted old.labels →
+    Step old event reply new → ArePrinted new.labels
+
+-- a step keeps a desk clean, unless it is a scan there that is not fair, or an import of an export that is not clean
+abbrev pub EachStepKeepsClean : Type 0 → Type 0
+EachStepKeepsClean A = (old new : Relay) (event : Event A) (reply : Reply A) (desk : ℕ) → ArePrinted old.labels →
+    IsClean old desk → IsHarmless old event desk → Step old event reply new → IsClean new desk
+
+-- What a clean desk gives for an identification is the document that all labels which left under it are cut from.
+abbrev pub EachCleanDeskGives : Type 0 → Type 0
+EachCleanDeskGives A = (old new : Relay) (desk id : ℕ) (bytes : List ℕ) → ArePrinted old.labels →
+    AreOfOneDocument old.labels → IsClean old desk → Step {A = A} old (Ask desk id) (Document bytes) new →
+    ((number : ℕ) (label : Label) → slice_get old.labels number ≡ Some label → label.page.id ≡ id →
+    label.cut.bytes ≡ bytes)
+    × (number : ℕ) × (label : Label) × (slice_get old.labels number ≡ Some label) × (label.page.id ≡ id)
+
+-- ---- Where numbers are: free at a printer, on a ticket that was not taken, used, or lost.
+
+-- one ends before the other begins
+abbrev pub IsApart : Range → Range → Type 0
+IsApart range other = (range.last < other.first) ⊎ (other.last < range.first)
+
+-- no number is in two of the opening ranges
+abbrev pub AreDisjoint : List Range → Type 0
+AreDisjoint ranges = AllPairs IsApart ranges
+
+abbrev pub one_if : Bool → ℕ
+one_if true = 1
+one_if false = 0
+
+-- at how many printers the number is free, by what they store
+abbrev pub free_at : List (Actor LedgerView) → ℕ → ℕ
+free_at [] number = 0
+free_at (actor ∷ actors) number = one_if (is_free (stored_of actor).free number) + free_at actors number
+
+-- the ticket of this number was taken
+abbrev pub is_taken : List Move → ℕ → Bool
+is_taken [] ticket = false
+is_taken (Used id ∷ moves) ticket = is_taken moves ticket
+is_taken (Took other ∷ moves) ticket = (other == ticket) || is_taken moves ticket
+is_taken (Lost range ∷ moves) ticket = is_taken moves ticket
+
+-- on how many tickets, numbered on from there, that were not taken it is
+abbrev pub on_tickets : List Move → ℕ → List TicketView → ℕ → ℕ
+on_tickets moves from [] number = 0
+on_tickets moves from (ticket ∷ tickets) number =
+    (if is_taken moves from then 0 else one_if (is_in ticket.range number))
+    + on_tickets moves (from + 1) tickets number
+
+-- how often it was used or lost
+abbrev pub gone : List Move → ℕ → ℕ
+gone [] number = 0
+gone (Used id ∷ moves) number = one_if (id == number) + gone moves number
+gone (Took ticket ∷ moves) number = gone moves number
+gone (Lost range ∷ moves) number = one_if (is_in range number) + gone moves number
+
+-- in how many places it is
+abbrev pub places : Relay → ℕ → ℕ
+places relay number =
+    free_at relay.printers number + on_tickets relay.moves 0 relay.tickets number + gone relay.moves number
+
+-- how many of the opening ranges it is in
+abbrev pub opened : List Range → ℕ → ℕ
+opened [] number = 0
+opened (range ∷ ranges) number = one_if (is_in range number) + opened ranges number
+
+-- a ticket that was taken left, and the printer that it is for has noted its serial, or a greater one
+pub record IsNoted (relay : Relay) (number : ℕ) : Type 0 where
+  pub ticket : TicketView
+  pub there : slice_get relay.tickets number ≡ Some ticket
+  pub noted : (actor : Actor LedgerView) → slice_get relay.printers ticket.receiver ≡ Some actor →
+      IsSomeAnd (last_taken (stored_of actor).givers ticket.giver) (λ last. ticket.serial ≤ last)
+
+-- each printer has its number, and each ticket that was taken is noted
+pub record IsInOrder (relay : Relay) : Type 0 where
+  pub numbers : (printer : ℕ) (actor : Actor LedgerView) → slice_get relay.printers printer ≡ Some actor →
+      (stored_of actor).number ≡ printer
+  pub noted : (number : ℕ) → is_taken relay.moves number ≡ true → IsNoted relay number
+
+-- ---- laws
+
+-- a step moves numbers, and makes or ends none
+abbrev pub EachStepKeepsNumbers : Type 0 → Type 0
+EachStepKeepsNumbers A = (old new : Relay) (event : Event A) (reply : Reply A) → IsInOrder old →
+    Step old event reply new → IsInOrder new × ((number : ℕ) → places new number ≡ places old number)
+
+-- each label that left has a number that was used
+abbrev pub AreUsed : Relay → Type 0
+AreUsed relay = (i : ℕ) (label : Label) → slice_get relay.labels i ≡ Some label → 1 ≤ gone relay.moves label.page.id
+
+-- no two labels that left have one identification and one number
+abbrev pub AreOnce : List Label → Type 0
+AreOnce labels = (i j : ℕ) (one other : Label) → slice_get labels i ≡ Some one → slice_get labels j ≡ Some other →
+    one.page.id ≡ other.page.id → one.page.m ≡ other.page.m → i ≡ j
+
+-- each number is in one place at most
+abbrev pub AreApart : Relay → Type 0
+AreApart relay = (number : ℕ) → places relay number ≤ 1
+
+-- what holds of each relay that a run from disjoint ranges reaches
+pub record IsSound (relay : Relay) : Type 0 where
+  pub order : IsInOrder relay
+  pub apart : AreApart relay
+  pub used : AreUsed relay
+  pub one_document : AreOfOneDocument relay.labels
+  pub once : AreOnce relay.labels
+
+abbrev pub EachStepIsSound : Type 0 → Type 0
+EachStepIsSound A = (old new : Relay) (event : Event A) (reply : Reply A) → IsSound old → Step old event reply new →
+    IsSound new
+
+-- ---- The headline, of every run of a relay whose printers begin with disjoint ranges.
 
 -- if it is a scan of what is there it is fair
 abbrev pub IsFairEvent : {A : Type 0} → Relay → Event A → Type 0

@@ -1,16 +1,39 @@
--- A relay: its printers and desks, and what left them.
-use Rattle.std.specs.Prelude.{ℕ, ◌+◌, List, [], ◌∷◌, ◌++◌, map, slice_set}
+-- A relay: its printers and desks as they run, fail and stop, and what left them.
+use Rattle.std.specs.Prelude.{Option, Some, None, ℕ, ◌+◌, List, [], ◌∷◌, ◌++◌, map, slice_set}
 use Rattle.std.specs.FinMap as finite
-use Rattle.dm_finder_frame.specs.Grids.{GridView}
-use Rattle.dm_append_label.specs.Pages.{PageView}
+use Rattle.dm_finder_frame.specs.Frame.{GridView}
+use Rattle.dm_append_label.specs.Labels.{PageView}
 use Rattle.dm_print_ledger.specs.declared.range.Range.{Range}
-use Rattle.dm_print_ledger.specs.Views.{LedgerView, TicketView}
+use Rattle.dm_print_ledger.specs.Ledger.{LedgerView, TicketView}
 use Rattle.dm_print_ledger.specs.Creating.{opening}
-use Rattle.dm_assembly_desk.specs.Pages.{Pages}
-use Rattle.dm_assembly_desk.specs.Documents.{Documents}
+use Rattle.dm_assembly_desk.specs.Documents.{Pages, Documents}
 use Rattle.dm_check_blocks.specs.declared.size.Size.{Size}
 use Rattle.dm_encodation.specs.declared.scheme.Scheme.{Scheme}
-use Rattle.dm_event_history.specs.Actors.{Actor, Running}
+
+-- one that runs shows what its store holds; one whose save failed shows what it did before, and its store holds that or
+-- what it was to save; one that is down shows nothing
+pub data Actor (C : Type 0) : Type 0 where
+  Running : C → Actor C
+  Failed : C → C → Actor C
+  Down : C → Actor C
+
+abbrev pub stored_of : {C : Type 0} → Actor C → C
+stored_of (Running held) = held
+stored_of (Failed shown stored) = stored
+stored_of (Down stored) = stored
+
+abbrev pub shown_of : {C : Type 0} → Actor C → Option C
+shown_of (Running held) = Some held
+shown_of (Failed shown stored) = Some shown
+shown_of (Down stored) = None
+
+-- all that it shows and stores is so
+abbrev pub HasAll : {C : Type 0} → (C → Type 0) → Actor C → Type 0
+HasAll Q (Running held) = Q held
+HasAll Q (Failed shown stored) = Q shown × Q stored
+HasAll Q (Down stored) = Q stored
+
+-- ---- A relay: its printers and desks, and what left them.
 
 -- a desk has room for that many documents
 pub record Desk : Type 0 where

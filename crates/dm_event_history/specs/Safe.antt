@@ -1,34 +1,100 @@
--- What is so of the replies of desks as long as each scan that may have saved is fair: they agree with what was
--- printed, and with what was scanned, imported and forgotten there.
-use Rattle.std.specs.Prelude.{◌≡◌, ◌≢◌, ◌≤◌, ◌↔◌, ℕ, true, ◌==◌, if◌then◌else◌, Option, Some, None, List, [], ◌∷◌, length, slice_get, IsSome}
+-- Replies of desks that agree with what was printed, and with what was scanned, imported and forgotten there.
+use Rattle.std.specs.Prelude.{◌≡◌, ◌⊎◌, ℕ, true, Some, List, [], ◌∷◌, slice_get, IsSome, ◌≢◌, ◌≤◌, ◌↔◌, ◌==◌, if◌then◌else◌, Option, None, length}
 use Rattle.std.specs.Ordering.{nat_cmp}
 use Rattle.std.specs.List.Sorted.{IsStrictlySortedBy}
+use Rattle.dm_assembly_desk.specs.Documents.{page, names, Documents, page_at}
+use Rattle.dm_event_history.specs.declared.event.Event.{Event}
+use Rattle.dm_event_history.specs.declared.event.Event.TheVariants.{Scan, Forget, Import, Ask, Export}
+use Rattle.dm_event_history.specs.declared.reply.Reply.{Reply}
+use Rattle.dm_event_history.specs.declared.reply.Reply.TheVariants.{Scanned, Forgotten, Imported, ScanRefused, Document, AskRefused, ForgetRefused, Exported, ExportRefused, ImportRefused}
+use Rattle.dm_event_history.specs.Steps.{may_save, Moment, IsRun}
+use Rattle.dm_event_history.specs.Relay.{HasAll, Desk, Relay, Label, CutDocument, start}
 use Rattle.dm_print_ledger.specs.declared.range.Range.{Range}
-use Rattle.dm_assembly_desk.specs.Pages.{page, names}
 use Rattle.dm_assembly_desk.specs.declared.reply.Kind.{Kind}
 use Rattle.dm_assembly_desk.specs.declared.reply.Kind.TheVariants.{New, Again, Complete}
 use Rattle.dm_assembly_desk.specs.declared.reply.Accepted.{Accepted}
-use Rattle.dm_assembly_desk.specs.declared.reply.Imported as imported_type
 use Rattle.dm_assembly_desk.specs.declared.fault.AskFault.{AskFault}
-use Rattle.dm_assembly_desk.specs.declared.fault.AskFault.TheVariants as ask_fault
 use Rattle.dm_assembly_desk.specs.declared.fault.ForgetFault.{ForgetFault}
-use Rattle.dm_assembly_desk.specs.declared.fault.ForgetFault.TheVariants as forget_fault
 use Rattle.dm_assembly_desk.specs.declared.fault.ExportFault.{ExportFault}
-use Rattle.dm_assembly_desk.specs.declared.fault.ExportFault.TheVariants as export_fault
 use Rattle.dm_assembly_desk.specs.declared.fault.ScanFault.{ScanFault}
-use Rattle.dm_assembly_desk.specs.declared.fault.ScanFault.TheVariants as scan_fault
 use Rattle.dm_assembly_desk.specs.declared.fault.ImportFault.{ImportFault}
-use Rattle.dm_assembly_desk.specs.declared.fault.ImportFault.TheVariants as import_fault
-use Rattle.dm_event_history.specs.declared.event.Event.{Event}
-use Rattle.dm_event_history.specs.declared.event.Event.TheVariants.{Scan, Ask, Forget, Export, Import}
-use Rattle.dm_event_history.specs.declared.reply.Reply.{Reply}
-use Rattle.dm_event_history.specs.declared.reply.Reply.TheVariants.{Scanned, ScanRefused, Document, AskRefused, Forgotten, ForgetRefused, Exported, ExportRefused, Imported, ImportRefused}
+use Rattle.dm_event_history.specs.Headline.{AreDisjoint, AreSavedFair, IsFairEvent}
 use Rattle.dm_event_history.specs.Relay as relays
-use Rattle.dm_event_history.specs.Relay.{CutDocument, Desk, Label, Relay, start}
-use Rattle.dm_event_history.specs.Runs.{Moment, IsRun}
-use Rattle.dm_event_history.specs.Places.{AreDisjoint}
-use Rattle.dm_event_history.specs.Headline.{AreSavedFair, IsFairEvent}
-use Rattle.dm_event_history.specs.Held.{AreBetween, IsPossiblyHeld, IsSurelyHeld}
+use Rattle.dm_assembly_desk.specs.declared.reply.Imported as imported_type
+use Rattle.dm_assembly_desk.specs.declared.fault.AskFault.TheVariants as ask_fault
+use Rattle.dm_assembly_desk.specs.declared.fault.ForgetFault.TheVariants as forget_fault
+use Rattle.dm_assembly_desk.specs.declared.fault.ExportFault.TheVariants as export_fault
+use Rattle.dm_assembly_desk.specs.declared.fault.ScanFault.TheVariants as scan_fault
+use Rattle.dm_assembly_desk.specs.declared.fault.ImportFault.TheVariants as import_fault
+
+-- the label of this number is that of page m of a document
+abbrev pub IsLabelOf : List Label → ℕ → ℕ → ℕ → Type 0
+IsLabelOf labels number id m =
+    (label : Label) × (slice_get labels number ≡ Some label) × (label.page.id ≡ id) × (label.page.m ≡ m)
+
+-- the export of this number has page m of a document
+abbrev pub HasExported : List relays.Export → ℕ → ℕ → ℕ → Type 0
+HasExported exports number id m =
+    (export : relays.Export) × (slice_get exports number ≡ Some export) × (export.id ≡ id)
+    × IsSome (page export.pages m)
+
+-- a scan at the desk was answered with this page, or an import there of an export that has it was done
+abbrev pub Takes : {A : Type 0} → Relay → Event A → Reply A → ℕ → ℕ → ℕ → Type 0
+Takes before (Scan desk number flips stop) (Scanned accepted) at id m =
+    (desk ≡ at) × (accepted.id ≡ id) × (accepted.m ≡ m)
+Takes before (Import desk number stop) (Imported imported) at id m =
+    (desk ≡ at) × HasExported before.exports number id m
+Takes before event reply at id m = ⊥
+
+-- a scan at the desk of a label of this page may have saved, or an import there of an export that has it
+abbrev pub MayTake : {A : Type 0} → Relay → Event A → Reply A → ℕ → ℕ → ℕ → Type 0
+MayTake before (Scan desk number flips stop) reply at id m =
+    (desk ≡ at) × (may_save (Scan desk number flips stop) reply ≡ true) × IsLabelOf before.labels number id m
+MayTake before (Import desk number stop) reply at id m =
+    (desk ≡ at) × (may_save (Import desk number stop) reply ≡ true) × HasExported before.exports number id m
+MayTake before event reply at id m = ⊥
+
+-- a forget of the document at the desk was answered `Forgotten`
+abbrev pub Forgets : {A : Type 0} → Event A → Reply A → ℕ → ℕ → Type 0
+Forgets (Forget desk name stop) Forgotten at id = (desk ≡ at) × (name ≡ id)
+Forgets event reply at id = ⊥
+
+-- a forget of the document at the desk may have saved
+abbrev pub MayForget : {A : Type 0} → Event A → Reply A → ℕ → ℕ → Type 0
+MayForget (Forget desk name stop) reply at id =
+    (desk ≡ at) × (name ≡ id) × (may_save (Forget desk name stop) reply ≡ true)
+MayForget event reply at id = ⊥
+
+-- page m of a document is surely held at a desk: a scan or an import took it, and no later forget may have saved
+abbrev pub IsSurelyHeld : {A : Type 0} → List (Moment A) → ℕ → ℕ → ℕ → Type 0
+IsSurelyHeld [] desk id m = ⊥
+IsSurelyHeld (moment ∷ earlier) desk id m =
+    Takes moment.before moment.event moment.reply desk id m
+    ⊎ ((¬ MayForget moment.event moment.reply desk id) × IsSurelyHeld earlier desk id m)
+
+-- page m of a document is possibly held at a desk: a scan or an import may have saved it, and no later forget was done
+abbrev pub IsPossiblyHeld : {A : Type 0} → List (Moment A) → ℕ → ℕ → ℕ → Type 0
+IsPossiblyHeld [] desk id m = ⊥
+IsPossiblyHeld (moment ∷ earlier) desk id m =
+    MayTake moment.before moment.event moment.reply desk id m
+    ⊎ ((¬ Forgets moment.event moment.reply desk id) × IsPossiblyHeld earlier desk id m)
+
+-- page m of a document is among these
+abbrev pub Has : Documents → ℕ → ℕ → Type 0
+Has held id m = IsSome (page_at held id m)
+
+-- all that is surely held there is among these, and each of these is possibly held
+pub record IsBetween {A : Type 0} (h : List (Moment A)) (desk : ℕ) (held : Documents) : Type 0 where
+  pub surely : (id m : ℕ) → IsSurelyHeld h desk id m → Has held id m
+  pub possibly : (id m : ℕ) → Has held id m → IsPossiblyHeld h desk id m
+
+-- so it is of all that the desks show and store
+abbrev pub AreBetween : {A : Type 0} → List (Moment A) → Relay → Type 0
+AreBetween h relay = (number : ℕ) (desk : Desk) → slice_get relay.desks number ≡ Some desk →
+    HasAll (IsBetween h number) desk.actor
+
+-- ---- What is so of the replies of desks as long as each scan that may have saved is fair: they agree with what was
+-- printed, and with what was scanned, imported and forgotten there.
 
 -- what was printed under an identification, by the labels that left
 abbrev pub docs : List Label → ℕ → Option CutDocument

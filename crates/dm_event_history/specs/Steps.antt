@@ -1,21 +1,114 @@
--- What one event does to a relay.
-use Rattle.std.specs.Prelude.{◌≡◌, ◌⊎◌, ◌<◌, ℕ, Some, List, length, slice_get, All}
-use Rattle.dm_check_blocks.specs.Sizes.{side}
-use Rattle.dm_finder_frame.specs.Grids.{flipped}
-use Rattle.dm_print_ledger.specs.declared.fault.OpenFault.TheVariants as open_fault
-use Rattle.dm_print_ledger.specs.Views.{LedgerView, TicketView}
-use Rattle.dm_assembly_desk.specs.declared.fault.DeskFault.TheVariants as desk_fault
-use Rattle.dm_assembly_desk.specs.Documents.{Documents}
+-- Who acts by an event, which events may have saved, what one event does to a relay, and runs of events.
+use Rattle.std.specs.Prelude.{◌==◌, ℕ, Bool, false, true, Option, Some, None, ◌≡◌, ◌⊎◌, ◌<◌, List, length, slice_get, All, [], ◌∷◌}
 use Rattle.dm_event_history.specs.declared.event.Event.{Event}
 use Rattle.dm_event_history.specs.declared.event.Event.TheVariants.{Print, Scan, RestartPrinter, RestartDesk, Ask, Forget, Give, Take, Export, Import}
+use Rattle.dm_store.specs.declared.fuse.Kept.TheVariants.{New}
 use Rattle.dm_event_history.specs.declared.reply.Reply.{Reply}
-use Rattle.dm_event_history.specs.declared.reply.Reply.TheVariants.{NoSuch, PrinterRefused, DeskRefused}
-use Rattle.dm_event_history.specs.Actors.{Actor}
+use Rattle.dm_event_history.specs.declared.reply.Reply.TheVariants.{Printed, PrintRefused, Scanned, ScanRefused, Forgotten, ForgetRefused, Given, GiveRefused, Taken, TakeRefused, Imported, ImportRefused, Stopped, NoSuch, PrinterRefused, DeskRefused}
+use Rattle.dm_event_history.specs.declared.stop.Stop.{Stop}
+use Rattle.dm_event_history.specs.declared.stop.Stop.TheVariants.{BeforeSave, InSave, SaveFault, AfterLabels}
+use Rattle.dm_check_blocks.specs.Sizes.{side}
+use Rattle.dm_finder_frame.specs.Frame.{flipped}
+use Rattle.dm_print_ledger.specs.Ledger.{LedgerView, TicketView}
+use Rattle.dm_assembly_desk.specs.Documents.{Documents}
+use Rattle.dm_event_history.specs.Relay.{Actor, Relay, Desk, Label, with_printer, with_desk}
+use Rattle.dm_event_history.specs.Calls.{Ending, Calls, MayLackFirst, Looks, Restarts, PrintComes, GiveComes, TakeComes, print_faults, give_faults, take_faults, ScanComes, ForgetComes, ImportComes, AskTells, ExportTells, scan_faults, forget_faults, import_faults}
+use Rattle.dm_print_ledger.specs.declared.fault.PrintFault.TheVariants as print_fault
+use Rattle.dm_print_ledger.specs.declared.fault.GiveFault.TheVariants as give_fault
+use Rattle.dm_print_ledger.specs.declared.fault.TakeFault.TheVariants as take_fault
+use Rattle.dm_assembly_desk.specs.declared.fault.ScanFault.TheVariants as scan_fault
+use Rattle.dm_assembly_desk.specs.declared.fault.ForgetFault.TheVariants as forget_fault
+use Rattle.dm_assembly_desk.specs.declared.fault.ImportFault.TheVariants as import_fault
+use Rattle.dm_event_history.specs.declared.stop.Stop.TheVariants as stops
+use Rattle.dm_print_ledger.specs.declared.fault.OpenFault.TheVariants as open_fault
+use Rattle.dm_assembly_desk.specs.declared.fault.DeskFault.TheVariants as desk_fault
 use Rattle.dm_event_history.specs.Relay as relays
-use Rattle.dm_event_history.specs.Relay.{Relay, Desk, Label, with_printer, with_desk}
-use Rattle.dm_event_history.specs.Calls.{Ending, Calls, MayLackFirst, Looks, Restarts}
-use Rattle.dm_event_history.specs.PrinterCalls.{PrintComes, GiveComes, TakeComes, print_faults, give_faults, take_faults}
-use Rattle.dm_event_history.specs.DeskCalls.{ScanComes, ForgetComes, ImportComes, AskTells, ExportTells, scan_faults, forget_faults, import_faults}
+
+-- a printer or a desk, by its number
+pub data Named : Type 0 where
+  PrinterAt : ℕ → Named
+  DeskAt : ℕ → Named
+
+-- the one that an event names
+abbrev pub actor_of : {A : Type 0} → Event A → Named
+actor_of (Print printer document size scheme stop) = PrinterAt printer
+actor_of (Scan desk label flips stop) = DeskAt desk
+actor_of (RestartPrinter printer) = PrinterAt printer
+actor_of (RestartDesk desk) = DeskAt desk
+actor_of (Ask desk id) = DeskAt desk
+actor_of (Forget desk id stop) = DeskAt desk
+actor_of (Give printer receiver range stop) = PrinterAt printer
+actor_of (Take printer ticket stop) = PrinterAt printer
+actor_of (Export desk id) = DeskAt desk
+actor_of (Import desk export stop) = DeskAt desk
+
+-- whether two are one
+abbrev pub is_same : Named → Named → Bool
+is_same (PrinterAt one) (PrinterAt other) = one == other
+is_same (DeskAt one) (DeskAt other) = one == other
+is_same (PrinterAt one) (DeskAt other) = false
+is_same (DeskAt one) (PrinterAt other) = false
+
+-- ---- Which events may have saved, and which are to end before their replies.
+
+-- what is to happen to the call of an event; a restart, an ask and an export have no such thing
+abbrev pub stop_of : {A : Type 0} → Event A → Option Stop
+stop_of (Print printer document size scheme stop) = Some stop
+stop_of (Scan desk label flips stop) = Some stop
+stop_of (RestartPrinter printer) = None
+stop_of (RestartDesk desk) = None
+stop_of (Ask desk id) = None
+stop_of (Forget desk id stop) = Some stop
+stop_of (Give printer receiver range stop) = Some stop
+stop_of (Take printer ticket stop) = Some stop
+stop_of (Export desk id) = None
+stop_of (Import desk export stop) = Some stop
+
+-- a save that meets a device fault leaves the new content
+abbrev pub leaves_new : Option Stop → Bool
+leaves_new (Some (SaveFault New)) = true
+leaves_new stop = false
+
+-- a call that is stopped had saved, if it came so far
+abbrev pub stops_after_save : Option Stop → Bool
+stops_after_save (Some (InSave New)) = true
+stops_after_save (Some (AfterLabels count)) = true
+stops_after_save stop = false
+
+-- whether an event that was answered so may have saved
+abbrev pub may_save : {A : Type 0} → Event A → Reply A → Bool
+may_save event (Printed id first count) = true
+may_save event (Given index ticket) = true
+may_save event Taken = true
+may_save event (Scanned accepted) = true
+may_save event Forgotten = true
+may_save event (Imported imported) = true
+may_save event (PrintRefused print_fault.Save) = leaves_new (stop_of event)
+may_save event (GiveRefused give_fault.Save) = leaves_new (stop_of event)
+may_save event (TakeRefused take_fault.Save) = leaves_new (stop_of event)
+may_save event (ScanRefused scan_fault.Save) = leaves_new (stop_of event)
+may_save event (ForgetRefused forget_fault.Save) = leaves_new (stop_of event)
+may_save event (ImportRefused import_fault.Save) = leaves_new (stop_of event)
+may_save event Stopped = stops_after_save (stop_of event)
+may_save event other = false
+
+-- the call is to end before its reply
+abbrev pub IsStopping : Stop → Type 0
+IsStopping BeforeSave = Unit {0}
+IsStopping (InSave kept) = Unit {0}
+IsStopping (AfterLabels count) = Unit {0}
+IsStopping stops.None = ⊥
+IsStopping (SaveFault kept) = ⊥
+
+-- a save under this stop leaves the new content
+abbrev pub Stores : Stop → Type 0
+Stores stops.None = Unit {0}
+Stores (SaveFault New) = Unit {0}
+Stores (InSave New) = Unit {0}
+Stores (AfterLabels count) = Unit {0}
+Stores stop = ⊥
+
+-- ---- What one event does to a relay.
 
 -- ---- what is there
 
@@ -93,3 +186,42 @@ abbrev pub Step : {A : Type 0} → Relay → Event A → Reply A → Relay → T
 Step old event reply new =
     (IsNamed old event × Acts old event reply new)
     ⊎ ((¬ IsNamed old event) × (reply ≡ NoSuch) × (new ≡ old))
+
+-- ---- Runs of a relay.
+
+-- an event, what it was answered, and the relay before it
+pub record Moment (A : Type 0) : Type 0 where
+  pub before : Relay
+  pub event : Event A
+  pub reply : Reply A
+
+-- these moments, the newest of them first, led from a relay to another
+abbrev pub IsRun : {A : Type 0} → Relay → List (Moment A) → Relay → Type 0
+IsRun from [] end = end ≡ from
+IsRun from (moment ∷ earlier) end =
+    IsRun from earlier moment.before × Step moment.before moment.event moment.reply end
+
+-- these moments, the first of them first, after earlier ones: the newest first
+abbrev pub onto : {A : Type 0} → List (Moment A) → List (Moment A) → List (Moment A)
+onto [] earlier = earlier
+onto (moment ∷ later) earlier = onto later (moment ∷ earlier)
+
+-- each moment, the first of them first, is that of its event and its reply
+abbrev pub AreMomentsOf : {A : Type 0} → List (Event A) → List (Reply A) → List (Moment A) → Type 0
+AreMomentsOf [] [] [] = Unit {0}
+AreMomentsOf (event ∷ events) (reply ∷ replies) (moment ∷ moments) =
+    (moment.event ≡ event) × (moment.reply ≡ reply) × AreMomentsOf events replies moments
+AreMomentsOf events replies moments = ⊥
+
+-- an event and what it is answered
+pub record Said (A : Type 0) : Type 0 where
+  pub event : Event A
+  pub reply : Reply A
+
+abbrev pub said : {A : Type 0} → Event A → Reply A → Said A
+said event reply = record { event = event; reply = reply }
+
+-- from this relay on just this may be said, the first of it first
+abbrev pub Tells : {A : Type 0} → Relay → List (Said A) → Type 0
+Tells from [] = Unit {0}
+Tells from (one ∷ more) = (next : Relay) × Step from one.event one.reply next × Tells next more

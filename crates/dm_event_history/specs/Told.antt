@@ -1,39 +1,85 @@
--- What the replies of a history tell of its printers and desks, and why its events are refused.
-use Rattle.std.specs.Prelude.{◌≡◌, ◌≢◌, ◌+◌, ◌==◌, ◌&&◌, ◌||◌, not, ℕ, Bool, true, false, if◌then◌else◌, Some, List, [], ◌∷◌, slice_get}
+-- When replies may be given, and what they tell: who is down, who has failed, and why events are refused.
+use Rattle.std.specs.Prelude.{◌≡◌, ◌≢◌, ◌+◌, ◌==◌, ◌&&◌, ◌||◌, not, ℕ, Bool, true, false, if◌then◌else◌, Some, List, [], ◌∷◌, slice_get, ◌↔◌, ◌⊎◌, IsSomeAnd}
 use Rattle.std.specs.Option.{option_map_or}
 use Rattle.dm_check_blocks.specs.declared.size.Size.{Size}
 use Rattle.dm_encodation.specs.declared.scheme.Scheme.{Scheme}
-use Rattle.dm_finder_frame.specs.Grids.{GridView, flipped}
-use Rattle.dm_finder_frame.specs.UnframeOutcome.{HasGoodFrame, HasBadFrame}
-use Rattle.dm_append_label.specs.Parts.{HasNoEnds}
+use Rattle.dm_finder_frame.specs.Frame.{GridView, flipped, HasGoodFrame, HasBadFrame}
+use Rattle.dm_append_label.specs.Labels.{HasNoEnds}
 use Rattle.dm_append_label.specs.declared.fault.LabelFault.TheVariants.{Border}
 use Rattle.dm_store.specs.declared.fuse.Kept.{Kept}
 use Rattle.dm_print_ledger.specs.declared.range.Range.{Range}
-use Rattle.dm_print_ledger.specs.Ranges.{free_count, size_of}
-use Rattle.dm_print_ledger.specs.Views.{LedgerView, TicketView}
+use Rattle.dm_print_ledger.specs.Ledger.{free_count, size_of, LedgerView, TicketView}
+use Rattle.dm_event_history.specs.declared.event.Event.{Event}
+use Rattle.dm_event_history.specs.declared.event.Event.TheVariants.{Print, Scan, Give, Take, RestartPrinter, RestartDesk}
+use Rattle.dm_event_history.specs.declared.reply.Reply.{Reply}
+use Rattle.dm_event_history.specs.declared.reply.Reply.TheVariants.{PrintRefused, Scanned, ScanRefused, ForgetRefused, GiveRefused, TakeRefused, ImportRefused, Restarted, PrinterRefused, DeskRefused, Stopped, Down, NoSuch, Memory, Printed, Forgotten, Given, Taken, Imported}
+use Rattle.dm_event_history.specs.declared.stop.Stop.{Stop}
+use Rattle.dm_event_history.specs.Steps.{DeskAt, Named, PrinterAt, actor_of, is_same, may_save, stop_of, IsStopping, IsRun, Moment, Step, IsNamed}
+use Rattle.dm_event_history.specs.Relay.{Actor, stored_of, Running, Failed, Desk, Label, Relay, Took, start}
+use Rattle.dm_event_history.specs.Headline.{ArePrinted, IsFairEvent, AreDisjoint}
+use Rattle.dm_assembly_desk.specs.declared.reply.Kind.{Kind}
+use Rattle.dm_assembly_desk.specs.declared.reply.Kind.TheVariants.{New, Again, Complete}
 use Rattle.dm_print_ledger.specs.declared.fault.PrintFault.TheVariants as print_fault
 use Rattle.dm_print_ledger.specs.declared.fault.GiveFault.TheVariants as give_fault
 use Rattle.dm_print_ledger.specs.declared.fault.TakeFault.TheVariants as take_fault
 use Rattle.dm_assembly_desk.specs.declared.fault.ScanFault.TheVariants as scan_fault
 use Rattle.dm_assembly_desk.specs.declared.fault.ForgetFault.TheVariants as forget_fault
 use Rattle.dm_assembly_desk.specs.declared.fault.ImportFault.TheVariants as import_fault
-use Rattle.dm_event_history.specs.declared.event.Event.{Event}
-use Rattle.dm_event_history.specs.declared.event.Event.TheVariants.{Print, Scan, Give, Take}
-use Rattle.dm_event_history.specs.declared.reply.Reply.{Reply}
-use Rattle.dm_event_history.specs.declared.reply.Reply.TheVariants.{PrintRefused, Scanned, ScanRefused, ForgetRefused, GiveRefused, TakeRefused, ImportRefused, Restarted, PrinterRefused, DeskRefused, Stopped, Down, NoSuch, Memory}
-use Rattle.dm_event_history.specs.declared.stop.Stop.{Stop}
 use Rattle.dm_event_history.specs.declared.stop.Stop.TheVariants as stops
-use Rattle.dm_event_history.specs.WhoActs.{DeskAt, Named, PrinterAt, actor_of, is_same}
-use Rattle.dm_event_history.specs.Saving.{may_save, stop_of}
-use Rattle.dm_event_history.specs.Actors as actors
-use Rattle.dm_event_history.specs.Actors.{Actor, stored_of}
-use Rattle.dm_event_history.specs.Relay.{Desk, Label, Relay, Took, start}
-use Rattle.dm_event_history.specs.Runs.{IsRun, Moment}
-use Rattle.dm_event_history.specs.Steps.{Step}
-use Rattle.dm_event_history.specs.Clean.{ArePrinted}
-use Rattle.dm_event_history.specs.Headline.{IsFairEvent}
-use Rattle.dm_event_history.specs.Legal.{tells_of_save}
-use Rattle.dm_event_history.specs.Places.{AreDisjoint}
+use Rattle.dm_event_history.specs.Relay as actors
+use Rattle.dm_event_history.specs.declared.reply.Reply.TheVariants as replies
+
+abbrev pub IsDown : {C : Type 0} → Actor C → Type 0
+IsDown (Running held) = ⊥
+IsDown (Failed shown stored) = ⊥
+IsDown (actors.Down stored) = Unit {0}
+
+abbrev pub IsDownAt : Relay → Named → Type 0
+IsDownAt relay (PrinterAt printer) =
+    (actor : Actor LedgerView) × (slice_get relay.printers printer ≡ Some actor) × IsDown actor
+IsDownAt relay (DeskAt number) = (desk : Desk) × (slice_get relay.desks number ≡ Some desk) × IsDown desk.actor
+
+-- an event to which one that is down answers `Down`
+abbrev pub NeedsRunning : {A : Type 0} → Event A → Type 0
+NeedsRunning (RestartPrinter printer) = ⊥
+NeedsRunning (RestartDesk desk) = ⊥
+NeedsRunning event = Unit {0}
+
+-- the event is a call that is to end before its reply
+abbrev pub IsStopped : {A : Type 0} → Event A → Type 0
+IsStopped event = IsSomeAnd (stop_of event) IsStopping
+
+abbrev pub is_new : Kind → Bool
+is_new New = true
+is_new Complete = true
+is_new Again = false
+
+-- the reply tells of a save
+abbrev pub tells_of_save : {A : Type 0} → Reply A → Bool
+tells_of_save (Printed id first count) = true
+tells_of_save (Given index ticket) = true
+tells_of_save Taken = true
+tells_of_save (Scanned accepted) = is_new accepted.kind
+tells_of_save Forgotten = true
+tells_of_save (Imported imported) = is_new imported.kind
+tells_of_save other = false
+
+-- `NoSuch` is answered exactly where something named is not there; else `Down` exactly where the one that is named is
+-- down, and this is no restart; else `Stopped` or `Memory` where the call is to end before its reply, and `Stopped`
+-- only there. A reply tells of a save only where nothing was to happen to the call.
+pub record IsLegal {A : Type 0} (old : Relay) (event : Event A) (reply : Reply A) : Type 0 where
+  pub no_such : (reply ≡ NoSuch) ↔ (¬ IsNamed old event)
+  pub down : (reply ≡ replies.Down) ↔ (IsNamed old event × NeedsRunning event × IsDownAt old (actor_of event))
+  pub stopped : reply ≡ Stopped → IsStopped event
+  pub ended : IsNamed old event → ¬ IsDownAt old (actor_of event) → IsStopped event →
+      (reply ≡ Stopped) ⊎ (reply ≡ Memory)
+  pub saves : tells_of_save reply ≡ true → stop_of event ≡ Some stops.None
+
+abbrev pub EachStepIsLegal : Type 0 → Type 0
+EachStepIsLegal A = (old new : Relay) (event : Event A) (reply : Reply A) → Step old event reply new →
+    IsLegal old event reply
+
+-- ---- What the replies of a history tell of its printers and desks, and why its events are refused.
 
 -- ---- who is down, and who has failed
 

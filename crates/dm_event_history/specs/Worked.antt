@@ -4,7 +4,7 @@ use Rattle.dm_check_blocks.specs.declared.size.Size.TheVariants.{Side12}
 use Rattle.dm_encodation.specs.declared.scheme.Scheme.TheVariants.{Ascii}
 use Rattle.dm_store.specs.declared.fuse.Kept.TheVariants.{Old}
 use Rattle.dm_print_ledger.specs.declared.range.Range.{Range}
-use Rattle.dm_print_ledger.specs.Views.{TicketView}
+use Rattle.dm_print_ledger.specs.Ledger.{TicketView}
 use Rattle.dm_print_ledger.specs.declared.fault.TakeFault.TheVariants as take_fault
 use Rattle.dm_assembly_desk.specs.declared.reply.Kind.{Kind}
 use Rattle.dm_assembly_desk.specs.declared.reply.Kind.TheVariants.{New, Again, Complete}
@@ -16,7 +16,7 @@ use Rattle.dm_event_history.specs.declared.reply.Reply.TheVariants.{Printed, Sca
 use Rattle.dm_event_history.specs.declared.stop.Stop.{Stop}
 use Rattle.dm_event_history.specs.declared.stop.Stop.TheVariants.{None, InSave, AfterLabels}
 use Rattle.dm_event_history.specs.Relay.{CutDocument, Relay, start}
-use Rattle.dm_event_history.specs.Runs.{Said, said, Tells}
+use Rattle.dm_event_history.specs.Steps.{Said, said, Tells}
 
 abbrev pub digits : List ℕ
 digits = 49 ∷ 50 ∷ 51 ∷ 52 ∷ []

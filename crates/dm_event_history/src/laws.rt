@@ -1,13 +1,10 @@
 //! Laws of the machine: each function's contract is the law. They speak of definitions alone, so the functions do
 //! nothing, or call a law below.
 
-ghost use Rattle.dm_event_history.specs.Clean.{EachCleanDeskGives, EachStepKeepsClean, EachStepPrints};
-ghost use Rattle.dm_event_history.specs.Headline.{EachRunIsSound, EachRunIsTrue, EachRunKeepsNumbers};
+ghost use Rattle.dm_event_history.specs.Headline.{EachCleanDeskGives, EachStepKeepsClean, EachStepPrints, EachRunIsSound, EachRunIsTrue, EachRunKeepsNumbers, EachStepIsSound, EachStepKeepsNumbers};
 ghost use Rattle.dm_event_history.specs.Laws.{NothingIsOpenButMemory};
-ghost use Rattle.dm_event_history.specs.Legal.{EachStepIsLegal};
-ghost use Rattle.dm_event_history.specs.Places.{EachStepIsSound, EachStepKeepsNumbers};
+ghost use Rattle.dm_event_history.specs.Told.{EachStepIsLegal, EachExhaustedIsSo, EachFailedFailed, EachRunIsAsTold, EachRunTakesOnce, EachStepIsRefusedSo};
 ghost use Rattle.dm_event_history.specs.Safe.{EachFairDeskIsBetween, EachFairReplyIsSafe};
-ghost use Rattle.dm_event_history.specs.Told.{EachExhaustedIsSo, EachFailedFailed, EachRunIsAsTold, EachRunTakesOnce, EachStepIsRefusedSo};
 ghost use Rattle.dm_event_history.specs.Worked.{AreNone, AreRuns};
 
 use dm_check_blocks::Size;

@@ -3,19 +3,17 @@ use Rattle.std.proofs.Common.{◌≡◌, ◌+◌, ℕ, zero, suc, Some, List, []
 use Rattle.std.proofs.lemmas.List.{length-map}
 use Rattle.dm_print_ledger.specs.declared.range.Range.{Range}
 use Rattle.dm_print_ledger.specs.Creating.{opening}
-use Rattle.dm_print_ledger.specs.Views.{LedgerView, TicketView}
-use Rattle.dm_assembly_desk.specs.Views.{IsCapacity}
-use Rattle.dm_event_history.specs.Actors.{Actor, Running}
-use Rattle.dm_event_history.specs.Places.{AreDisjoint}
-use Rattle.dm_event_history.specs.Relay.{Desk, empty_desk, fresh_from, start}
+use Rattle.dm_print_ledger.specs.Ledger.{LedgerView, TicketView}
+use Rattle.dm_assembly_desk.specs.Documents.{IsCapacity}
+use Rattle.dm_event_history.specs.Relay.{Actor, Running, Desk, empty_desk, fresh_from, start}
+use Rattle.dm_event_history.specs.Headline.{AreDisjoint}
 use Rattle.dm_event_world.specs.declared.actor.PrinterActor.{PrinterActor}
 use Rattle.dm_event_world.specs.declared.actor.DeskActor.{DeskActor}
 use Rattle.dm_event_world.specs.declared.actor.LeftLabel.{LeftLabel}
 use Rattle.dm_event_world.specs.declared.actor.LeftExport.{LeftExport}
-use Rattle.dm_event_world.specs.Shows.{ShowsDesk, ShowsPrinter}
-use Rattle.dm_event_world.specs.StandsFor.{AreRanges, StandsFor}
+use Rattle.dm_event_world.specs.Shows.{ShowsDesk, ShowsPrinter, AreRanges, StandsFor}
 use Rattle.dm_event_world.specs.inner.Desks.{AreEmpty}
-use Rattle.dm_event_world.specs.inner.Printers.{AreFresh}
+use Rattle.dm_event_world.specs.inner.Calls.{AreFresh}
 use Rattle.dm_event_world.proofs.Changing.{world_of}
 use Rattle.dm_event_world.proofs.Mapped.{get_map_from}
 

@@ -2,13 +2,12 @@
 use Rattle.std.proofs.Common.{◌≡◌, ◌⊎◌, ◌<◌, ◌≤◌, inl, inr, ℕ, zero, suc, Some, List, [], ◌∷◌, ◌++◌, length, map, slice_get, slice_set, slice_index_or, refl, sym, ap, subst, ◌∙◌, arith}
 use Rattle.std.proofs.lemmas.List.{append-nil, length-map, length-set, map-append}
 use Rattle.std.proofs.lemmas.Option.{slice_get-get_or, slice_get_within}
-use Rattle.dm_print_ledger.specs.Views.{LedgerView, TicketView}
+use Rattle.dm_print_ledger.specs.Ledger.{LedgerView, TicketView}
 use Rattle.dm_assembly_desk.specs.Documents.{Documents}
 use Rattle.dm_event_history.specs.declared.event.Event.{Event}
 use Rattle.dm_event_history.specs.declared.reply.Reply.{Reply}
 use Rattle.dm_event_history.specs.declared.reply.Reply.TheVariants.{NoSuch}
-use Rattle.dm_event_history.specs.Actors.{Actor, stored_of}
-use Rattle.dm_event_history.specs.Relay.{Desk, Goods, Relay, with_desk, with_printer}
+use Rattle.dm_event_history.specs.Relay.{Actor, stored_of, Desk, Goods, Relay, with_desk, with_printer}
 use Rattle.dm_event_history.specs.Calls.{Ending}
 use Rattle.dm_event_history.specs.Steps.{DeskGoes, IsNamed, PrinterGoes, Step}
 use Rattle.dm_event_history.proofs.Gotten.{in_either}
@@ -17,9 +16,8 @@ use Rattle.dm_event_world.specs.declared.actor.DeskActor.{DeskActor}
 use Rattle.dm_event_world.specs.declared.actor.DeskState.{DeskState}
 use Rattle.dm_event_world.specs.declared.actor.LeftLabel.{LeftLabel}
 use Rattle.dm_event_world.specs.declared.actor.LeftExport.{LeftExport}
-use Rattle.dm_event_world.specs.Worlds.{WorldView}
-use Rattle.dm_event_world.specs.Shows.{Shows, ShowsDesk, ShowsPrinter, left_export, left_label}
-use Rattle.dm_event_world.specs.inner.Ends.{EndsSo, Left}
+use Rattle.dm_event_world.specs.Shows.{WorldView, Shows, ShowsDesk, ShowsPrinter, left_export, left_label}
+use Rattle.dm_event_world.specs.inner.Calls.{EndsSo, Left}
 use Rattle.dm_event_world.specs.inner.Events.{Steps}
 
 -- ---- lists

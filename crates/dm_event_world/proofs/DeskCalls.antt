@@ -6,7 +6,7 @@ use Rattle.std.proofs.Common.{arith}
 use Rattle.std.specs.Cmp.{nat_cmp_total}
 use Rattle.std.specs.FinMap as finite
 use Rattle.std.specs.FinMap.{len-insert}
-use Rattle.dm_finder_frame.specs.Grids.{GridView}
+use Rattle.dm_finder_frame.specs.Frame.{GridView}
 use Rattle.dm_append_label.specs.Opening.{LabelOpens}
 use Rattle.dm_append_label.specs.declared.opening.Opened.{Opened}
 use Rattle.dm_append_label.specs.declared.fault.LabelFault.{LabelFault}
@@ -20,24 +20,16 @@ use Rattle.dm_assembly_desk.specs.declared.fault.ScanFault.{ScanFault}
 use Rattle.dm_assembly_desk.specs.declared.fault.ScanFault.TheVariants as scan_fault
 use Rattle.dm_assembly_desk.specs.declared.fault.ImportFault.{ImportFault}
 use Rattle.dm_assembly_desk.specs.declared.fault.ImportFault.TheVariants as import_fault
-use Rattle.dm_assembly_desk.specs.Adding.{add_verdict, pages_with, reply_of, with_pages}
-use Rattle.dm_assembly_desk.specs.Accepting.{AcceptsGrid, Scans, lone}
-use Rattle.dm_assembly_desk.specs.Importing.{ImportsBytes}
+use Rattle.dm_assembly_desk.specs.Adding.{add_verdict, pages_with, reply_of, with_pages, AcceptsGrid, Scans, lone, ImportsBytes, Becomes, SavesDocument, Stays, Verdict, answer_by, Forgets, forget_verdict}
 use Rattle.dm_assembly_desk.proofs.AddLaws as laws
 use Rattle.dm_assembly_desk.proofs.Undoing.{get_here}
 use Rattle.dm_event_history.proofs.Adds as verdicts
-use Rattle.dm_store.specs.Saved.{Done, Faulted, Outcome, Refused}
-use Rattle.dm_store.specs.Sets.{SavedSet}
+use Rattle.dm_store.specs.Saved.{Done, Faulted, Outcome, Refused, SavedSet}
 use Rattle.dm_store.specs.declared.fuse.Kept.TheVariants.{Old, New}
 use Rattle.dm_store.specs.declared.mem_store.NextSave.{NextSave}
 use Rattle.dm_store.specs.declared.mem_store.NextSave.TheVariants as next_save
-use Rattle.dm_assembly_desk.specs.Pages.{Pages}
-use Rattle.dm_assembly_desk.specs.Files.{IsEntry, file}
-use Rattle.dm_assembly_desk.specs.Documents.{Documents}
-use Rattle.dm_assembly_desk.specs.Holding as holding
-use Rattle.dm_assembly_desk.specs.Holding.{Becomes, SavesDocument, Stays, Verdict, answer_by}
-use Rattle.dm_assembly_desk.specs.Views.{DeskView}
-use Rattle.dm_assembly_desk.specs.Forgetting.{Forgets, forget_verdict}
+use Rattle.dm_assembly_desk.specs.Documents.{Pages, IsEntry, file, Documents, DeskView}
+use Rattle.dm_assembly_desk.specs.Adding as holding
 use Rattle.dm_assembly_desk.specs.declared.fault.ForgetFault.{ForgetFault}
 use Rattle.dm_assembly_desk.specs.declared.fault.ForgetFault.TheVariants as forget_fault
 use Rattle.dm_assembly_desk.proofs.Saving.{few_remove}
@@ -47,16 +39,13 @@ use Rattle.dm_event_history.specs.declared.reply.Reply.TheVariants.{ForgetRefuse
 use Rattle.dm_event_history.specs.declared.stop.Stop.{Stop}
 use Rattle.dm_event_history.specs.declared.stop.Stop.TheVariants as stops
 use Rattle.dm_event_history.specs.declared.stop.Stop.TheVariants.{BeforeSave, InSave, SaveFault, AfterLabels}
-use Rattle.dm_event_history.specs.Actors.{Actor, Running, Failed, Down, stored_of}
-use Rattle.dm_event_history.specs.Relay.{Export, Goods, nothing}
-use Rattle.dm_event_history.specs.Calls.{Answers, Calls, Course, Ending, Faults, LacksMemory, MayLackFirst, Saves, ending, ends}
-use Rattle.dm_event_history.specs.DeskCalls.{ForgetComes, ImportComes, MayBe, ScanComes, forget_faults, forget_reply, import_faults, import_reply, page_reply, pages_reply, scan_course, scan_faults, scan_reply, verdict_course}
+use Rattle.dm_event_history.specs.Relay.{Actor, Running, Failed, Down, stored_of, Export, Goods, nothing}
+use Rattle.dm_event_history.specs.Calls.{Answers, Calls, Course, Ending, Faults, LacksMemory, MayLackFirst, Saves, ending, ends, ForgetComes, ImportComes, MayBe, ScanComes, forget_faults, forget_reply, import_faults, import_reply, page_reply, pages_reply, scan_course, scan_faults, scan_reply, verdict_course}
 use Rattle.dm_event_world.specs.declared.actor.DeskState.{DeskState}
 use Rattle.dm_event_world.specs.declared.actor.DeskState.TheVariants as states
 use Rattle.dm_event_world.specs.declared.actor.LeftExport.{LeftExport}
 use Rattle.dm_event_world.specs.Shows.{DeskIs, IsReadySet, ShowsDesk}
-use Rattle.dm_event_world.specs.inner.Stops.{IsMadeUnder, next_save_of, stops_before}
-use Rattle.dm_event_world.specs.inner.Ends.{EndsEach, EndsSo, Left, ended, ended_reply, lacks_memory}
+use Rattle.dm_event_world.specs.inner.Calls.{IsMadeUnder, next_save_of, stops_before, EndsEach, EndsSo, Left, ended, ended_reply, lacks_memory}
 use Rattle.dm_event_world.specs.inner.Desks.{Calling, desk_planned, down_desk}
 use Rattle.dm_event_world.proofs.Endings.{Ends, IsEmpty, TellsMemory, empty, finish, lacks_first, none_left, not_first, plain, reaches, stopped_before, unsaved_empty, with_goods}
 

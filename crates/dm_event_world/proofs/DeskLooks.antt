@@ -2,30 +2,25 @@
 use Rattle.std.proofs.Common.{arith, ◌≡◌, ◌++◌, ◌∷◌, inl, inr, ℕ, zero, suc, List, [], Option, Some, None, Result, Ok, Err, length, slice_get, refl, sym, ap, subst, ◌∙◌}
 use Rattle.std.specs.Prelude.{IsTrue}
 use Rattle.std.specs.FinMap as finite
-use Rattle.dm_store.specs.Sets.{SavedSet}
+use Rattle.dm_store.specs.Saved.{SavedSet}
 use Rattle.dm_assembly_desk.specs.declared.fault.AskFault.{AskFault}
 use Rattle.dm_assembly_desk.specs.declared.fault.AskFault.TheVariants as ask_fault
 use Rattle.dm_assembly_desk.specs.declared.fault.DeskFault.{DeskFault}
 use Rattle.dm_assembly_desk.specs.declared.fault.DeskFault.TheVariants as desk_fault
 use Rattle.dm_assembly_desk.specs.declared.fault.ExportFault.{ExportFault}
 use Rattle.dm_assembly_desk.specs.declared.fault.ExportFault.TheVariants as export_fault
-use Rattle.dm_assembly_desk.specs.Asking.{Asks, Exports, Gives}
-use Rattle.dm_assembly_desk.specs.Documents.{Documents, HoldsFiles}
-use Rattle.dm_assembly_desk.specs.Files.{IsEntry, file}
+use Rattle.dm_assembly_desk.specs.Adding.{Asks, Exports, Gives}
+use Rattle.dm_assembly_desk.specs.Documents.{Documents, HoldsFiles, IsEntry, file, Pages, mask, DeskView, IsInOrder}
 use Rattle.dm_assembly_desk.specs.Opening.{HasDeskFault, Opens}
-use Rattle.dm_assembly_desk.specs.Pages.{Pages, mask}
-use Rattle.dm_assembly_desk.specs.Views.{DeskView, IsInOrder}
 use Rattle.dm_event_history.specs.declared.reply.Reply.{Reply}
 use Rattle.dm_event_history.specs.declared.reply.Reply.TheVariants as replies
-use Rattle.dm_event_history.specs.Actors.{Actor, Running, Failed, Down, stored_of}
-use Rattle.dm_event_history.specs.Relay.{Export, Goods, nothing}
-use Rattle.dm_event_history.specs.Calls.{Ending, Looks, MayLackFirst, Restarts, ending}
-use Rattle.dm_event_history.specs.DeskCalls.{AskTells, ExportTells, ExportsHeld, ask_reply}
+use Rattle.dm_event_history.specs.Relay.{Actor, Running, Failed, Down, stored_of, Export, Goods, nothing}
+use Rattle.dm_event_history.specs.Calls.{Ending, Looks, MayLackFirst, Restarts, ending, AskTells, ExportTells, ExportsHeld, ask_reply}
 use Rattle.dm_event_world.specs.declared.actor.DeskState.{DeskState}
 use Rattle.dm_event_world.specs.declared.actor.DeskState.TheVariants as desks
 use Rattle.dm_event_world.specs.declared.actor.LeftExport.{LeftExport}
 use Rattle.dm_event_world.specs.Shows.{ShowsDesk, StoresDocuments}
-use Rattle.dm_event_world.specs.inner.Ends.{EndsEach, EndsSo, Left}
+use Rattle.dm_event_world.specs.inner.Calls.{EndsEach, EndsSo, Left}
 use Rattle.dm_event_world.specs.inner.Desks.{desk_saved}
 use Rattle.dm_event_world.proofs.Endings.{IsEmpty, empty, lacks_first, none_left, not_first, with_goods}
 use Rattle.dm_assembly_desk.proofs.StoredFiles.{only_memory}

@@ -3,34 +3,28 @@ use Rattle.std.proofs.Common.{◌≡◌, ◌≤◌, inl, ℕ, Some, List, [], le
 use Rattle.std.proofs.lemmas.Option.{slice_get_within}
 use Rattle.dm_check_blocks.specs.declared.size.Size.{Size}
 use Rattle.dm_encodation.specs.declared.scheme.Scheme.{Scheme}
-use Rattle.dm_finder_frame.specs.Grids.{GridView, flipped}
+use Rattle.dm_finder_frame.specs.Frame.{GridView, flipped}
 use Rattle.dm_print_ledger.specs.declared.range.Range.{Range}
 use Rattle.dm_print_ledger.specs.declared.fault.OpenFault.TheVariants as open_fault
-use Rattle.dm_print_ledger.specs.Views.{TicketView}
+use Rattle.dm_print_ledger.specs.Ledger.{TicketView}
 use Rattle.dm_assembly_desk.specs.declared.fault.DeskFault.TheVariants as desk_fault
-use Rattle.dm_assembly_desk.specs.Documents.{Documents}
-use Rattle.dm_assembly_desk.specs.Files.{IsEntry, file}
+use Rattle.dm_assembly_desk.specs.Documents.{Documents, IsEntry, file}
 use Rattle.dm_event_history.specs.declared.event.Event.TheVariants.{Print, Scan, RestartPrinter, RestartDesk, Ask, Forget, Give, Take, Export, Import}
 use Rattle.dm_event_history.specs.declared.reply.Reply.{Reply}
 use Rattle.dm_event_history.specs.declared.reply.Reply.TheVariants.{PrinterRefused, DeskRefused}
 use Rattle.dm_event_history.specs.declared.stop.Stop.{Stop}
-use Rattle.dm_event_history.specs.Actors.{Actor}
+use Rattle.dm_event_history.specs.Relay.{Actor, Goods, Label, Relay}
 use Rattle.dm_event_history.specs.Relay as relays
-use Rattle.dm_event_history.specs.Relay.{Goods, Label, Relay}
-use Rattle.dm_event_history.specs.Calls.{Ending, Calls, MayLackFirst, Looks, Restarts}
-use Rattle.dm_event_history.specs.PrinterCalls.{PrintComes, GiveComes, TakeComes, print_faults, give_faults, take_faults}
-use Rattle.dm_event_history.specs.DeskCalls.{ScanComes, ForgetComes, ImportComes, AskTells, ExportTells, scan_faults, forget_faults, import_faults}
+use Rattle.dm_event_history.specs.Calls.{Ending, Calls, MayLackFirst, Looks, Restarts, PrintComes, GiveComes, TakeComes, print_faults, give_faults, take_faults, ScanComes, ForgetComes, ImportComes, AskTells, ExportTells, scan_faults, forget_faults, import_faults}
 use Rattle.dm_event_history.specs.Steps.{DeskGoes, HasModules, PrinterGoes}
 use Rattle.dm_event_world.specs.declared.actor.PrinterActor.{PrinterActor}
 use Rattle.dm_event_world.specs.declared.actor.DeskActor.{DeskActor}
 use Rattle.dm_event_world.specs.declared.actor.DeskState.{DeskState}
 use Rattle.dm_event_world.specs.declared.actor.LeftLabel.{LeftLabel}
 use Rattle.dm_event_world.specs.declared.actor.LeftExport.{LeftExport}
-use Rattle.dm_event_world.specs.Worlds.{WorldView, AreWithin}
-use Rattle.dm_event_world.specs.Shows.{Shows, ShowsDesk, ShowsPrinter, left_export, left_label}
-use Rattle.dm_event_world.specs.inner.Ends.{EndsEach, EndsSo, Left}
+use Rattle.dm_event_world.specs.Shows.{WorldView, AreWithin, Shows, ShowsDesk, ShowsPrinter, left_export, left_label}
+use Rattle.dm_event_world.specs.inner.Calls.{EndsEach, EndsSo, Left, RestartsAs}
 use Rattle.dm_event_world.specs.inner.Events.{Steps}
-use Rattle.dm_event_world.specs.inner.Printers.{RestartsAs}
 use Rattle.dm_event_world.proofs.Mapped.{get_map, get_map_from}
 use Rattle.dm_event_world.proofs.Changing.{world_of, printer_steps, desk_steps, lets_as, past_map, same_set, left_labels_alone, left_tickets_alone, left_exports_alone, left_none, label_count, export_count}
 

@@ -2,8 +2,7 @@
 use Rattle.dm_event_history.specs.declared.event.Event.{Event}
 use Rattle.dm_event_history.specs.declared.reply.Reply.{Reply}
 use Rattle.dm_event_history.proofs.Headline.{each_run_is_sound}
-use Rattle.dm_event_world.specs.Worlds.{WorldView}
-use Rattle.dm_event_world.specs.StandsFor.{GoesOn}
+use Rattle.dm_event_world.specs.Shows.{WorldView, GoesOn}
 use Rattle.dm_event_world.specs.inner.Events.{Steps}
 
 pub step_stands : {A : Type 0} (old new : WorldView A) (event : Event A) (reply : Reply A) →

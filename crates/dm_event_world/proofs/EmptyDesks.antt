@@ -6,17 +6,13 @@ use Rattle.std.specs.FinMap.{get-empty, len-empty}
 use Rattle.std.specs.Ordering.{nat_cmp}
 use Rattle.std.proofs.lemmas.List.{length-append}
 use Rattle.std.proofs.lemmas.Option.{slice_get-get_or}
-use Rattle.dm_store.specs.Saved.{LoadsFine, SavesFine}
-use Rattle.dm_store.specs.Sets.{SavedSet, Contents}
-use Rattle.dm_assembly_desk.specs.Pages.{Pages}
-use Rattle.dm_assembly_desk.specs.Files.{file}
-use Rattle.dm_assembly_desk.specs.Documents.{Documents, AreEntries, HoldsFiles}
-use Rattle.dm_assembly_desk.specs.Views.{DeskView}
+use Rattle.dm_store.specs.Saved.{LoadsFine, SavesFine, SavedSet, Contents}
+use Rattle.dm_assembly_desk.specs.Documents.{Pages, file, Documents, AreEntries, HoldsFiles, DeskView}
 use Rattle.dm_assembly_desk.specs.Opening.{Opens}
 use Rattle.dm_event_world.specs.declared.actor.DeskActor.{DeskActor}
 use Rattle.dm_event_world.specs.declared.actor.DeskState.{DeskState}
 use Rattle.dm_event_world.specs.declared.actor.DeskState.TheVariants.{Running}
-use Rattle.dm_event_history.specs.Actors as actors
+use Rattle.dm_event_history.specs.Relay as actors
 use Rattle.dm_event_world.specs.Shows.{IsReadySet, ShowsDesk}
 use Rattle.dm_event_world.specs.inner.Desks.{AreEmpty}
 

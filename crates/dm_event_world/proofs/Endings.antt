@@ -3,20 +3,18 @@ use Rattle.std.proofs.Common.{arith, ◌≡◌, ◌++◌, inl, true, false, List
 use Rattle.std.proofs.lemmas.List.{append-nil}
 use Rattle.dm_store.specs.declared.fuse.Kept.{Kept}
 use Rattle.dm_store.specs.declared.fuse.Kept.TheVariants.{Old, New}
-use Rattle.dm_print_ledger.specs.Views.{TicketView}
+use Rattle.dm_print_ledger.specs.Ledger.{TicketView}
 use Rattle.dm_event_history.specs.declared.reply.Reply.{Reply}
 use Rattle.dm_event_history.specs.declared.reply.Reply.TheVariants as replies
 use Rattle.dm_event_history.specs.declared.stop.Stop.{Stop}
 use Rattle.dm_event_history.specs.declared.stop.Stop.TheVariants as stops
 use Rattle.dm_event_history.specs.declared.stop.Stop.TheVariants.{BeforeSave, InSave, SaveFault, AfterLabels}
-use Rattle.dm_event_history.specs.Actors.{Actor, Running, Failed, Down, stored_of}
-use Rattle.dm_event_history.specs.Relay.{Export, Goods, Label, nothing}
+use Rattle.dm_event_history.specs.Relay.{Actor, Running, Failed, Down, stored_of, Export, Goods, Label, nothing}
 use Rattle.dm_event_world.specs.declared.actor.LeftLabel.{LeftLabel}
 use Rattle.dm_event_world.specs.declared.actor.LeftExport.{LeftExport}
 use Rattle.dm_event_world.specs.Shows.{left_export, left_label}
 use Rattle.dm_event_history.specs.Calls.{Answers, Calls, Course, Ending, Faults, LacksMemory, MayLackFirst, Reaches, Saves, ending, ends}
-use Rattle.dm_event_world.specs.inner.Stops.{stops_before}
-use Rattle.dm_event_world.specs.inner.Ends.{EndsSo, Left, ended, ended_reply, lacks_memory}
+use Rattle.dm_event_world.specs.inner.Calls.{stops_before, EndsSo, Left, ended, ended_reply, lacks_memory}
 
 -- the stop without its early end: its plan for the save is left
 abbrev pub plain : Stop → Stop

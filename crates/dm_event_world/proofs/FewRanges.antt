@@ -7,8 +7,8 @@ use Rattle.std.proofs.lemmas.List.Elements.{All-head, All-tail}
 use Rattle.std.proofs.lemmas.Map.Steps.{length-le_from_distinct_below}
 use Rattle.std.proofs.lemmas.Bool.Decides.{nat_tests}
 use Rattle.dm_print_ledger.specs.declared.range.Range.{Range}
-use Rattle.dm_print_ledger.specs.Ranges.{is_range}
-use Rattle.dm_event_history.specs.Places.{IsApart, AreDisjoint}
+use Rattle.dm_print_ledger.specs.Ledger.{is_range}
+use Rattle.dm_event_history.specs.Headline.{IsApart, AreDisjoint}
 
 abbrev IsRange : Range → Type 0
 IsRange range = (range.first ≤ range.last) × (range.last ≤ 64515)

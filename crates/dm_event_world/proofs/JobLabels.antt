@@ -2,8 +2,8 @@
 use Rattle.std.proofs.Common.{◌≡◌, ◌+◌, ℕ, suc, List, [], ◌∷◌, length, refl, ap}
 use Rattle.dm_check_blocks.specs.declared.size.Size.{Size}
 use Rattle.dm_encodation.specs.declared.scheme.Scheme.{Scheme}
-use Rattle.dm_finder_frame.specs.Grids.{GridView}
-use Rattle.dm_print_ledger.specs.Printing.{AreLabels}
+use Rattle.dm_finder_frame.specs.Frame.{GridView}
+use Rattle.dm_print_ledger.specs.Verdicts.{AreLabels}
 
 -- a job has as many labels as parts
 pub length-AreLabels : (size : Size) (scheme : Scheme) (id count number : ℕ) (parts : List (List ℕ))

@@ -4,9 +4,9 @@ use Rattle.dm_store.specs.Saved.{Replaces}
 use Rattle.dm_store.specs.declared.store.ReplaceFault.{ReplaceFault}
 use Rattle.dm_store.specs.declared.mem_store.NextSave.{NextSave}
 use Rattle.dm_store.specs.declared.mem_store.NextSave.TheVariants as next_save
-use Rattle.dm_print_ledger.specs.Views.{PrinterView}
+use Rattle.dm_print_ledger.specs.Ledger.{PrinterView}
 use Rattle.dm_event_world.specs.Shows.{IsReady}
-use Rattle.dm_event_world.specs.inner.Printers.{planned}
+use Rattle.dm_event_world.specs.inner.Calls.{planned}
 
 -- a store is ready after a save, however it ended
 pub ready_after : (view mid : PrinterView) (plan : NextSave) (bytes : List ℕ)

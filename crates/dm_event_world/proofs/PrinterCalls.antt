@@ -1,32 +1,25 @@
 -- A call of a printer, as a world makes it, is one of the relay that it shows.
 use Rattle.std.proofs.Common.{arith, ◌≡◌, ◌⊎◌, inl, inr, ℕ, true, false, List, Option, Some, Result, Ok, Err, refl, sym, ap, subst, ◌∙◌}
 use Rattle.std.specs.Prelude.{IsOk, IsTrue}
-use Rattle.dm_store.specs.Saved.{Done, Faulted, Follows, HeldAfterFault, Replaces}
-use Rattle.dm_store.specs.Settings.{save_plan_of}
+use Rattle.dm_store.specs.Saved.{Done, Faulted, Follows, HeldAfterFault, Replaces, save_plan_of}
 use Rattle.dm_store.specs.declared.fuse.Kept.{Kept}
 use Rattle.dm_store.specs.declared.fuse.Kept.TheVariants.{Old, New}
 use Rattle.dm_store.specs.declared.store.ReplaceFault.TheVariants as replacing
 use Rattle.dm_store.specs.declared.mem_store.NextSave.{NextSave}
 use Rattle.dm_store.specs.declared.mem_store.NextSave.TheVariants as next_save
-use Rattle.dm_print_ledger.specs.Carrying.{Carries, Saves as SavesLedger}
-use Rattle.dm_print_ledger.specs.Ledger.{is_sound, ledger_bytes}
-use Rattle.dm_print_ledger.specs.Opening.{HoldsLedger, open_verdict}
-use Rattle.dm_print_ledger.specs.Views.{LedgerView, PrinterView}
+use Rattle.dm_print_ledger.specs.Verdicts.{Carries, Saves as SavesLedger, HoldsLedger, open_verdict}
+use Rattle.dm_print_ledger.specs.Ledger.{is_sound, ledger_bytes, LedgerView, PrinterView}
 use Rattle.dm_print_ledger.proofs.ReadLaws.{held_by}
 use Rattle.dm_event_history.specs.declared.reply.Reply.{Reply}
 use Rattle.dm_event_history.specs.declared.stop.Stop.{Stop}
 use Rattle.dm_event_history.specs.declared.stop.Stop.TheVariants as stops
 use Rattle.dm_event_history.specs.declared.stop.Stop.TheVariants.{BeforeSave, InSave, SaveFault, AfterLabels}
-use Rattle.dm_event_history.specs.Actors.{Actor, Running, Failed, Down, stored_of}
-use Rattle.dm_event_history.specs.Relay.{Goods}
-use Rattle.dm_event_history.specs.Calls.{Answers, Calls, Course, Faults, LacksMemory, Saves, ends}
-use Rattle.dm_event_history.specs.PrinterCalls.{Comes}
+use Rattle.dm_event_history.specs.Relay.{Actor, Running, Failed, Down, stored_of, Goods}
+use Rattle.dm_event_history.specs.Calls.{Answers, Calls, Course, Faults, LacksMemory, Saves, ends, Comes}
 use Rattle.dm_event_world.specs.declared.actor.PrinterActor.{PrinterActor}
 use Rattle.dm_event_world.specs.declared.actor.PrinterActor.TheVariants as actors
 use Rattle.dm_event_world.specs.Shows.{ShowsPrinter, StoresLedger}
-use Rattle.dm_event_world.specs.inner.Stops.{next_save_of, stops_before}
-use Rattle.dm_event_world.specs.inner.Ends.{EndsSo, ended, ended_reply, lacks_memory}
-use Rattle.dm_event_world.specs.inner.Printers.{down_printer, planned}
+use Rattle.dm_event_world.specs.inner.Calls.{next_save_of, stops_before, EndsSo, ended, ended_reply, lacks_memory, down_printer, planned}
 use Rattle.dm_event_world.proofs.Endings.{Ends, IsEmpty, TellsMemory, failed_empty, finish, plain, reaches, unsaved_empty}
 use Rattle.dm_event_world.proofs.Plans.{ready_after}
 

@@ -4,8 +4,8 @@ use Rattle.std.specs.Prelude.{IfOk, IsTrue, is_some, if◌then◌else◌}
 use Rattle.std.proofs.lemmas.List.{take_all}
 use Rattle.dm_check_blocks.specs.declared.size.Size.{Size}
 use Rattle.dm_encodation.specs.declared.scheme.Scheme.{Scheme}
-use Rattle.dm_finder_frame.specs.Grids.{GridView}
-use Rattle.dm_append_label.specs.Parts.{parts_from}
+use Rattle.dm_finder_frame.specs.Frame.{GridView}
+use Rattle.dm_append_label.specs.Labels.{parts_from}
 use Rattle.dm_store.specs.declared.fuse.Kept.TheVariants.{Old, New}
 use Rattle.dm_store.specs.declared.mem_store.NextSave.TheVariants as next_save
 use Rattle.dm_print_ledger.specs.declared.range.Range.{Range}
@@ -15,34 +15,25 @@ use Rattle.dm_print_ledger.specs.declared.fault.GiveFault.{GiveFault}
 use Rattle.dm_print_ledger.specs.declared.fault.GiveFault.TheVariants as give_fault
 use Rattle.dm_print_ledger.specs.declared.fault.TakeFault.{TakeFault}
 use Rattle.dm_print_ledger.specs.declared.fault.TakeFault.TheVariants as take_fault
-use Rattle.dm_print_ledger.specs.Carrying.{Carries}
-use Rattle.dm_print_ledger.specs.Changes.{least}
+use Rattle.dm_print_ledger.specs.Verdicts.{Carries, least, LoadsLedger, Opens, open_verdict, AreLabels, IsCutting, IsMade, Prints, give_verdict, print_verdict, take_verdict, ticket_of}
 use Rattle.dm_store.specs.Saved.{Saved}
 use Rattle.dm_print_ledger.specs.declared.fault.OpenFault.{OpenFault}
 use Rattle.dm_print_ledger.specs.declared.fault.OpenFault.TheVariants as open_fault
-use Rattle.dm_print_ledger.specs.Opening.{LoadsLedger, Opens, open_verdict}
-use Rattle.dm_print_ledger.specs.Printing.{AreLabels, IsCutting, IsMade, Prints}
-use Rattle.dm_print_ledger.specs.Ranges.{is_range}
+use Rattle.dm_print_ledger.specs.Ledger.{is_range, JobView, LedgerView, PrinterView, TicketView}
 use Rattle.dm_print_ledger.specs.Verdicts as verdicts
-use Rattle.dm_print_ledger.specs.Verdicts.{give_verdict, print_verdict, take_verdict, ticket_of}
-use Rattle.dm_print_ledger.specs.Views.{JobView, LedgerView, PrinterView, TicketView}
 use Rattle.dm_event_history.specs.declared.reply.Reply.{Reply}
 use Rattle.dm_event_history.specs.declared.reply.Reply.TheVariants as replies
 use Rattle.dm_event_history.specs.declared.stop.Stop.{Stop}
 use Rattle.dm_event_history.specs.declared.stop.Stop.TheVariants as stops
 use Rattle.dm_event_history.specs.declared.stop.Stop.TheVariants.{BeforeSave, InSave, SaveFault, AfterLabels}
-use Rattle.dm_event_history.specs.Actors.{Actor, Running, Failed, Down, stored_of}
-use Rattle.dm_event_history.specs.Relay.{CutDocument, Export, Goods, Label, Took, Used, nothing}
-use Rattle.dm_event_history.specs.Calls.{Calls, Course, Ending, Faults, MayLackFirst, Saves, ending, ends}
-use Rattle.dm_event_history.specs.PrinterCalls.{AreLabelsFor, GiveComes, PrintComes, PrintLeaves, TakeComes, cut_of, give_faults, print_faults, take_faults}
+use Rattle.dm_event_history.specs.Relay.{Actor, Running, Failed, Down, stored_of, CutDocument, Export, Goods, Label, Took, Used, nothing}
+use Rattle.dm_event_history.specs.Calls.{Calls, Course, Ending, Faults, MayLackFirst, Saves, ending, ends, AreLabelsFor, GiveComes, PrintComes, PrintLeaves, TakeComes, cut_of, give_faults, print_faults, take_faults}
 use Rattle.dm_event_world.specs.declared.actor.LeftLabel.{LeftLabel}
 use Rattle.dm_event_world.specs.declared.actor.LeftExport.{LeftExport}
 use Rattle.dm_event_world.specs.declared.actor.PrinterActor.{PrinterActor}
 use Rattle.dm_event_world.specs.declared.actor.PrinterActor.TheVariants as actors
 use Rattle.dm_event_world.specs.Shows.{ShowsPrinter, StoresLedger, left_export, left_label}
-use Rattle.dm_event_world.specs.inner.Stops.{IsMadeUnder, ends_early, most_labels, next_save_of, stops_before}
-use Rattle.dm_event_world.specs.inner.Ends.{EndsEach, EndsSo, Left, ended, ended_reply, lacks_memory}
-use Rattle.dm_event_world.specs.inner.Printers.{RestartsAs, saved_of, down_printer, give_reply, job_labels, left_labels, left_ticket, planned, print_reply, take_reply}
+use Rattle.dm_event_world.specs.inner.Calls.{IsMadeUnder, ends_early, most_labels, next_save_of, stops_before, EndsEach, EndsSo, Left, ended, ended_reply, lacks_memory, RestartsAs, saved_of, down_printer, give_reply, job_labels, left_labels, left_ticket, planned, print_reply, take_reply}
 use Rattle.dm_event_world.proofs.Endings.{IsEmpty, empty, lacks_first, none_left, not_first, plain, stopped_before, with_goods}
 use Rattle.dm_event_world.proofs.JobLabels.{length-AreLabels}
 use Rattle.dm_event_world.proofs.PrinterCalls.{Lets, call_ends, down_shows}

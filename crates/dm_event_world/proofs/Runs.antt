@@ -1,25 +1,21 @@
 -- Runs of worlds: one event more at their end, and the headline.
 use Rattle.std.proofs.Common.{◌≡◌, ◌<◌, ◌≤◌, ℕ, zero, suc, Some, List, [], ◌∷◌, ◌++◌, length, map, slice_get, take, refl, sym, ap, subst, arith}
-use Rattle.dm_finder_frame.specs.Grids.{flipped}
-use Rattle.dm_symbol.specs.Symbols.{IsNear}
+use Rattle.dm_finder_frame.specs.Frame.{flipped}
+use Rattle.dm_symbol.specs.Correction.{IsNear}
 use Rattle.dm_print_ledger.specs.declared.range.Range.{Range}
 use Rattle.dm_event_history.specs.declared.event.Event.{Event}
 use Rattle.dm_event_history.specs.declared.event.Event.TheVariants.{Scan}
 use Rattle.dm_event_history.specs.declared.reply.Reply.{Reply}
 use Rattle.dm_event_history.specs.Headline.{IsFairEvent}
 use Rattle.dm_event_history.specs.Relay.{Relay}
-use Rattle.dm_event_history.specs.Runs.{Moment, onto}
-use Rattle.dm_event_history.specs.Steps.{HasModules}
+use Rattle.dm_event_history.specs.Steps.{Moment, onto, HasModules}
 use Rattle.dm_event_history.proofs.Headline.{each_run_is_true}
 use Rattle.dm_event_world.specs.declared.actor.LeftLabel.{LeftLabel}
-use Rattle.dm_event_world.specs.Shows.{Shows, left_label}
-use Rattle.dm_event_world.specs.StandsFor.{GoesOn, GoesOnByAll, StandsFor}
-use Rattle.dm_event_world.specs.Worlds.{AreWithin, IsFairIn, IsLookedAt, WorldView}
+use Rattle.dm_event_world.specs.Shows.{Shows, left_label, GoesOn, GoesOnByAll, StandsFor, AreWithin, IsFairIn, IsLookedAt, WorldView, AreAnswers, IsWatched, MayBeLookedAt, first_of}
 use Rattle.dm_event_world.specs.inner.Events.{Answers, AnswersAll}
 use Rattle.dm_event_world.proofs.Mapped.{get_map, get_map_from}
 use Rattle.dm_event_world.specs.declared.answers.Answer.{Answer}
 use Rattle.dm_event_world.specs.declared.answers.Answer.TheVariants.{Given, NotGiven}
-use Rattle.dm_event_world.specs.Watched.{AreAnswers, IsWatched, MayBeLookedAt, first_of}
 
 -- each event of several goes on, one after another
 abbrev pub Goes : {A : Type 0} → WorldView A → List (Event A) → List (Reply A) → WorldView A → Type 0

@@ -1,12 +1,12 @@
 -- Scans: which of them name what is there, and which are fair.
 use Rattle.std.proofs.Common.{◌≡◌, ◌↔◌, ◌<◌, ℕ, Bool, true, Some, Result, Ok, Err, IfOk, OnErr, IsTrue, List, length, slice_get, sym, subst, arith}
-use Rattle.dm_finder_frame.specs.Grids.{flipped}
-use Rattle.dm_symbol.specs.Symbols.{IsNear}
+use Rattle.dm_finder_frame.specs.Frame.{flipped}
+use Rattle.dm_symbol.specs.Correction.{IsNear}
 use Rattle.dm_event_history.specs.declared.event.Event.{Event}
 use Rattle.dm_event_history.specs.declared.event.Event.TheVariants.{Scan}
 use Rattle.dm_event_history.specs.declared.stop.Stop.{Stop}
 use Rattle.dm_event_world.specs.declared.actor.LeftLabel.{LeftLabel}
-use Rattle.dm_event_world.specs.Worlds.{AreWithin, WorldView, IsFairIn, IsLookedAt}
+use Rattle.dm_event_world.specs.Shows.{AreWithin, WorldView, IsFairIn, IsLookedAt}
 
 pub outside : {A : Type 0} (old : WorldView A) (d label : ℕ) (flips : List (ℕ × ℕ)) (stop : Stop) (left : LeftLabel A) →
     slice_get old.labels label ≡ Some left → (¬ AreWithin left.grid flips) → ¬ IsLookedAt old (Scan d label flips stop)

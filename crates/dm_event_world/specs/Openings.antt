@@ -1,9 +1,9 @@
 -- Why no world begins.
 use Rattle.std.specs.Prelude.{ℕ, List, All}
 use Rattle.dm_print_ledger.specs.declared.range.Range.{Range}
-use Rattle.dm_assembly_desk.specs.Views.{IsCapacity}
-use Rattle.dm_event_history.specs.Places.{AreDisjoint}
-use Rattle.dm_event_world.specs.StandsFor.{AreRanges}
+use Rattle.dm_assembly_desk.specs.Documents.{IsCapacity}
+use Rattle.dm_event_history.specs.Headline.{AreDisjoint}
+use Rattle.dm_event_world.specs.Shows.{AreRanges}
 use Rattle.dm_event_world.specs.declared.fault.WorldFault.{WorldFault}
 use Rattle.dm_event_world.specs.declared.fault.WorldFault.TheVariants as faults
 

@@ -1,24 +1,64 @@
--- Which relay a world shows.
-use Rattle.std.specs.Prelude.{◌≡◌, ◌≤◌, ℕ, Bool, true, false, Some, length, map, slice_get}
+-- Worlds of printers and desks as contracts see them, which relay one shows, and what holds of their runs.
+use Rattle.std.specs.Prelude.{◌≡◌, ◌<◌, ℕ, Some, List, length, slice_get, All, ◌≤◌, Bool, true, false, map, ◌∷◌, IsTrue, ◌↔◌, []}
 use Rattle.std.specs.FinMap as finite
-use Rattle.dm_store.specs.Saved.{Saved, LoadsFine, SavesFine}
-use Rattle.dm_store.specs.Sets.{SavedSet}
-use Rattle.dm_print_ledger.specs.Opening.{HoldsLedger}
-use Rattle.dm_print_ledger.specs.Views.{LedgerView}
-use Rattle.dm_assembly_desk.specs.Documents.{Documents, HoldsFiles}
-use Rattle.dm_assembly_desk.specs.Files.{IsEntry, file}
-use Rattle.dm_assembly_desk.specs.Pages.{mask}
-use Rattle.dm_assembly_desk.specs.Views.{DeskView, IsCapacity}
+use Rattle.dm_check_blocks.specs.Sizes.{side}
+use Rattle.dm_finder_frame.specs.Frame.{GridView, flipped}
+use Rattle.dm_symbol.specs.Correction.{IsNear}
+use Rattle.dm_print_ledger.specs.Ledger.{TicketView, LedgerView, is_range}
+use Rattle.dm_event_history.specs.declared.event.Event.{Event}
+use Rattle.dm_event_history.specs.declared.event.Event.TheVariants.{Scan}
 use Rattle.dm_event_world.specs.declared.actor.PrinterActor.{PrinterActor}
-use Rattle.dm_event_world.specs.declared.actor.PrinterActor.TheVariants as printer_actors
 use Rattle.dm_event_world.specs.declared.actor.DeskActor.{DeskActor}
-use Rattle.dm_event_world.specs.declared.actor.DeskState.{DeskState}
-use Rattle.dm_event_world.specs.declared.actor.DeskState.TheVariants as desk_states
 use Rattle.dm_event_world.specs.declared.actor.LeftLabel.{LeftLabel}
 use Rattle.dm_event_world.specs.declared.actor.LeftExport.{LeftExport}
-use Rattle.dm_event_world.specs.Worlds.{WorldView}
-use Rattle.dm_event_history.specs.Actors.{Actor, Running, Failed, Down}
-use Rattle.dm_event_history.specs.Relay.{Desk, Export, Label, Relay}
+use Rattle.dm_store.specs.Saved.{Saved, LoadsFine, SavesFine, SavedSet}
+use Rattle.dm_print_ledger.specs.Verdicts.{HoldsLedger}
+use Rattle.dm_assembly_desk.specs.Documents.{Documents, HoldsFiles, IsEntry, file, mask, DeskView, IsCapacity}
+use Rattle.dm_event_world.specs.declared.actor.DeskState.{DeskState}
+use Rattle.dm_event_history.specs.Relay.{Actor, Running, Failed, Down, Desk, Export, Label, Relay, start}
+use Rattle.dm_print_ledger.specs.declared.range.Range.{Range}
+use Rattle.dm_event_history.specs.declared.reply.Reply.{Reply}
+use Rattle.dm_event_history.specs.Headline.{AreDisjoint, AreTrueMoments, IsFairEvent, PrintsOnce}
+use Rattle.dm_event_history.specs.Steps.{AreMomentsOf, IsRun, Moment, onto}
+use Rattle.dm_event_world.specs.declared.answers.Answer.{Answer}
+use Rattle.dm_event_world.specs.declared.answers.Answer.TheVariants.{Given, NotGiven}
+use Rattle.dm_event_world.specs.declared.actor.PrinterActor.TheVariants as printer_actors
+use Rattle.dm_event_world.specs.declared.actor.DeskState.TheVariants as desk_states
+use Rattle.dm_event_history.specs.Steps as relays
+
+-- the printers and desks, and the labels, tickets and exports that left
+pub record WorldView (A : Type 0) : Type 0 where
+  pub printers : List (PrinterActor A)
+  pub desks : List (DeskActor A)
+  pub labels : List (LeftLabel A)
+  pub tickets : List TicketView
+  pub exports : List (LeftExport A)
+
+-- the name of a label that left: its identification, its number, and how many labels its document has
+abbrev pub label_name : {A : Type 0} → LeftLabel A → ℕ × ℕ × ℕ
+label_name label = (label.id, label.number, label.count)
+
+-- ---- scans
+
+-- the modules are in the grid
+abbrev pub AreWithin : GridView → List (ℕ × ℕ) → Type 0
+AreWithin grid flips = All (λ flip. (flip.0 < side grid.size) × (flip.1 < side grid.size)) flips
+
+-- what a scan names is there; no other event is looked at
+abbrev pub IsLookedAt : {A : Type 0} → WorldView A → Event A → Type 0
+IsLookedAt {A} world (Scan desk number flips stop) =
+    (desk < length world.desks)
+    × (label : LeftLabel A) × (slice_get world.labels number ≡ Some label) × AreWithin label.grid flips
+IsLookedAt world event = ⊥
+
+-- the grid of a scan of what is there, its label's with the modules flipped, is near the label's
+abbrev pub IsFairIn : {A : Type 0} → WorldView A → Event A → Type 0
+IsFairIn {A} world (Scan desk number flips stop) =
+    IsLookedAt world (Scan desk number flips stop) → (label : LeftLabel A) →
+    slice_get world.labels number ≡ Some label → IsNear (flipped label.grid flips) label.grid
+IsFairIn world event = Unit {0}
+
+-- ---- Which relay a world shows.
 
 -- an honest store in which nothing is to fail
 pub record IsReady (saved : Saved) : Type 0 where
@@ -91,3 +131,74 @@ pub record Shows {A : Type 0} (world : WorldView A) (relay : Relay) : Type 0 whe
   pub exports : world.exports ≡ map left_export relay.exports
   pub entries : (number : ℕ) (export : Export) → slice_get relay.exports number ≡ Some export →
       IsEntry export.id export.pages
+
+-- ---- Which histories a world stands for: those that a relay has which the world shows.
+
+-- each range has numbers, all of them of identifications
+abbrev pub AreRanges : List Range → Type 0
+AreRanges ranges = All (λ range. IsTrue (is_range range)) ranges
+
+-- The world, whose printers began with these ranges and whose desks have room for that many documents each. Of the
+-- moments of the history the newest is the first.
+pub record StandsFor {A : Type 0} (ranges : List Range) (rooms : List ℕ) (world : WorldView A) (h : List (Moment A))
+    : Type 0 where
+  pub are_ranges : AreRanges ranges
+  pub disjoint : AreDisjoint ranges
+  pub are_capacities : All IsCapacity rooms
+  pub relay : Relay
+  pub run : IsRun (start ranges rooms) h relay
+  pub shows : Shows world relay
+
+-- a world that stood for a history stands for it with one moment more, of this event and this reply
+abbrev pub GoesOn : {A : Type 0} → WorldView A → Event A → Reply A → WorldView A → Type 0
+GoesOn {A} old event reply new = (ranges : List Range) (rooms : List ℕ) (h : List (Moment A)) →
+    (s : StandsFor ranges rooms old h) →
+    StandsFor ranges rooms new (record { before = s.relay; event = event; reply = reply } ∷ h)
+
+-- the same of several events, each with its reply
+abbrev pub GoesOnByAll : {A : Type 0} → WorldView A → List (Event A) → List (Reply A) → WorldView A → Type 0
+GoesOnByAll {A} old events replies new = (ranges : List Range) (rooms : List ℕ) (h : List (Moment A)) →
+    StandsFor ranges rooms old h →
+    (moments : List (Moment A)) × AreMomentsOf events replies moments × StandsFor ranges rooms new (onto moments h)
+
+-- ---- Runs in which each event is looked at first, and what is so of their answers: the headline.
+
+-- ---- the headline
+
+-- a scan of what is there: no other event is looked at
+abbrev pub MayBeLookedAt : {A : Type 0} → Relay → Event A → Type 0
+MayBeLookedAt {A} relay (Scan desk number flips stop) = relays.IsNamed {A = A} relay (Scan desk number flips stop)
+MayBeLookedAt relay event = ⊥
+
+-- the relay before the first of these moments
+abbrev pub first_of : {A : Type 0} → List (Moment A) → Relay → Relay
+first_of [] end = end
+first_of (moment ∷ later) end = moment.before
+
+-- The answers to these events are those of the moments of a run, the first of them first. An event that was given is a
+-- moment, and was found honest exactly if it is fair. Only a scan of what is there can go without being given, if memory
+-- for the look is refused.
+abbrev pub AreAnswers : {A : Type 0} → List (Event A) → List (Answer A) → List (Moment A) → Relay → Type 0
+AreAnswers [] [] [] end = Unit {0}
+AreAnswers (event ∷ events) (Given is_honest reply ∷ answers) (moment ∷ later) end =
+    (moment.event ≡ event) × (moment.reply ≡ reply) × ((is_honest ≡ true) ↔ IsFairEvent moment.before event)
+    × AreAnswers events answers later end
+AreAnswers (event ∷ events) (NotGiven ∷ answers) later end =
+    MayBeLookedAt (first_of later end) event × AreAnswers events answers later end
+AreAnswers events answers moments end = ⊥
+
+-- The headline. The events had these answers in a run of a relay whose printers began with these ranges, and whose desks
+-- have room for that many documents. No identification was printed twice; whatever document a clean desk gave for an
+-- identification is the one document printed under it; and all desks were clean as long as each scan that may have
+-- saved its page was fair.
+pub record IsWatched {A : Type 0} (ranges : List Range) (rooms : List ℕ) (events : List (Event A))
+    (answers : List (Answer A)) : Type 0 where
+  pub are_ranges : AreRanges ranges
+  pub disjoint : AreDisjoint ranges
+  pub are_capacities : All IsCapacity rooms
+  pub moments : List (Moment A)
+  pub end : Relay
+  pub run : IsRun (start ranges rooms) (onto moments []) end
+  pub answered : AreAnswers events answers moments end
+  pub once : PrintsOnce end
+  pub true_moments : AreTrueMoments end.labels (onto moments [])

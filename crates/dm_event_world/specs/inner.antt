@@ -1,7 +1,4 @@
 -- Private: only contracts inside this crate cite what stands in this folder.
-pub mod Codes
-pub mod Stops
-pub mod Ends
-pub mod Printers
+pub mod Calls
 pub mod Desks
 pub mod Events

@@ -1,8 +1,7 @@
 //! Calls under a stop: what their next save is to do, and where they end.
 
 ghost use Rattle.std.specs.Prelude.{◌≡◌};
-ghost use Rattle.dm_event_world.specs.inner.Ends.{lacks_memory};
-ghost use Rattle.dm_event_world.specs.inner.Stops.{ends_early, most_labels, next_save_of, stops_before};
+ghost use Rattle.dm_event_world.specs.inner.Calls.{lacks_memory, ends_early, most_labels, next_save_of, stops_before};
 
 use dm_assembly_desk::{ForgetFault, ImportFault, ScanFault};
 use dm_event_history::{Kept, Reply, Stop};

@@ -1,7 +1,7 @@
 //! The desks that a world begins with.
 
 ghost use Rattle.std.specs.Prelude.{◌↔◌, All, IfOk, IsTrue};
-ghost use Rattle.dm_assembly_desk.specs.Views.{IsCapacity};
+ghost use Rattle.dm_assembly_desk.specs.Documents.{IsCapacity};
 ghost use Rattle.dm_event_world.specs.inner.Desks.{AreEmpty};
 
 use crate::actor::{DeskActor, DeskState};

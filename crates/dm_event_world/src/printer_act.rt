@@ -5,15 +5,11 @@
 //! before its reply the printer is down then, over its store, unless the call's own memory was refused.
 
 ghost use Rattle.std.specs.Prelude.{◌≡◌, ℕ, false, ◌+◌, ◌≤◌, ◌++◌, [], IfOk, IsTrue, length, take, vec_len, vec_capacity, if◌then◌else◌};
-ghost use Rattle.dm_print_ledger.specs.Printing.{Prints};
-ghost use Rattle.dm_print_ledger.specs.Ranges.{is_range};
-ghost use Rattle.dm_print_ledger.specs.Verdicts.{Gives, Takes};
-ghost use Rattle.dm_event_history.specs.Calls.{Calls, MayLackFirst, Restarts};
-ghost use Rattle.dm_event_history.specs.PrinterCalls.{GiveComes, PrintComes, TakeComes, give_faults, print_faults, take_faults};
+ghost use Rattle.dm_print_ledger.specs.Verdicts.{Prints, Gives, Takes};
+ghost use Rattle.dm_print_ledger.specs.Ledger.{is_range};
+ghost use Rattle.dm_event_history.specs.Calls.{Calls, MayLackFirst, Restarts, GiveComes, PrintComes, TakeComes, give_faults, print_faults, take_faults};
 ghost use Rattle.dm_event_world.specs.Shows.{ShowsPrinter};
-ghost use Rattle.dm_event_world.specs.inner.Stops.{IsMadeUnder, ends_early, most_labels};
-ghost use Rattle.dm_event_world.specs.inner.Ends.{EndsEach, Left, ended, ended_reply};
-ghost use Rattle.dm_event_world.specs.inner.Printers.{RestartsAs, down_printer, give_reply, job_labels, left_labels, left_ticket, planned, print_reply, saved_of, take_reply};
+ghost use Rattle.dm_event_world.specs.inner.Calls.{IsMadeUnder, ends_early, most_labels, EndsEach, Left, ended, ended_reply, RestartsAs, down_printer, give_reply, job_labels, left_labels, left_ticket, planned, print_reply, saved_of, take_reply};
 
 use crate::actor::{LeftLabel, PrinterActor};
 use crate::call::{is_stopped_before, is_stopping, lacks_memory, most_labels, next_save};

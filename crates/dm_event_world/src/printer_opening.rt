@@ -1,10 +1,10 @@
 //! The printers that a world begins with.
 
 ghost use Rattle.std.specs.Prelude.{◌↔◌, ◌≤◌, IsTrue, IfOk, All, length};
-ghost use Rattle.dm_print_ledger.specs.Ranges.{is_range};
-ghost use Rattle.dm_event_history.specs.Places.{IsApart, AreDisjoint};
-ghost use Rattle.dm_event_world.specs.StandsFor.{AreRanges};
-ghost use Rattle.dm_event_world.specs.inner.Printers.{AreFresh};
+ghost use Rattle.dm_print_ledger.specs.Ledger.{is_range};
+ghost use Rattle.dm_event_history.specs.Headline.{IsApart, AreDisjoint};
+ghost use Rattle.dm_event_world.specs.Shows.{AreRanges};
+ghost use Rattle.dm_event_world.specs.inner.Calls.{AreFresh};
 
 use crate::actor::PrinterActor;
 use dm_print_ledger::{CreateFault, CreateRefused, Printer, Range, is_range};

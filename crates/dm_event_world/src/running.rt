@@ -2,8 +2,7 @@
 
 ghost use Rattle.std.specs.Prelude.{◌≡◌, IfOk, IfErr, OnErr};
 ghost use Rattle.dm_event_world.specs.Openings.{HasWorldFault};
-ghost use Rattle.dm_event_world.specs.StandsFor.{GoesOnByAll};
-ghost use Rattle.dm_event_world.specs.Watched.{IsWatched};
+ghost use Rattle.dm_event_world.specs.Shows.{GoesOnByAll, IsWatched};
 ghost use Rattle.dm_event_world.specs.inner.Events.{Answers, AnswersAll};
 
 use crate::answers::Answer;

@@ -2,8 +2,7 @@
 
 ghost use Rattle.std.specs.Prelude.{◌≡◌, ◌↔◌, true, IfOk, OnErr};
 ghost use Rattle.dm_event_history.specs.declared.event.Event.TheVariants.{Print, Scan, RestartPrinter, RestartDesk, Ask, Forget, Give, Take, Export, Import};
-ghost use Rattle.dm_event_world.specs.Worlds.{IsFairIn, IsLookedAt};
-ghost use Rattle.dm_event_world.specs.StandsFor.{GoesOn};
+ghost use Rattle.dm_event_world.specs.Shows.{IsFairIn, IsLookedAt, GoesOn};
 ghost use Rattle.dm_event_world.specs.inner.Events.{Steps};
 
 use crate::scanned::are_within;

@@ -2,8 +2,7 @@
 
 ghost use Rattle.std.specs.Prelude.{◌≡◌, [], IfOk, IfErr, length, option_map, slice_get};
 ghost use Rattle.dm_event_world.specs.Openings.{HasWorldFault};
-ghost use Rattle.dm_event_world.specs.StandsFor.{StandsFor};
-ghost use Rattle.dm_event_world.specs.Worlds.{label_name};
+ghost use Rattle.dm_event_world.specs.Shows.{StandsFor, label_name};
 
 use crate::actor::{DeskActor, LeftExport, LeftLabel, PrinterActor};
 use crate::desk_opening::{are_capacities, open_desks};
@@ -31,8 +30,8 @@ impl<A: Allocator + Copy> Model for World<A> {
     ghost use Rattle.std.specs.Coded.{codes};
     ghost use Rattle.dm_store.specs.Codes.{saved_set_code};
     ghost use Rattle.dm_assembly_desk.specs.Codes.{documents_code, desk_code};
-    ghost use Rattle.dm_event_world.specs.Worlds.{WorldView};
-    ghost use Rattle.dm_event_world.specs.inner.Codes.{contents_code};
+    ghost use Rattle.dm_event_world.specs.Shows.{WorldView};
+    ghost use Rattle.dm_event_world.specs.inner.Events.{contents_code};
 
     ghost Value = { WorldView A };
 

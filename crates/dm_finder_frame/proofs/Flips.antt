@@ -2,7 +2,7 @@
 use Rattle.std.specs.Prelude.{not}
 use Rattle.std.proofs.Common.{◌≡◌, ℕ, zero, suc, ◌+◌, ◌*◌, ◌<◌, refl, List, [], ◌∷◌, ◌++◌, length, get_or, take, ◌∙◌, arith, length-set}
 use Rattle.dm_check_blocks.specs.Sizes.{side}
-use Rattle.dm_finder_frame.specs.Grids.{GridView, IsWholeGrid, grid_module_at, grid_with_flipped, flipped}
+use Rattle.dm_finder_frame.specs.Frame.{GridView, IsWholeGrid, grid_module_at, grid_with_flipped, flipped}
 
 -- Flipped modules leave the size of a grid as it is.
 pub flips_keep_the_size : (g : GridView) (flips : List (ℕ × ℕ)) → (flipped g flips).size ≡ g.size

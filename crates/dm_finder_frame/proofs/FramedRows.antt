@@ -9,10 +9,9 @@ use Rattle.std.proofs.lemmas.List.{get_or_append_left, get_or-append_right, get_
 use Rattle.std.proofs.lemmas.List.FromFn.{get_or-map-range_with_len}
 use Rattle.dm_check_blocks.specs.declared.size.Size.{Size}
 use Rattle.dm_check_blocks.specs.Sizes.{region}
-use Rattle.dm_placement.specs.Square.{Square, module_at}
+use Rattle.dm_placement.specs.Placement.{Square, module_at}
 use Rattle.dm_finder_frame.specs.declared.framing.TheConstants.{TOP, BOTTOM}
-use Rattle.dm_finder_frame.specs.Frame.{is_on_frame, frame_value, mapping_place, grid_place, grid_module, matrix_module}
-use Rattle.dm_finder_frame.specs.Grids.{GridView, grid_module_at}
+use Rattle.dm_finder_frame.specs.Frame.{is_on_frame, frame_value, mapping_place, grid_place, grid_module, matrix_module, GridView, grid_module_at}
 
 -- the module at a place of a framed region, the row's place in its region being p
 abbrev module_within : ℕ → ℕ → ℕ → Bool → Bool

@@ -7,10 +7,9 @@ use Rattle.std.proofs.lemmas.List.{length-take-le}
 use Rattle.std.proofs.lemmas.List.Edits.{length-between}
 use Rattle.dm_check_blocks.specs.declared.size.Size.{Size}
 use Rattle.dm_check_blocks.specs.Sizes.{side, region, across, mapping}
-use Rattle.dm_placement.specs.Square.{Square, IsWhole}
+use Rattle.dm_placement.specs.Placement.{Square, IsWhole}
 use Rattle.dm_finder_frame.specs.declared.framing.TheConstants.{TOP, BOTTOM}
-use Rattle.dm_finder_frame.specs.Frame.{mapping_place, grid_place, grid_module, matrix_module}
-use Rattle.dm_finder_frame.specs.Grids.{GridView, IsWholeGrid, square_of}
+use Rattle.dm_finder_frame.specs.Frame.{mapping_place, grid_place, grid_module, matrix_module, GridView, IsWholeGrid, square_of}
 use Rattle.dm_finder_frame.specs.inner.Filled.{first_modules}
 use Rattle.dm_finder_frame.proofs.Begun.{piece_more, in_row, row_length}
 use Rattle.dm_finder_frame.proofs.FramedGrids.{place_within}

@@ -1,12 +1,52 @@
--- The finder patterns of a symbol (ISO/IEC 16022:2006, 5.5 and 5.8): the mapping matrix is cut into data regions of one
--- side, left to right and top to bottom, and each has a frame one module wide. Rows and columns count from 0.
-use Rattle.std.specs.Prelude.{ℕ, ◌≡◌, ◌<◌, ◌+◌, ◌-◌, ◌*◌, ◌/◌, ◌%◌, Bool, true, ◌==◌, ◌&&◌, ◌||◌, not, if◌then◌else◌, List, Option, Some, None, map, count_by}
+-- A whole symbol as contracts see it: its size, and its modules row by row from the top left, finder patterns included
+-- and the quiet zone left out (ISO/IEC 16022:2006, 5.5 and 5.8). Rows and columns count from 0.
+use Rattle.std.specs.Prelude.{ℕ, ◌≡◌, ◌*◌, ◌<◌, Bool, List, [], ◌∷◌, length, ◌+◌, ◌-◌, ◌/◌, ◌%◌, true, ◌==◌, ◌&&◌, ◌||◌, not, if◌then◌else◌, Option, Some, None, map, count_by, Result, Ok, Err, ◌≤◌}
 use Rattle.std.specs.List.{range_with_len}
 use Rattle.std.specs.Option.{option_map_or}
 use Rattle.dm_check_blocks.specs.declared.size.Size.{Size}
-use Rattle.dm_check_blocks.specs.Sizes.{side, region, regions, mapping}
-use Rattle.dm_placement.specs.Square.{Square, IsWhole, module_at, with_flipped}
-use Rattle.dm_finder_frame.specs.Grids.{GridView, IsWholeGrid, grid_module_at, grid_with_flipped}
+use Rattle.dm_check_blocks.specs.Sizes.{IsSide, side, region, regions, mapping}
+use Rattle.dm_placement.specs.Placement.{Square, IsWhole, module_at, with_flipped}
+use Rattle.dm_finder_frame.specs.declared.fault.GridFault.{GridFault}
+use Rattle.dm_finder_frame.specs.declared.fault.GridFault.TheVariants.{Side, Memory}
+use Rattle.dm_finder_frame.specs.declared.unframing.Framed.{Framed}
+use Rattle.dm_finder_frame.specs.declared.fault.FrameFault.{FrameFault}
+use Rattle.dm_finder_frame.specs.declared.fault.FrameFault.TheVariants.{Border, Memory as NoMemory}
+
+pub record GridView : Type 0 where
+  pub size : Size
+  pub modules : List Bool
+
+-- the modules of a grid as a square
+abbrev pub square_of : GridView → Square
+square_of g = record { side = side g.size; modules = g.modules }
+
+-- it has all its modules
+abbrev pub IsWholeGrid : GridView → Type 0
+IsWholeGrid g = IsWhole (square_of g)
+
+-- whether the module of a row and a column is dark
+abbrev pub grid_module_at : GridView → ℕ → ℕ → Bool
+grid_module_at g r c = module_at (square_of g) r c
+
+-- the row and the column lie in the grid
+abbrev pub IsInGrid : GridView → ℕ × ℕ → Type 0
+IsInGrid g cell = (cell.0 < side g.size) × (cell.1 < side g.size)
+
+-- the grid with one module flipped, dark to light or light to dark
+abbrev pub grid_with_flipped : GridView → ℕ → ℕ → GridView
+grid_with_flipped g r c = record { size = g.size; modules = (with_flipped (square_of g) r c).modules }
+
+-- the grid with these modules, by row and column, flipped one after another; one that is named twice is as it was
+abbrev pub flipped : GridView → List (ℕ × ℕ) → GridView
+flipped g [] = g
+flipped g (flip ∷ flips) = flipped (grid_with_flipped g flip.0 flip.1) flips
+
+-- this list of modules fills a symbol of this side
+abbrev pub FillsSymbol : ℕ → List Bool → Type 0
+FillsSymbol n modules = IsSide n × (length modules ≡ n * n)
+
+-- ---- The finder patterns of a symbol (ISO/IEC 16022:2006, 5.5 and 5.8): the mapping matrix is cut into data regions
+-- of one side, left to right and top to bottom, and each has a frame one module wide. Rows and columns count from 0.
 
 -- a module of the finder pattern, by its place in its framed region of side h + 2
 abbrev pub is_on_frame : ℕ → ℕ → ℕ → Bool
@@ -93,3 +133,28 @@ abbrev pub FlipsOneModule : Type 0
 FlipsOneModule = (g : GridView) (r c : ℕ) → IsWholeGrid g → r < side g.size → c < side g.size
     → matrix_of_grid (grid_with_flipped g r c)
     ≡ option_map_or (λ cell. with_flipped (matrix_of_grid g) cell.0 cell.1) (mapping_cell g.size r c) (matrix_of_grid g)
+
+-- ---- What making a grid of modules answers (this project's own rule): `Side` exactly where the modules do not fill a
+-- symbol of that side.
+
+abbrev pub MakesGrid : ℕ → List Bool → Result GridView GridFault → Type 0
+MakesGrid n modules (Ok grid) = FillsSymbol n modules × (side grid.size ≡ n) × (grid.modules ≡ modules)
+MakesGrid n modules (Err Side) = ¬ FillsSymbol n modules
+MakesGrid n modules (Err Memory) = FillsSymbol n modules
+
+-- ---- What taking the finder patterns off a grid answers (this project's own rule): `Border` exactly where more than
+-- an eighth of their modules are wrong.
+
+-- at most an eighth of the modules of the finder patterns are wrong
+abbrev pub HasGoodFrame : GridView → Type 0
+HasGoodFrame g = 8 * wrong_frame_modules g ≤ frame_module_count g.size
+
+-- more than an eighth of them are wrong, and this is their number
+abbrev pub HasBadFrame : GridView → ℕ → Type 0
+HasBadFrame g wrong = (frame_module_count g.size < 8 * wrong_frame_modules g) × (wrong ≡ wrong_frame_modules g)
+
+abbrev pub Unframes : {A : Type 0} → GridView → Result (Framed A) FrameFault → Type 0
+Unframes g (Ok f) = HasGoodFrame g × (f.size ≡ g.size) × (f.matrix ≡ matrix_of_grid g) ×
+    (f.wrong ≡ wrong_frame_modules g)
+Unframes g (Err (Border wrong)) = HasBadFrame g wrong
+Unframes g (Err NoMemory) = HasGoodFrame g

@@ -1,5 +1,2 @@
 pub mod Frame
-pub mod GridOutcome
-pub mod Grids
-pub mod UnframeOutcome
 pub mod inner

@@ -1,9 +1,8 @@
 //! Laws of the finder patterns and of flipped modules: each function's contract is the law, and its body does nothing.
 
 ghost use Rattle.std.specs.Prelude.{◌≡◌, ℕ, List, [], ◌∷◌, ◌++◌};
-ghost use Rattle.dm_finder_frame.specs.Frame.{FlipsOneModule, FrameHasNoWrongModule, UnframeUndoesFrame, grid_of_matrix, matrix_of_grid};
-ghost use Rattle.dm_finder_frame.specs.Grids.{GridView, IsWholeGrid, flipped, grid_with_flipped};
-ghost use Rattle.dm_placement.specs.Square.{IsWhole, Square};
+ghost use Rattle.dm_finder_frame.specs.Frame.{FlipsOneModule, FrameHasNoWrongModule, UnframeUndoesFrame, grid_of_matrix, matrix_of_grid, GridView, IsWholeGrid, flipped, grid_with_flipped};
+ghost use Rattle.dm_placement.specs.Placement.{IsWhole, Square};
 
 use dm_check_blocks::Size;
 

@@ -2,9 +2,8 @@
 
 ghost use Rattle.std.specs.Prelude.{◌≡◌, ◌<◌, ◌≤◌, ◌+◌, ◌*◌, ◌%◌, ◌⊎◌, ◌||◌, ◌==◌, IfOk, OnOk, if◌then◌else◌, not};
 ghost use Rattle.dm_check_blocks.specs.Sizes.{across as across_of, mapping, region, side};
-ghost use Rattle.dm_finder_frame.specs.Frame.{matrix_module, matrix_of_grid, wrong_frame_modules};
+ghost use Rattle.dm_finder_frame.specs.Frame.{matrix_module, matrix_of_grid, wrong_frame_modules, Unframes};
 ghost use Rattle.dm_finder_frame.specs.inner.Filled.{first_modules, wrong_among};
-ghost use Rattle.dm_finder_frame.specs.UnframeOutcome.{Unframes};
 
 use crate::fault::FrameFault;
 use crate::grid::Grid;

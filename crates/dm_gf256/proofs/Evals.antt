@@ -3,9 +3,7 @@ use Rattle.std.proofs.Common.{◌≡◌, ℕ, ◌+◌, ◌<◌, sym, ap, ◌∙�
 use Rattle.std.proofs.lemmas.List.{map_more}
 use Rattle.std.specs.Int.Bits.{bit_xor}
 use Rattle.dm_gf256.specs.declared.element.Gf.{Gf}
-use Rattle.dm_gf256.specs.Elements.{numbers}
-use Rattle.dm_gf256.specs.Field.{product}
-use Rattle.dm_gf256.specs.Polynomial.{value}
+use Rattle.dm_gf256.specs.Field.{numbers, product, value}
 use Rattle.dm_gf256.proofs.LoopSteps.{value-push}
 
 -- one step of `eval`: the value of one coefficient more

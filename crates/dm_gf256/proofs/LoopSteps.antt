@@ -4,8 +4,7 @@ use Rattle.std.specs.Int.Bits.{bit_xor, xor_assoc, xor_zero_r}
 use Rattle.std.proofs.Math.Nat.{pow-succ'}
 use Rattle.std.specs.Int.Bits.{bit_and}
 use Rattle.std.proofs.lemmas.Nat.{xor_comm, xor_block, and_mask}
-use Rattle.dm_gf256.specs.Field.{product, power, plain, reduced}
-use Rattle.dm_gf256.specs.Polynomial.{value}
+use Rattle.dm_gf256.specs.Field.{product, power, plain, reduced, value}
 use Rattle.dm_gf256.proofs.TablesByComputing.{all_below}
 use Rattle.dm_gf256.proofs.Linear.{product-xor_r, product-xor_l}
 use Rattle.dm_gf256.proofs.Ring.{all_below-at, product_comm, product_assoc, product-zero_l, product-zero_r, one-product}

@@ -5,8 +5,7 @@ use Rattle.std.proofs.lemmas.Bool.Decides.{nat_tests}
 use Rattle.std.specs.Bool.{◌==◌}
 use Rattle.std.specs.Int.Bits.{bit_xor, xor_assoc, xor_zero_l, xor_zero_r, xor_self}
 use Rattle.std.proofs.lemmas.Nat.{xor_lt}
-use Rattle.dm_gf256.specs.Field.{product, power}
-use Rattle.dm_gf256.specs.Polynomial.{value, differ, sum_word, IsBlockWord}
+use Rattle.dm_gf256.specs.Field.{product, power, value, differ, sum_word, IsBlockWord}
 use Rattle.dm_gf256.proofs.Linear.{product-xor_l, xor_interchange}
 use Rattle.dm_gf256.proofs.Vanish.{value-moment, nonzeros, mark, Bytes, Zeros, vanish, mark_le}
 

@@ -1,4 +1,2 @@
-pub mod Elements
 pub mod Field
-pub mod Polynomial
 pub mod inner

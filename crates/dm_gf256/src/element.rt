@@ -2,8 +2,7 @@
 
 ghost use Rattle.std.specs.Prelude.{◌≡◌, ◌<◌};
 ghost use Rattle.std.specs.Int.Bits.{bit_xor};
-ghost use Rattle.dm_gf256.specs.Field.{product, power};
-ghost use Rattle.dm_gf256.specs.Polynomial.{value};
+ghost use Rattle.dm_gf256.specs.Field.{product, power, value};
 
 use crate::powers::{inverse_of, power_of_two, product_of, product_with_power};
 
@@ -15,8 +14,8 @@ impl Gf {
     ghost use Rattle.std.specs.Prelude.{◌≡◌, ◌<◌};
     ghost use Rattle.std.specs.Int.Bits.{bit_xor};
     ghost use Rattle.dm_gf256.specs.Field.{product, power};
-    ghost use Rattle.dm_gf256.specs.Polynomial.{value};
-    ghost use Rattle.dm_gf256.specs.Elements.{numbers};
+    ghost use Rattle.dm_gf256.specs.Field.{value};
+    ghost use Rattle.dm_gf256.specs.Field.{numbers};
 
     /// The sum, which is the difference too.
     pub fn add(self, other: Gf) -> Gf

@@ -2,8 +2,7 @@
 
 ghost use Rattle.std.specs.Prelude.{◌≡◌, ◌<◌, ◌≤◌, ◌≢◌, ℕ, length};
 ghost use Rattle.std.specs.Int.Bits.{bit_xor};
-ghost use Rattle.dm_gf256.specs.Field.{product, power};
-ghost use Rattle.dm_gf256.specs.Polynomial.{differ, IsBlockWord};
+ghost use Rattle.dm_gf256.specs.Field.{product, power, differ, IsBlockWord};
 
 /// With the sum, the product makes a commutative ring, in which 1 is neutral.
 pub fn ring()

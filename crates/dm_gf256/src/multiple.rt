@@ -1,7 +1,7 @@
 //! Adding a multiple of one word to another: the step of the encoder and of elimination.
 
 ghost use Rattle.std.specs.Prelude.{◌≡◌, length};
-ghost use Rattle.dm_gf256.specs.Polynomial.{add_scaled};
+ghost use Rattle.dm_gf256.specs.Field.{add_scaled};
 
 use crate::element::Gf;
 

@@ -3,7 +3,7 @@ use Rattle.std.proofs.Common.{arith, ◌≡◌, ◌==◌, ℕ, ◌*◌, ◌/◌,
 use Rattle.std.proofs.lemmas.Bool.{and_parts, eqb-true}
 use Rattle.std.specs.Int.{from_le_bytes, w64}
 use mir.Val.{bool_byte}
-use Rattle.dm_pbm_io.specs.Writing.{with_bit, number_of_first}
+use Rattle.dm_pbm_io.specs.Image.{with_bit, number_of_first}
 use Rattle.dm_pbm_io.proofs.Written.{number_step}
 
 -- the number that eight bytes of 0 or 1 are gathered to

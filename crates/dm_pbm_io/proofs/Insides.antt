@@ -1,7 +1,6 @@
 -- The pixels inside the quiet zone of a picture.
 use Rattle.std.proofs.Common.{◌≡◌, ℕ, ◌+◌, ◌-◌, ◌*◌, ◌/◌, ◌%◌, ◌<◌, ◌≤◌, Bool, false, List, ◌++◌, length, get_or, map, take, slice_index_or, sym, ap, ◌∙◌, arith, ⊎_elim}
-use Rattle.dm_pbm_io.specs.Image.{Picture}
-use Rattle.dm_pbm_io.specs.SymbolImage.{modules_inside}
+use Rattle.dm_pbm_io.specs.Image.{Picture, modules_inside}
 use Rattle.std.specs.List.{between, range_with_len, CopiedTo, SameBelow, SameFrom}
 use Rattle.std.proofs.lemmas.List.{get_or_append_left, get_or-append_right, get_or-take, length-append, length-take-le}
 use Rattle.std.proofs.lemmas.List.Edits.{length-between, get_or-between}

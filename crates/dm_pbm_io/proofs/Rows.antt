@@ -8,8 +8,7 @@ use Rattle.std.proofs.lemmas.List.Elements.{filter-append}
 use Rattle.std.proofs.Math.Seq.{take-append-add}
 use Rattle.std.proofs.Math.Nat.{mul-le-mul_right}
 use Rattle.std.proofs.lemmas.Bool.Decides.{nat_tests}
-use Rattle.dm_pbm_io.specs.Comments.{is_white}
-use Rattle.dm_pbm_io.specs.Raster.{bits, stride, row_of, IsPackedRaster, digit_of, is_pixel_digit, is_plain_sign, ShowsPixels}
+use Rattle.dm_pbm_io.specs.Header.{is_white, bits, stride, row_of, IsPackedRaster, digit_of, is_pixel_digit, is_plain_sign, ShowsPixels}
 
 length-bits : (row : List ℕ) → length (flat_map bits row) ≡ 8 * length row
 length-bits [] = refl

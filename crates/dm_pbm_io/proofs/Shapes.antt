@@ -3,8 +3,7 @@ use Rattle.std.proofs.Common.{◌≡◌, ◌+◌, ◌-◌, ◌*◌, ◌<◌, ◌
 use Rattle.dm_check_blocks.specs.declared.size.Size.{Size}
 use Rattle.dm_check_blocks.specs.declared.size.Size.TheVariants.{Side10}
 use Rattle.dm_check_blocks.specs.Sizes.{side, row}
-use Rattle.dm_pbm_io.specs.Image.{Picture}
-use Rattle.dm_pbm_io.specs.SymbolImage.{HasShape}
+use Rattle.dm_pbm_io.specs.Image.{Picture, HasShape}
 
 -- no symbol has a side below 10
 pub smallest_side : (s : Size) → 10 ≤ side s

@@ -1,11 +1,5 @@
-pub mod Comments
 pub mod FaultNames
-pub mod SymbolImage
 pub mod Header
 pub mod Image
 pub mod Laws
-pub mod Raster
-pub mod Shown
-pub mod Stops
-pub mod Writing
 pub mod inner

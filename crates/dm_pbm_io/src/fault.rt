@@ -5,7 +5,7 @@ ghost use Rattle.dm_pbm_io.specs.FaultNames.{pbm_fault_name, shape_fault_name};
 ghost use Rattle.dm_pbm_io.specs.declared.fault.HeaderFault.TheVariants as header_faults;
 ghost use Rattle.dm_pbm_io.specs.declared.fault.RasterFault.TheVariants as raster_faults;
 ghost use Rattle.dm_pbm_io.specs.declared.fault.ShapeFault.TheVariants as shape_faults;
-ghost use Rattle.dm_pbm_io.specs.inner.Narrow.{byte_fault, header_fault, raster_fault};
+ghost use Rattle.dm_pbm_io.specs.inner.Streaming.{byte_fault, header_fault, raster_fault};
 
 use std::alloc::AllocError;
 use thiserror::Error;

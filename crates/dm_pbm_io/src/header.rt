@@ -2,12 +2,8 @@
 
 ghost use Rattle.std.specs.Prelude.{◌≡◌, ◌≤◌, ℕ, min, IsTrue, IfSome, List, MatchResult};
 ghost use Rattle.std.specs.Char.{is_ascii_digit};
-ghost use Rattle.dm_pbm_io.specs.Comments.{is_white, is_hidden};
-ghost use Rattle.dm_pbm_io.specs.Header.{IsHeaderBody};
-ghost use Rattle.dm_pbm_io.specs.Stops.{StopsInHeader};
-ghost use Rattle.dm_pbm_io.specs.inner.HeaderStates.{next_state, with_digit, HasNumber};
-ghost use Rattle.dm_pbm_io.specs.inner.Narrow.{header_fault};
-ghost use Rattle.dm_pbm_io.specs.inner.Streaming.{Takes, TakesUntil};
+ghost use Rattle.dm_pbm_io.specs.Header.{is_white, is_hidden, IsHeaderBody, StopsInHeader};
+ghost use Rattle.dm_pbm_io.specs.inner.Streaming.{next_state, with_digit, HasNumber, header_fault, Takes, TakesUntil};
 
 use crate::fault::HeaderFault;
 use crate::limits::HEADER_BYTES;

@@ -2,12 +2,9 @@
 
 ghost use Rattle.std.specs.Prelude.{◌≡◌, ◌<◌, ◌≤◌, ◌*◌, ℕ, List, [], ◌∷◌, ◌++◌, vec_capacity, Some, IsErrOf, MatchResult, MatchOption};
 ghost use Rattle.std.specs.Io.KnownBytes.{Consumes, Keeps, IsAtEnd};
-ghost use Rattle.dm_pbm_io.specs.Header.{magic};
-ghost use Rattle.dm_pbm_io.specs.Image.{IsNoMagic, IsRaster, Spells, SpellsAfterMagic, Refuses, RefusesAfterMagic};
-ghost use Rattle.dm_pbm_io.specs.Stops.{StopsInRaster};
-ghost use Rattle.dm_pbm_io.specs.Shown.{picture};
-ghost use Rattle.dm_pbm_io.specs.inner.Narrow.{raster_fault};
-ghost use Rattle.dm_pbm_io.specs.inner.Streaming.{FindsEnd, Takes, TakesUntil};
+ghost use Rattle.dm_pbm_io.specs.Header.{magic, StopsInRaster};
+ghost use Rattle.dm_pbm_io.specs.Image.{IsNoMagic, IsRaster, Spells, SpellsAfterMagic, Refuses, RefusesAfterMagic, picture};
+ghost use Rattle.dm_pbm_io.specs.inner.Streaming.{raster_fault, FindsEnd, Takes, TakesUntil};
 
 use crate::fault::{PbmFault, RasterFault};
 use crate::header::read_size;
@@ -180,7 +177,7 @@ impl<A: Allocator + Copy> Image<A> {
     ghost use Rattle.std.specs.Prelude.{◌≡◌, ◌⊎◌, ℕ, List, true, IsErrOf, MatchResult, MatchOption};
     ghost use Rattle.std.specs.Io.KnownBytes.{Consumes, Keeps, IsAtEnd};
     ghost use Rattle.dm_pbm_io.specs.Image.{Spells, Refuses};
-    ghost use Rattle.dm_pbm_io.specs.Shown.{picture};
+    ghost use Rattle.dm_pbm_io.specs.Image.{picture};
 
     /// The next image, or `None` at the end of the input. No byte after the image is taken.
     ///

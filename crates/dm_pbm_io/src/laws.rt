@@ -1,7 +1,7 @@
 //! The laws of reading and writing.
 
 ghost use Rattle.std.specs.Prelude.{Bool, ◌≡◌};
-ghost use Rattle.dm_finder_frame.specs.Grids.{GridView, IsWholeGrid};
+ghost use Rattle.dm_finder_frame.specs.Frame.{GridView, IsWholeGrid};
 ghost use Rattle.dm_pbm_io.specs.Image.{Picture};
 ghost use Rattle.dm_pbm_io.specs.Laws.{HasOneImage, IsNotRefused, IsReadable, IsReadBack, IsTakenBack, IsWrittenReadable};
 

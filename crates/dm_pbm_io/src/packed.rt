@@ -2,10 +2,8 @@
 //! is drawn from where it stands.
 
 ghost use Rattle.std.specs.Prelude.{◌≡◌, ℕ, ◌<◌, ◌≤◌, List, length, MatchResult};
-ghost use Rattle.dm_pbm_io.specs.Raster.{stride, row_of};
-ghost use Rattle.dm_pbm_io.specs.Stops.{HasNoByte};
-ghost use Rattle.dm_pbm_io.specs.inner.Narrow.{byte_fault};
-ghost use Rattle.dm_pbm_io.specs.inner.Streaming.{Takes, TakesUntil};
+ghost use Rattle.dm_pbm_io.specs.Header.{stride, row_of, HasNoByte};
+ghost use Rattle.dm_pbm_io.specs.inner.Streaming.{byte_fault, Takes, TakesUntil};
 
 use crate::fault::ByteFault;
 use crate::limits::GREATEST_SIDE;

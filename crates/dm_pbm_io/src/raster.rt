@@ -1,10 +1,8 @@
 //! The rasters of packed and plain images.
 
 ghost use Rattle.std.specs.Prelude.{◌≡◌, ℕ, ◌+◌, ◌*◌, ◌<◌, ◌≤◌, List, [], ◌∷◌, ◌++◌, length, replicate, vec_len, vec_capacity, MatchResult, MatchOption, false};
-ghost use Rattle.dm_pbm_io.specs.Raster.{digit_of, is_pixel_digit, IsPackedRaster, IsPlainRaster};
-ghost use Rattle.dm_pbm_io.specs.Stops.{StopsInPlain, StopsInPacked};
-ghost use Rattle.dm_pbm_io.specs.inner.Narrow.{byte_fault, raster_fault};
-ghost use Rattle.dm_pbm_io.specs.inner.Streaming.{Takes, TakesUntil};
+ghost use Rattle.dm_pbm_io.specs.Header.{digit_of, is_pixel_digit, IsPackedRaster, IsPlainRaster, StopsInPlain, StopsInPacked};
+ghost use Rattle.dm_pbm_io.specs.inner.Streaming.{byte_fault, raster_fault, Takes, TakesUntil};
 
 use crate::fault::{ByteFault, RasterFault};
 use crate::header::{is_hidden, is_white};

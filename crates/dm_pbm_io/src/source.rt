@@ -3,9 +3,8 @@
 ghost use Rattle.std.specs.Prelude.{◌≡◌, ◌<◌, List, ℕ, [], ◌∷◌, true, false, Some, length, IfOk, OnErr, MatchResult};
 ghost use Rattle.std.specs.Io.KnownBytes.{Keeps};
 ghost use Rattle.relay_streams.specs.Streams.{InputView, TakesFewer};
-ghost use Rattle.dm_pbm_io.specs.Stops.{HasNoByte};
-ghost use Rattle.dm_pbm_io.specs.inner.Narrow.{byte_fault};
-ghost use Rattle.dm_pbm_io.specs.inner.Streaming.{Takes, TakesFront, TakesNext, TakesUntil};
+ghost use Rattle.dm_pbm_io.specs.Header.{HasNoByte};
+ghost use Rattle.dm_pbm_io.specs.inner.Streaming.{byte_fault, Takes, TakesFront, TakesNext, TakesUntil};
 
 use crate::fault::ByteFault;
 use relay_streams::{Input, ReadFault, fill_from, next_byte_of};

@@ -2,10 +2,9 @@
 
 ghost use Rattle.std.specs.Prelude.{◌≡◌, ◌+◌, ◌*◌, ◌<◌, ◌≤◌, IfOk, IsErrOf, MatchOption, length};
 ghost use Rattle.dm_check_blocks.specs.Sizes as sizes;
-ghost use Rattle.dm_finder_frame.specs.Grids.{square_of};
-ghost use Rattle.dm_pbm_io.specs.SymbolImage.{HasShape, IsGridInside, image_with_quiet_zone, modules_inside};
-ghost use Rattle.dm_pbm_io.specs.Shown.{picture};
-ghost use Rattle.dm_pbm_io.specs.inner.Drawing.{IsDrawnTo};
+ghost use Rattle.dm_finder_frame.specs.Frame.{square_of};
+ghost use Rattle.dm_pbm_io.specs.Image.{HasShape, IsGridInside, image_with_quiet_zone, modules_inside, picture};
+ghost use Rattle.dm_pbm_io.specs.inner.Streaming.{IsDrawnTo};
 
 use crate::fault::ShapeFault;
 use crate::image::Image;

@@ -4,10 +4,8 @@
 ghost use Rattle.std.specs.Prelude.{◌≡◌, ◌<◌, ◌≤◌, ◌*◌, true, [], ◌∷◌, ◌++◌, false, length, map, slice_index_or, OnOk, OnErr};
 ghost use Rattle.std.specs.Io.KnownBytes.{Appends};
 ghost use Rattle.std.specs.Fmt.{decimal};
-ghost use Rattle.dm_pbm_io.specs.Header.{magic};
-ghost use Rattle.dm_pbm_io.specs.Raster.{stride, digit_of};
-ghost use Rattle.dm_pbm_io.specs.Shown.{picture};
-ghost use Rattle.dm_pbm_io.specs.Writing.{number_of_first, packed, plain_row, row_text, rows_text, written};
+ghost use Rattle.dm_pbm_io.specs.Header.{magic, stride, digit_of};
+ghost use Rattle.dm_pbm_io.specs.Image.{picture, number_of_first, packed, plain_row, row_text, rows_text, written};
 ghost use Rattle.dm_pbm_io.specs.inner.Streaming.{Adds};
 ghost use Rattle.relay_streams.specs.Streams.{AppendsPart};
 
@@ -253,8 +251,8 @@ pub fn write_image<W: Write, A: Allocator>(
 impl<A: Allocator> Image<A> {
     ghost use Rattle.std.specs.Prelude.{◌≡◌, ◌*◌, true, length, OnOk, OnErr};
     ghost use Rattle.std.specs.Io.KnownBytes.{Appends};
-    ghost use Rattle.dm_pbm_io.specs.Shown.{picture};
-    ghost use Rattle.dm_pbm_io.specs.Writing.{written};
+    ghost use Rattle.dm_pbm_io.specs.Image.{picture};
+    ghost use Rattle.dm_pbm_io.specs.Image.{written};
     ghost use Rattle.relay_streams.specs.Streams.{AppendsPart, StaysFailed};
 
     /// Writes the image in its own form. No memory is taken.

@@ -6,10 +6,10 @@ use Rattle.std.proofs.Common.{◌≡◌, ℕ, zero, suc, ◌+◌, ◌-◌, ◌%�
 use Rattle.std.proofs.lemmas.Bool.Decides.{nat_tests}
 use Rattle.dm_placement.specs.declared.shape.Shape.{Shape}
 use Rattle.dm_placement.specs.declared.shape.Shape.TheVariants.{Plain}
-use Rattle.dm_placement.specs.Cells.{cell_at, is_left_out}
+use Rattle.dm_placement.specs.Placement.{cell_at, is_left_out}
 use Rattle.dm_placement.specs.declared.walk.Sweep.{Sweep}
 use Rattle.dm_placement.specs.declared.walk.Sweep.TheVariants.{Start, Up, Down}
-use Rattle.dm_placement.specs.inner.Walk.{IsAhead, StandInside, Steps, shapes_ahead, word_at}
+use Rattle.dm_placement.specs.inner.Places.{IsAhead, StandInside, Steps, shapes_ahead, word_at}
 
 -- at such a position of the walk there is a word
 word_inside : (n r c : ℕ) → 4 ≤ r → r < n + 2 → 4 ≤ c → c < n + 2

@@ -7,9 +7,8 @@ use Rattle.std.proofs.lemmas.List.Elements.{All-from_get_or}
 use Rattle.std.proofs.lemmas.Nat.{mul-add-lt, mul-le, div-mul-add, mod-mul-add}
 use Rattle.dm_placement.specs.declared.shape.Cell.{Cell}
 use Rattle.dm_placement.specs.declared.shape.Shape.TheVariants.{Plain}
-use Rattle.dm_placement.specs.Cells.{cell_at, cell_from_anchor, shape_cells}
-use Rattle.dm_placement.specs.Square.{place_of}
-use Rattle.dm_placement.specs.inner.Shapes.{AllIn}
+use Rattle.dm_placement.specs.Placement.{cell_at, cell_from_anchor, shape_cells, place_of}
+use Rattle.dm_placement.specs.inner.Places.{AllIn}
 use Rattle.dm_placement.proofs.CellLists.{all_in_at, same_cell}
 
 -- a place fits sixteen bits

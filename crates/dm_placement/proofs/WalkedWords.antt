@@ -10,10 +10,8 @@ use Rattle.dm_placement.specs.declared.shape.Shape.{Shape}
 use Rattle.dm_placement.specs.declared.walk.Sweep.{Sweep}
 use Rattle.dm_placement.specs.declared.walk.Sweep.TheVariants.{Start, Up, Down}
 use Rattle.dm_placement.specs.declared.walk.Walk.{Walk}
-use Rattle.dm_placement.specs.Cells.{shapes, shape_cells, bit_cells, anchors, corner_before, is_anchor, is_left_out, is_in_square, rising_diagonal, falling_diagonal}
-use Rattle.dm_placement.specs.Square.{place_of}
-use Rattle.dm_placement.specs.inner.Shapes.{IsPlaceable}
-use Rattle.dm_placement.specs.inner.Walk.{HasWalked, shapes_ahead, Steps, corner_at, ends, is_over, word_at}
+use Rattle.dm_placement.specs.Placement.{shapes, shape_cells, bit_cells, anchors, corner_before, is_anchor, is_left_out, is_in_square, rising_diagonal, falling_diagonal, place_of}
+use Rattle.dm_placement.specs.inner.Places.{IsPlaceable, HasWalked, shapes_ahead, Steps, corner_at, ends, is_over, word_at}
 use Rattle.dm_placement.proofs.CellLists.{cells_of_all}
 use Rattle.dm_placement.proofs.ShapesSound.{AllSound, AllSound-append, sound_size}
 

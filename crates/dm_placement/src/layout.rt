@@ -3,10 +3,8 @@
 ghost use Rattle.std.specs.Prelude.{◌≡◌, ◌<◌, ◌≤◌, IfOk, OnOk, false, map};
 ghost use Rattle.dm_check_blocks.specs.declared.size.Size.{Size};
 ghost use Rattle.dm_check_blocks.specs.Sizes.{mapping};
-ghost use Rattle.dm_placement.specs.Cells.{bit_cells};
-ghost use Rattle.dm_placement.specs.Placement.{cell, IsBit};
-ghost use Rattle.dm_placement.specs.Square.{place_of};
-ghost use Rattle.dm_placement.specs.inner.Walk.{HasWalked, is_over, steps_left};
+ghost use Rattle.dm_placement.specs.Placement.{bit_cells, cell, IsBit, place_of};
+ghost use Rattle.dm_placement.specs.inner.Places.{HasWalked, is_over, steps_left};
 
 use crate::shape::{places_inside, places_of};
 use crate::walk::Walk;

@@ -2,7 +2,7 @@
 
 ghost use Rattle.std.specs.Prelude.{◌≡◌, ◌<◌, ◌≤◌, ◌+◌, ◌*◌, IfOk, false, get_or, length, set, slice_range};
 ghost use Rattle.dm_check_blocks.specs.Sizes.{mapping};
-ghost use Rattle.dm_placement.specs.Square.{Square, IsWhole, module_at, light_square, with_module};
+ghost use Rattle.dm_placement.specs.Placement.{Square, IsWhole, module_at, light_square, with_module};
 
 use dm_check_blocks::Size;
 use std::alloc::{AllocError, Allocator, Global};

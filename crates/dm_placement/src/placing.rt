@@ -2,10 +2,8 @@
 
 ghost use Rattle.std.specs.Prelude.{◌≡◌, IfOk, length};
 ghost use Rattle.dm_check_blocks.specs.Sizes.{all_words};
-ghost use Rattle.dm_placement.specs.Cells.{dark_cells};
-ghost use Rattle.dm_placement.specs.Placement.{placed};
-ghost use Rattle.dm_placement.specs.Square.{light_square, with_dark};
-ghost use Rattle.dm_placement.specs.inner.Shapes.{IsSideSound};
+ghost use Rattle.dm_placement.specs.Placement.{dark_cells, placed, light_square, with_dark};
+ghost use Rattle.dm_placement.specs.inner.Places.{IsSideSound};
 
 use crate::bits::bits_of;
 use crate::layout::Layout;

@@ -1,9 +1,8 @@
 //! The shapes in which the eight bits of a word stand on the mapping matrix.
 
 ghost use Rattle.std.specs.Prelude.{◌≡◌, ◌<◌, ◌≤◌, ◌+◌, ◌*◌, map};
-ghost use Rattle.dm_placement.specs.Cells.{cell_from_anchor, shape_cells};
-ghost use Rattle.dm_placement.specs.Square.{place_of};
-ghost use Rattle.dm_placement.specs.inner.Shapes.{MayBeAnchor, IsPlaceable, IsSideSound};
+ghost use Rattle.dm_placement.specs.Placement.{cell_from_anchor, shape_cells, place_of};
+ghost use Rattle.dm_placement.specs.inner.Places.{MayBeAnchor, IsPlaceable, IsSideSound};
 
 /// A module of the mapping matrix, by its row and its column, both from 0.
 #[derive(Clone, Copy, Debug, PartialEq, Eq)]

@@ -4,9 +4,8 @@
 ghost use Rattle.std.specs.Prelude.{◌≡◌, ◌<◌, ◌≤◌, ◌+◌, ℕ, false, Some};
 ghost use Rattle.std.specs.Option.{option_to_list};
 ghost use Rattle.dm_check_blocks.specs.Sizes.{mapping};
-ghost use Rattle.dm_placement.specs.Cells.{is_left_out, shapes};
-ghost use Rattle.dm_placement.specs.inner.Shapes.{IsSideSound};
-ghost use Rattle.dm_placement.specs.inner.Walk.{IsAhead, IsInside, IsNearby, Steps, corner_at, is_over, word_at};
+ghost use Rattle.dm_placement.specs.Placement.{is_left_out, shapes};
+ghost use Rattle.dm_placement.specs.inner.Places.{IsSideSound, IsAhead, IsInside, IsNearby, Steps, corner_at, is_over, word_at};
 
 use crate::shape::{Cell, Shape};
 use dm_check_blocks::Size;

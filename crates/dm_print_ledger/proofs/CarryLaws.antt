@@ -5,15 +5,11 @@ use Rattle.std.specs.Prelude.{◌==◌, IfOk}
 use Rattle.std.proofs.lemmas.Bool.{cond-true, eq-eqb}
 use Rattle.dm_check_blocks.specs.declared.size.Size.{Size}
 use Rattle.dm_encodation.specs.declared.scheme.Scheme.{Scheme}
-use Rattle.dm_append_label.specs.Parts.{AreEnds, parts_from}
+use Rattle.dm_append_label.specs.Labels.{AreEnds, parts_from}
 use Rattle.dm_print_ledger.specs.declared.fault.PrintFault.{PrintFault}
 use Rattle.dm_print_ledger.specs.declared.fault.PrintFault.TheVariants as printing
-use Rattle.dm_print_ledger.specs.Carrying.{Carries, IsInOrder, Saves}
-use Rattle.dm_print_ledger.specs.Changes.{least}
-use Rattle.dm_print_ledger.specs.Ledger.{is_sound}
-use Rattle.dm_print_ledger.specs.Printing.{IsJobOf, IsMade, Prints}
-use Rattle.dm_print_ledger.specs.Verdicts.{print_verdict}
-use Rattle.dm_print_ledger.specs.Views.{JobView, LedgerView, PrinterView}
+use Rattle.dm_print_ledger.specs.Verdicts.{Carries, IsInOrder, Saves, least, IsJobOf, IsMade, Prints, print_verdict}
+use Rattle.dm_print_ledger.specs.Ledger.{is_sound, JobView, LedgerView, PrinterView}
 
 -- a running printer refuses
 pub refuses : {X F : Type 0} (failed memory save : F) (verdict : Result LedgerView F) (old : PrinterView) (fault : F) →

@@ -5,11 +5,7 @@ use Rattle.std.proofs.lemmas.List.{get_or_at, get_or-append-add}
 use Rattle.dm_print_ledger.proofs.Rising.{IsSound}
 use Rattle.dm_print_ledger.specs.declared.range.Range.{Range}
 use Rattle.dm_print_ledger.specs.declared.giver.Giver.{Giver}
-use Rattle.dm_print_ledger.specs.Views.{LedgerView}
-use Rattle.dm_print_ledger.specs.Ranges.{free_count}
-use Rattle.dm_print_ledger.specs.Ledger.{ledger_bytes, range_bytes, giver_bytes}
-use Rattle.dm_print_ledger.specs.Ledger.{number_in, two_bytes}
-use Rattle.dm_print_ledger.specs.Ledger.{pairs_in, make_range, make_giver, range_count, giver_count, numbers_in}
+use Rattle.dm_print_ledger.specs.Ledger.{LedgerView, free_count, ledger_bytes, range_bytes, giver_bytes, number_in, two_bytes, pairs_in, make_range, make_giver, range_count, giver_count, numbers_in}
 
 -- a number is that of its two bytes
 pub joins : (n : ℕ) → 256 * (n / 256) + n % 256 ≡ n

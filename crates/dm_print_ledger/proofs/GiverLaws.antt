@@ -1,11 +1,11 @@
 -- Givers, of which one is noted.
-use Rattle.dm_print_ledger.specs.FreeNumbers.{Notes}
+use Rattle.dm_print_ledger.specs.Verdicts.{Notes}
 use Rattle.std.proofs.Common.{◌≡◌, ◌+◌, ◌≤◌, ◌<◌, ◌⊎◌, inl, inr, ℕ, Bool, true, false, Some, List, [], ◌∷◌, refl, sym, ◌∙◌, ap, subst, arith}
 use Rattle.std.specs.Prelude.{◌==◌, if◌then◌else◌}
 use Rattle.std.proofs.lemmas.Bool.{eq-eqb, ne_eqb, cond-true, cond-false, eqb-true, cases_eq}
 use Rattle.dm_print_ledger.proofs.Rising.{GiversFrom, givers_test}
 use Rattle.dm_print_ledger.specs.declared.giver.Giver.{Giver}
-use Rattle.dm_print_ledger.specs.Givers.{last_taken, givers_with}
+use Rattle.dm_print_ledger.specs.Ledger.{last_taken, givers_with}
 
 -- after a giver below the new one comes what the rest gives
 with_past : (giver : Giver) (givers : List Giver) (last : Giver) → giver.number < last.number →

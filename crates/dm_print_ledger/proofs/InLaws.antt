@@ -3,11 +3,10 @@ use Rattle.std.proofs.Common.{◌≡◌, ◌+◌, ◌≤◌, ◌<◌, ◌⊎◌,
 use Rattle.std.specs.List.{list_any}
 use Rattle.std.specs.Prelude.{nat_lt, if◌then◌else◌}
 use Rattle.std.proofs.lemmas.Bool.{leb-true, lt-ltb, le-ltb, or_left, or_right, or_cases, or_parts, and_parts, cond-true, cond-false, cases_lt}
-use Rattle.dm_print_ledger.specs.FreeNumbers.{AreTaken, PutsIn}
+use Rattle.dm_print_ledger.specs.Verdicts.{AreTaken, PutsIn, meets, hull, union_of}
 use Rattle.dm_print_ledger.proofs.Rising.{IsRange, RiseFrom, rise_test}
 use Rattle.dm_print_ledger.specs.declared.range.Range.{Range}
-use Rattle.dm_print_ledger.specs.Ranges.{is_in, is_free, free_count, size_of}
-use Rattle.dm_print_ledger.specs.Changes.{meets, hull, union_of}
+use Rattle.dm_print_ledger.specs.Ledger.{is_in, is_free, free_count, size_of}
 use Rattle.dm_print_ledger.proofs.RangeTests.{same_tests, both, in_from, at_least, at_most, not_in_below, not_in_above, free_here, free_after, not_free}
 use Rattle.dm_print_ledger.proofs.RangeLaws.{below_not_free, rise_lower}
 

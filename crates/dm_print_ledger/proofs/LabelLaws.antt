@@ -2,9 +2,9 @@
 use Rattle.std.proofs.Common.{◌≡◌, ◌≤◌, arith, [], ◌∷◌, ℕ, List, length, refl}
 use Rattle.dm_check_blocks.specs.declared.size.Size.{Size}
 use Rattle.dm_encodation.specs.declared.scheme.Scheme.{Scheme}
-use Rattle.dm_finder_frame.specs.Grids.{GridView}
-use Rattle.dm_append_label.specs.Parts.{parts_from}
-use Rattle.dm_print_ledger.specs.Printing.{AreLabels, IsJobOf}
+use Rattle.dm_finder_frame.specs.Frame.{GridView}
+use Rattle.dm_append_label.specs.Labels.{parts_from}
+use Rattle.dm_print_ledger.specs.Verdicts.{AreLabels, IsJobOf}
 
 -- there are as many parts as ends
 length-parts_from : (document : List ℕ) (from : ℕ) (ends : List ℕ) →

@@ -3,11 +3,10 @@ use Rattle.std.proofs.Common.{◌≡◌, ◌+◌, ◌-◌, ◌≤◌, ◌<◌, �
 use Rattle.std.specs.List.{list_any}
 use Rattle.std.specs.Prelude.{nat_lt}
 use Rattle.std.proofs.lemmas.Bool.{leb-true, le-leb, or_cases, or_parts, and_parts, and_from, le-ltb, lt-ltb, cond-true, cond-false, cases_lt}
-use Rattle.dm_print_ledger.specs.FreeNumbers.{AreFree, TakesOut}
+use Rattle.dm_print_ledger.specs.Verdicts.{AreFree, TakesOut, covers, span, without}
 use Rattle.dm_print_ledger.proofs.Rising.{IsRange, RiseFrom, rise_test}
 use Rattle.dm_print_ledger.specs.declared.range.Range.{Range}
-use Rattle.dm_print_ledger.specs.Ranges.{is_in, is_free, free_count, size_of}
-use Rattle.dm_print_ledger.specs.Changes.{covers, span, without}
+use Rattle.dm_print_ledger.specs.Ledger.{is_in, is_free, free_count, size_of}
 use Rattle.dm_print_ledger.proofs.RangeTests.{same_tests, both, in_from, at_least, at_most, not_in_below, not_in_above, free_here, free_after, free_cases, not_free, still_free, was_free, is_outside}
 use Rattle.dm_print_ledger.proofs.RangeLaws.{below_not_free, rise_lower}
 

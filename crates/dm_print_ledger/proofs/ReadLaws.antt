@@ -10,12 +10,8 @@ use Rattle.dm_print_ledger.specs.declared.range.Range.{Range}
 use Rattle.dm_print_ledger.specs.declared.giver.Giver.{Giver}
 use Rattle.dm_print_ledger.specs.declared.fault.OpenFault.{OpenFault}
 use Rattle.dm_print_ledger.specs.declared.fault.OpenFault.TheVariants.{NotALedger, Version, Damaged}
-use Rattle.dm_print_ledger.specs.Views.{LedgerView, ShownView}
-use Rattle.dm_print_ledger.specs.Givers.{are_givers}
-use Rattle.dm_print_ledger.specs.Ranges.{are_ranges}
-use Rattle.dm_print_ledger.specs.Ledger.{number_in}
-use Rattle.dm_print_ledger.specs.Ledger.{is_sound, ledger_bytes, numbers_in, pairs_in, make_range, make_giver, range_count, giver_count, shown_of, FirstLedger, first_bytes, is_first, read_first, read_second, read_ledger}
-use Rattle.dm_print_ledger.specs.Opening.{open_verdict, show_verdict}
+use Rattle.dm_print_ledger.specs.Ledger.{LedgerView, ShownView, are_givers, are_ranges, number_in, is_sound, ledger_bytes, numbers_in, pairs_in, make_range, make_giver, range_count, giver_count, shown_of, FirstLedger, first_bytes, is_first, read_first, read_second, read_ledger}
+use Rattle.dm_print_ledger.specs.Verdicts.{open_verdict, show_verdict}
 use Rattle.dm_print_ledger.proofs.Rising.{sound_fact}
 use Rattle.dm_print_ledger.proofs.FormatLaws.{HasSize, view_of, size_spelled, read_again, length-ledger_bytes}
 

@@ -7,10 +7,7 @@ use Rattle.std.proofs.lemmas.Bool.{leb-true, le-leb, and_parts, and_from}
 use Rattle.std.proofs.lemmas.List.Elements.{All-cons, All-nil}
 use Rattle.dm_print_ledger.specs.declared.range.Range.{Range}
 use Rattle.dm_print_ledger.specs.declared.giver.Giver.{Giver}
-use Rattle.dm_print_ledger.specs.Ranges.{is_range, rise_from, are_ranges}
-use Rattle.dm_print_ledger.specs.Givers.{givers_from, are_givers}
-use Rattle.dm_print_ledger.specs.Ledger.{is_sound}
-use Rattle.dm_print_ledger.specs.Views.{LedgerView}
+use Rattle.dm_print_ledger.specs.Ledger.{is_range, rise_from, are_ranges, givers_from, are_givers, is_sound, LedgerView}
 
 -- there are numbers in a range, each of an identification
 pub record IsRange (range : Range) : Type 0 where

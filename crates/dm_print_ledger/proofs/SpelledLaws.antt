@@ -6,8 +6,7 @@ use Rattle.std.specs.List.{starts_with}
 use Rattle.std.proofs.lemmas.Bool.{and_parts, and_from, cond-true, le-ltb}
 use Rattle.dm_print_ledger.specs.declared.fault.OpenFault.{OpenFault}
 use Rattle.dm_print_ledger.specs.declared.fault.OpenFault.TheVariants.{Version, Damaged}
-use Rattle.dm_print_ledger.specs.Views.{ShownView}
-use Rattle.dm_print_ledger.specs.Ledger.{FirstLedger, Spells, ReadsWhatIsSpelled, are_in_order, first_bytes, first_in, numbers_in, read_first, read_ledger, read_second, shown_of_first}
+use Rattle.dm_print_ledger.specs.Ledger.{ShownView, FirstLedger, Spells, ReadsWhatIsSpelled, are_in_order, first_bytes, first_in, numbers_in, read_first, read_ledger, read_second, shown_of_first}
 use Rattle.dm_print_ledger.specs.Ledger.Spells.{second, first}
 use Rattle.dm_print_ledger.proofs.ReadLaws.{by_tests, ledger_read, length-first_bytes, mark}
 

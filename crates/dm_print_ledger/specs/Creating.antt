@@ -5,9 +5,7 @@ use Rattle.dm_store.specs.declared.store.ReplaceFault.TheVariants as replacing
 use Rattle.dm_print_ledger.specs.declared.range.Range.{Range}
 use Rattle.dm_print_ledger.specs.declared.fault.CreateFault.{CreateFault}
 use Rattle.dm_print_ledger.specs.declared.fault.CreateFault.TheVariants as creating
-use Rattle.dm_print_ledger.specs.Ranges.{is_range}
-use Rattle.dm_print_ledger.specs.Ledger.{ledger_bytes}
-use Rattle.dm_print_ledger.specs.Views.{LedgerView, PrinterView, running}
+use Rattle.dm_print_ledger.specs.Ledger.{is_range, ledger_bytes, LedgerView, PrinterView, running}
 
 -- the ledger of a printer with this number of whose range nothing was used
 abbrev pub opening : ℕ → Range → LedgerView

@@ -1,16 +1,115 @@
--- Saved ledgers: what they are, and what bytes are read as. The format is this project's own. Numbers have two bytes,
--- the most significant first; counts have one byte.
-use Rattle.std.specs.Prelude.{◌≡◌, ℕ, ◌+◌, ◌-◌, ◌*◌, ◌/◌, ◌%◌, ◌↔◌, Bool, ◌&&◌, not, List, [], ◌∷◌, ◌++◌, length, slice_index, Some, None, Result, Ok, Err, IsTrue, ◌==◌, nat_le, nat_lt, nat_eq, if◌then◌else◌, zero, suc}
+-- Ledgers: ranges of numbers, givers of tickets, what contracts see, and the bytes that are saved.
+use Rattle.std.specs.Prelude.{◌+◌, ◌-◌, ℕ, Bool, true, false, ◌&&◌, ◌||◌, List, [], ◌∷◌, nat_le, Option, Some, None, ◌==◌, nat_lt, if◌then◌else◌, ◌≡◌, ◌*◌, ◌/◌, ◌%◌, ◌↔◌, not, ◌++◌, length, slice_index, Result, Ok, Err, IsTrue, nat_eq, zero, suc}
+use Rattle.std.specs.Option.{option_map_or}
 use Rattle.std.specs.List.{flat_map, starts_with}
 use Rattle.std.specs.Cmp.Lexicographic.{pointwise}
 use Rattle.dm_print_ledger.specs.declared.range.Range.{Range}
+use Rattle.dm_print_ledger.specs.declared.limits.TheConstants.{GREATEST, MOST_RANGES, MOST_GIVERS, TICKET_BYTES}
 use Rattle.dm_print_ledger.specs.declared.giver.Giver.{Giver}
 use Rattle.dm_print_ledger.specs.declared.fault.OpenFault.{OpenFault}
 use Rattle.dm_print_ledger.specs.declared.fault.OpenFault.TheVariants.{NotALedger, Version, Damaged}
-use Rattle.dm_print_ledger.specs.declared.limits.TheConstants.{GREATEST, MOST_RANGES, MOST_GIVERS}
-use Rattle.dm_print_ledger.specs.Givers.{are_givers}
-use Rattle.dm_print_ledger.specs.Ranges.{are_ranges, free_count}
-use Rattle.dm_print_ledger.specs.Views.{LedgerView, ShownView}
+use Rattle.dm_store.specs.Saved.{Saved}
+use Rattle.dm_finder_frame.specs.Frame.{GridView}
+
+-- there are numbers in it, each of an identification
+abbrev pub is_range : Range → Bool
+is_range range = nat_le range.first range.last && nat_le range.last GREATEST
+
+-- the ranges rise, from a number on, and no two touch
+abbrev pub rise_from : ℕ → List Range → Bool
+rise_from from [] = true
+rise_from from (range ∷ ranges) = nat_le from range.first && is_range range && rise_from (range.last + 2) ranges
+
+abbrev pub are_ranges : List Range → Bool
+are_ranges ranges = rise_from 0 ranges
+
+-- how many numbers a range has, and how many are free
+abbrev pub size_of : Range → ℕ
+size_of range = range.last + 1 - range.first
+
+abbrev pub free_count : List Range → ℕ
+free_count [] = 0
+free_count (range ∷ ranges) = size_of range + free_count ranges
+
+-- ---- their numbers
+
+-- the number is in the range
+abbrev pub is_in : Range → ℕ → Bool
+is_in range number = nat_le range.first number && nat_le number range.last
+
+-- the number is in one of the ranges
+abbrev pub is_free : List Range → ℕ → Bool
+is_free [] number = false
+is_free (range ∷ ranges) number = is_in range number || is_free ranges number
+
+-- ---- The printers from which tickets were taken, each with the serial of the last.
+
+-- the serial of the last ticket taken from a printer
+abbrev pub last_taken : List Giver → ℕ → Option ℕ
+last_taken [] number = None
+last_taken (giver ∷ givers) number = if giver.number == number then Some giver.serial else last_taken givers number
+
+-- a ticket of this serial is not after the last taken from a printer
+abbrev pub is_old : List Giver → ℕ → ℕ → Bool
+is_old givers number serial = option_map_or (nat_le serial) (last_taken givers number) false
+
+-- the givers after a ticket is taken, of which its giver and its serial are given
+abbrev pub givers_with : List Giver → Giver → List Giver
+givers_with [] last = last ∷ []
+givers_with (giver ∷ givers) last =
+    if nat_lt giver.number last.number then giver ∷ givers_with givers last else
+    if giver.number == last.number then last ∷ givers else
+    last ∷ giver ∷ givers
+
+-- they rise by their numbers, from a number on
+abbrev pub givers_from : ℕ → List Giver → Bool
+givers_from from [] = true
+givers_from from (giver ∷ givers) = nat_le from giver.number && givers_from (giver.number + 1) givers
+
+abbrev pub are_givers : List Giver → Bool
+are_givers givers = givers_from 0 givers
+
+-- ---- What contracts see of a ledger, of a ticket, of a printer and of a job.
+
+-- a printer's number, the serial of its next ticket, its free numbers, and the printers from which it took tickets
+pub record LedgerView : Type 0 where
+  pub number : ℕ
+  pub next_serial : ℕ
+  pub free : List Range
+  pub givers : List Giver
+
+-- what a saved ledger says: one of version 1 has no number
+pub record ShownView : Type 0 where
+  pub number : Option ℕ
+  pub next_serial : ℕ
+  pub free : List Range
+  pub givers : List Giver
+
+-- the numbers of a range on their way from one printer to another
+pub record TicketView : Type 0 where
+  pub giver : ℕ
+  pub serial : ℕ
+  pub receiver : ℕ
+  pub range : Range
+
+-- its store, its ledger as last known to be saved, and whether a save failed, after which it does nothing more
+pub record PrinterView : Type 0 where
+  pub saved : Saved
+  pub ledger : LedgerView
+  pub is_failed : Bool
+
+-- a printer over this store, of which no save failed
+abbrev pub running : Saved → LedgerView → PrinterView
+running saved ledger = record { saved = saved; ledger = ledger; is_failed = false }
+
+-- its identification, how many labels it had, and those that were not taken yet, in order
+pub record JobView : Type 0 where
+  pub id : ℕ
+  pub count : ℕ
+  pub labels : List GridView
+
+-- ---- Saved ledgers: what they are, and what bytes are read as. The format is this project's own. Numbers have two
+-- bytes, the most significant first; counts have one byte.
 
 abbrev pub two_bytes : ℕ → List ℕ
 two_bytes n = n / 256 ∷ n % 256 ∷ []
@@ -145,3 +244,21 @@ pub data Spells (bytes : List ℕ) : ShownView → Type 0 where
 -- bytes are read exactly where they are those of a sound ledger
 abbrev pub ReadsWhatIsSpelled : Type 0
 ReadsWhatIsSpelled = (bytes : List ℕ) (shown : ShownView) → (read_ledger bytes ≡ Ok shown) ↔ Spells bytes shown
+
+-- ---- The ten bytes of a ticket.
+
+-- giver, serial, receiver, first and last number, in two bytes each
+unfoldable pub ticket_bytes : TicketView → List ℕ
+ticket_bytes ticket =
+    ticket.giver / 256 ∷ ticket.giver % 256 ∷ ticket.serial / 256 ∷ ticket.serial % 256 ∷
+    ticket.receiver / 256 ∷ ticket.receiver % 256 ∷
+    ticket.range.first / 256 ∷ ticket.range.first % 256 ∷ ticket.range.last / 256 ∷ ticket.range.last % 256 ∷ []
+
+-- the range that the last four of ten bytes spell
+abbrev pub range_in : List ℕ → Range
+range_in bytes = record { first = number_in bytes 6; last = number_in bytes 8 }
+
+-- ten bytes, of which the last four spell a range of identifications
+pub record AreOfTicket (bytes : List ℕ) : Type 0 where
+  pub ten : length bytes ≡ TICKET_BYTES
+  pub in_range : IsTrue (is_range (range_in bytes))

@@ -1,13 +1,3 @@
-pub mod Carrying
-pub mod Changes
 pub mod Creating
-pub mod FaultNames
-pub mod FreeNumbers
-pub mod Givers
 pub mod Ledger
-pub mod Opening
-pub mod Printing
-pub mod Ranges
-pub mod Tickets
 pub mod Verdicts
-pub mod Views

@@ -1,19 +1,198 @@
--- What a print, a range given and a ticket taken make of a ledger, or its first refusal; and calls that carry it out.
-use Rattle.std.specs.Prelude.{◌≡◌, ℕ, ◌+◌, ◌||◌, not, length, Result, Ok, Err, IfOk, ◌==◌, nat_lt, if◌then◌else◌, Bool}
+-- What a print, a give and a take come to: lists of ranges, verdicts, and how a printer carries them out.
+use Rattle.std.specs.Prelude.{◌≡◌, ◌+◌, ◌≤◌, ◌↔◌, ℕ, ◌&&◌, ◌||◌, not, true, false, IsTrue, List, ◌∷◌, Some, ◌==◌, if◌then◌else◌, length, Result, Ok, Err, IfOk, nat_lt, Bool, ◌-◌, [], ◌++◌, nat_le, min, max, ◌⊎◌, Option, None, unwrap_or, IsSomeAnd, is_some, codes}
+use Rattle.std.specs.List.{list_any}
 use Rattle.dm_print_ledger.specs.declared.range.Range.{Range}
 use Rattle.dm_print_ledger.specs.declared.giver.Giver.{Giver}
+use Rattle.dm_print_ledger.specs.Ledger.{are_givers, givers_with, last_taken, is_old, are_ranges, is_range, is_in, is_free, free_count, size_of, LedgerView, PrinterView, TicketView, ShownView, running, JobView, read_ledger, ledger_bytes, is_sound}
 use Rattle.dm_print_ledger.specs.declared.limits.TheConstants.{MOST_RANGES, MOST_GIVERS}
 use Rattle.dm_print_ledger.specs.declared.fault.PrintFault.{PrintFault}
-use Rattle.dm_print_ledger.specs.declared.fault.PrintFault.TheVariants as printing
 use Rattle.dm_print_ledger.specs.declared.fault.GiveFault.{GiveFault}
-use Rattle.dm_print_ledger.specs.declared.fault.GiveFault.TheVariants as giving
 use Rattle.dm_print_ledger.specs.declared.fault.TakeFault.{TakeFault}
+use Rattle.dm_store.specs.Saved.{Saved, LoadsOpen, Replaces}
+use Rattle.dm_print_ledger.specs.declared.fault.OpenFault.{OpenFault}
+use Rattle.dm_print_ledger.specs.declared.fault.OpenFault.TheVariants.{Absent, Number, Device, Memory}
+use Rattle.dm_check_blocks.specs.declared.size.Size.{Size}
+use Rattle.dm_encodation.specs.declared.scheme.Scheme.{Scheme}
+use Rattle.dm_finder_frame.specs.Frame.{GridView}
+use Rattle.dm_append_label.specs.Labels.{Seals, PageView, AreEnds, HasNoEnds, parts_from}
+use Rattle.dm_print_ledger.specs.declared.fault.CreateFault.{CreateFault}
+use Rattle.dm_print_ledger.specs.declared.fault.PrintFault.TheVariants as printing
+use Rattle.dm_print_ledger.specs.declared.fault.GiveFault.TheVariants as giving
 use Rattle.dm_print_ledger.specs.declared.fault.TakeFault.TheVariants as taking
-use Rattle.dm_print_ledger.specs.Carrying.{Carries}
-use Rattle.dm_print_ledger.specs.Changes.{are_free, has_free, least, single, without, union_of}
-use Rattle.dm_print_ledger.specs.Givers.{is_old, givers_with}
-use Rattle.dm_print_ledger.specs.Ranges.{is_range}
-use Rattle.dm_print_ledger.specs.Views.{LedgerView, PrinterView, TicketView}
+use Rattle.dm_append_label.specs.Labels as label
+use Rattle.dm_store.specs.declared.store.ReplaceFault.TheVariants as replacing
+use Rattle.dm_print_ledger.specs.declared.fault.CreateFault.TheVariants as creating
+use Rattle.dm_print_ledger.specs.declared.fault.OpenFault.TheVariants as opening
+
+-- one range has all numbers of the other
+abbrev pub covers : Range → Range → Bool
+covers one range = nat_le one.first range.first && nat_le range.last one.last
+
+-- two ranges have a number in common
+abbrev pub meets : Range → Range → Bool
+meets one range = nat_le one.first range.last && nat_le range.first one.last
+
+-- one of the ranges has all numbers of another
+abbrev pub are_free : List Range → Range → Bool
+are_free ranges range = list_any (λ one. covers one range) ranges
+
+-- one of the ranges has a number of another
+abbrev pub has_free : List Range → Range → Bool
+has_free ranges range = list_any (λ one. meets one range) ranges
+
+-- the least number of the ranges, if there are some
+abbrev pub least : List Range → ℕ
+least [] = 0
+least (one ∷ ranges) = one.first
+
+-- the number alone
+abbrev pub single : ℕ → Range
+single n = record { first = n; last = n }
+
+-- the numbers from one on and below another, if there are some
+abbrev pub span : ℕ → ℕ → List Range
+span from to = if nat_lt from to then record { first = from; last = to - 1 } ∷ [] else []
+
+-- what one range has below another, and above it
+abbrev pub parts : Range → Range → List Range
+parts one range =
+    span one.first (min (one.last + 1) range.first) ++ span (max one.first (range.last + 1)) (one.last + 1)
+
+-- the ranges without the numbers of one
+abbrev pub without : List Range → Range → List Range
+without [] range = []
+without (one ∷ ranges) range = parts one range ++ without ranges range
+
+-- one range of two that touch or meet
+abbrev pub hull : Range → Range → Range
+hull one range = record { first = min one.first range.first; last = max one.last range.last }
+
+-- the ranges and one more, joined where they touch
+abbrev pub union_of : List Range → Range → List Range
+union_of [] range = range ∷ []
+union_of (one ∷ ranges) range =
+    if nat_lt (one.last + 1) range.first then one ∷ union_of ranges range else
+    if nat_lt (range.last + 1) one.first then range ∷ one ∷ ranges else
+    union_of ranges (hull one range)
+
+-- ---- What tests and changes of lists of ranges and of givers mean for each number and each giver.
+
+-- all numbers of the range are free
+abbrev pub AreFree : List Range → Range → Type 0
+AreFree ranges range = (number : ℕ) → is_in range number ≡ true → is_free ranges number ≡ true
+
+-- no number of the range is free
+abbrev pub AreTaken : List Range → Range → Type 0
+AreTaken ranges range = (number : ℕ) → is_in range number ≡ true → is_free ranges number ≡ false
+
+-- the least number that is free
+pub record IsLeastFree (ranges : List Range) (number : ℕ) : Type 0 where
+  pub free : is_free ranges number ≡ true
+  pub least : (other : ℕ) → is_free ranges other ≡ true → number ≤ other
+
+-- the numbers of the range, which were free, are free no longer
+pub record TakesOut (old : List Range) (range : Range) (new : List Range) : Type 0 where
+  pub ranges : IsTrue (are_ranges new)
+  pub free : (number : ℕ) → is_free new number ≡ (is_free old number && not (is_in range number))
+  pub count : free_count new + size_of range ≡ free_count old
+
+-- the numbers of the range, which were not free, are free too
+pub record PutsIn (old : List Range) (range : Range) (new : List Range) : Type 0 where
+  pub ranges : IsTrue (are_ranges new)
+  pub free : (number : ℕ) → is_free new number ≡ (is_in range number || is_free old number)
+  pub count : free_count new ≡ free_count old + size_of range
+
+-- a range beside the ranges: what its tests and changes are
+pub record AreNumbers (ranges : List Range) (range : Range) : Type 0 where
+  pub all : (are_free ranges range ≡ true) ↔ AreFree ranges range
+  pub none : (has_free ranges range ≡ false) ↔ AreTaken ranges range
+  pub taken_out : are_free ranges range ≡ true → TakesOut ranges range (without ranges range)
+  pub put_in : has_free ranges range ≡ false → PutsIn ranges range (union_of ranges range)
+
+-- so it is of all ranges that rise and do not touch
+abbrev pub RangesAreNumbers : Type 0
+RangesAreNumbers = (ranges : List Range) (range : Range) → IsTrue (are_ranges ranges)
+    → IsTrue (is_range range) → AreNumbers ranges range
+
+-- where there are ranges, the first number is the least
+abbrev pub FirstIsLeast : Type 0
+FirstIsLeast = (one : Range) (ranges : List Range) → IsTrue (are_ranges (one ∷ ranges))
+    → IsLeastFree (one ∷ ranges) (least (one ∷ ranges))
+
+-- a ticket of this serial was the last from this printer, and all else is as before
+pub record Notes (old : List Giver) (number serial : ℕ) (new : List Giver) : Type 0 where
+  pub givers : IsTrue (are_givers new)
+  pub last : (other : ℕ) → last_taken new other ≡ (if number == other then Some serial else last_taken old other)
+
+-- givers are noted, each with its last serial
+abbrev pub GiversAreNoted : Type 0
+GiversAreNoted = (givers : List Giver) (last : Giver) → IsTrue (are_givers givers)
+    → Notes givers last.number last.serial (givers_with givers last)
+
+-- ---- What a store gives to who loads a ledger from it, and to a printer that is opened on it.
+
+-- what is read from what a store holds
+abbrev pub show_verdict : Option (List ℕ) → Result ShownView OpenFault
+show_verdict None = Err Absent
+show_verdict (Some bytes) = read_ledger bytes
+
+-- the ledger with which the printer of a number goes on
+abbrev pub numbered : ℕ → Result ShownView OpenFault → Result LedgerView OpenFault
+numbered number (Err fault) = Err fault
+numbered number (Ok shown) = if unwrap_or shown.number number == number
+    then Ok (record { number = number; next_serial = shown.next_serial; free = shown.free; givers = shown.givers })
+    else Err Number
+
+abbrev pub open_verdict : Option (List ℕ) → ℕ → Result LedgerView OpenFault
+open_verdict content number = numbered number (show_verdict content)
+
+-- the store, if it is honest, holds this ledger
+abbrev pub HoldsLedger : Saved → LedgerView → Type 0
+HoldsLedger saved ledger = IsTrue saved.is_honest → open_verdict saved.content ledger.number ≡ Ok ledger
+
+-- A call that loads answers the verdict on what an honest store holds, unless the load failed. A load meets a device
+-- fault only under an open plan.
+pub record LoadsLedger {X : Type 0} (saved : Saved) (verdict result : Result X OpenFault) : Type 0 where
+  pub answer : IsTrue saved.is_honest → (result ≡ verdict) ⊎ ((result ≡ Err Device) ⊎ (result ≡ Err Memory))
+  pub device : result ≡ Err Device → saved.load_plan ≡ LoadsOpen
+
+-- a printer of this number that runs over the store, or why there is none
+abbrev pub Opens : Saved → ℕ → Result PrinterView OpenFault → Type 0
+Opens saved number (Err fault) = LoadsLedger saved (open_verdict saved.content number) (Err fault)
+Opens saved number (Ok printer) =
+    LoadsLedger saved (open_verdict saved.content number) (Ok printer.ledger)
+    × (printer ≡ running saved printer.ledger) × (printer.ledger.number ≡ number)
+
+-- ---- How a printer carries a verdict out: print, give and take alike.
+
+-- a printer's ledger is sound, and unless a save failed its store holds it
+pub record IsInOrder (printer : PrinterView) : Type 0 where
+  pub sound : IsTrue (is_sound printer.ledger)
+  pub held : printer.is_failed ≡ false → HoldsLedger printer.saved printer.ledger
+
+-- The next ledger was saved, and is gone on with. Or the save was refused its memory, and nothing changed. Or it met a
+-- device fault: the ledger stays, and nothing is saved any more.
+abbrev pub Saves : {X F : Type 0} → F → F → LedgerView → PrinterView → Result X F → PrinterView → Type 0
+Saves memory save next old (Ok _) new =
+    Replaces old.saved (ledger_bytes next) (Ok tt) new.saved
+    × (new ≡ record old { saved = new.saved; ledger = next })
+Saves memory save next old (Err fault) new =
+    ((fault ≡ memory) × (new ≡ old))
+    ⊎ ((fault ≡ save) × Replaces old.saved (ledger_bytes next) (Err replacing.Device) new.saved
+    × (new ≡ record old { saved = new.saved; is_failed = true }))
+
+-- A printer that failed before answers so, and does nothing. One that runs answers a refusal and does nothing, or saves
+-- the ledger of the verdict, which is sound. The first three are the faults that each call has.
+pub record Carries {X F : Type 0} (failed_before memory save : F) (verdict : Result LedgerView F)
+    (old : PrinterView) (result : Result X F) (new : PrinterView) : Type 0 where
+  pub in_order : IsInOrder old
+  pub failed : old.is_failed ≡ true → (result ≡ Err failed_before) × (new ≡ old)
+  pub refused : old.is_failed ≡ false → (fault : F) → verdict ≡ Err fault → (result ≡ Err fault) × (new ≡ old)
+  pub saves : old.is_failed ≡ false → (next : LedgerView) → verdict ≡ Ok next
+      → IsTrue (is_sound next) × Saves memory save next old result new
+
+-- ---- What a print, a range given and a ticket taken make of a ledger, or its first refusal; and calls that carry it
+-- out.
 
 -- ---- a print of a document that has parts, or has none
 
@@ -67,3 +246,100 @@ take_verdict old ticket =
 abbrev pub Takes : PrinterView → TicketView → Result (Unit {0}) TakeFault → PrinterView → Type 0
 Takes old ticket result new =
     Carries taking.Failed taking.Memory taking.Save (take_verdict old.ledger ticket) old result new
+
+-- ---- What a printer does with a document, and to its store.
+
+-- ---- jobs
+
+-- the grid is the label of a page, of this size and in this encodation
+pub record IsLabelOf (size : Size) (scheme : Scheme) (page : PageView) (grid : GridView) : Type 0 where
+  pub size_is : grid.size ≡ size
+  pub sealed : Seals size scheme page grid
+  pub carries : label.Carries page grid
+
+-- the grids are, in order, the labels of these parts: of pages m, m + 1 and so on of n
+abbrev pub AreLabels : Size → Scheme → ℕ → ℕ → ℕ → List (List ℕ) → List GridView → Type 0
+AreLabels size scheme id n m [] [] = Unit {0}
+AreLabels size scheme id n m (part ∷ parts) (grid ∷ grids) =
+    IsLabelOf size scheme (record { id = id; m = m; n = n; bytes = part }) grid
+    × AreLabels size scheme id n (m + 1) parts grids
+AreLabels size scheme id n m [] (grid ∷ grids) = ⊥
+AreLabels size scheme id n m (part ∷ parts) [] = ⊥
+
+-- a job of which no label was taken yet, with the label of each part, under this identification
+pub record IsJobOf (size : Size) (scheme : Scheme) (id : ℕ) (parts : List (List ℕ)) (job : JobView) : Type 0 where
+  pub id_is : job.id ≡ id
+  pub count_is : job.count ≡ length parts
+  pub least : 2 ≤ length parts
+  pub most : length parts ≤ 16
+  pub labels : AreLabels size scheme id (length parts) 1 parts job.labels
+
+-- ---- print
+
+-- the parts of a document end there, or it has none
+abbrev pub IsCutting : Size → Scheme → List ℕ → Option (List ℕ) → Type 0
+IsCutting size scheme document None = HasNoEnds size scheme document
+IsCutting size scheme document (Some ends) = AreEnds size scheme document ends
+
+-- it has as many labels as its parts have ends
+abbrev pub HasLabels : Size → Scheme → List ℕ → ℕ → Type 0
+HasLabels size scheme document count = (ends : List ℕ) × AreEnds size scheme document ends × (count ≡ length ends)
+
+-- the job of a document whose parts end there, under the least number that is free
+abbrev pub IsMade : LedgerView → Size → Scheme → List ℕ → Option (List ℕ) → JobView → Type 0
+IsMade ledger size scheme document cutting job = IsSomeAnd cutting (λ ends.
+    IsJobOf size scheme (least ledger.free) (parts_from document 0 ends) job)
+
+-- What a printer answers to a document, and what it is then. Its job was made before the save, also if that failed.
+pub record Prints (old : PrinterView) (size : Size) (scheme : Scheme) (document : List ℕ)
+    (result : Result JobView PrintFault) (new : PrinterView) : Type 0 where
+  pub cutting : Option (List ℕ)
+  pub is_cutting : old.is_failed ≡ false → IsCutting size scheme document cutting
+  pub carries : Carries printing.Failed printing.Memory printing.Save
+      (print_verdict old.ledger (is_some cutting)) old result new
+  pub made : IfOk result (IsMade old.ledger size scheme document cutting)
+  pub lost : result ≡ Err printing.Save → (job : JobView) × IsMade old.ledger size scheme document cutting job
+
+-- ---- The names of the faults of printers, as they are printed.
+
+abbrev pub create_fault_name : CreateFault → List ℕ
+create_fault_name creating.Exists = codes "Exists"
+create_fault_name creating.Range = codes "Range"
+create_fault_name creating.Device = codes "Device"
+create_fault_name creating.Memory = codes "Memory"
+
+abbrev pub open_fault_name : OpenFault → List ℕ
+open_fault_name opening.Absent = codes "Absent"
+open_fault_name opening.NotALedger = codes "NotALedger"
+open_fault_name opening.Version = codes "Version"
+open_fault_name opening.Damaged = codes "Damaged"
+open_fault_name opening.Device = codes "Device"
+open_fault_name opening.Memory = codes "Memory"
+open_fault_name opening.Number = codes "Number"
+
+abbrev pub print_fault_name : PrintFault → List ℕ
+print_fault_name printing.Failed = codes "Failed"
+print_fault_name printing.TooLong = codes "TooLong"
+print_fault_name printing.Exhausted = codes "Exhausted"
+print_fault_name printing.Memory = codes "Memory"
+print_fault_name printing.Save = codes "Save"
+
+abbrev pub give_fault_name : GiveFault → List ℕ
+give_fault_name giving.Failed = codes "Failed"
+give_fault_name giving.Range = codes "Range"
+give_fault_name giving.Receiver = codes "Receiver"
+give_fault_name giving.NotFree = codes "NotFree"
+give_fault_name giving.Serials = codes "Serials"
+give_fault_name giving.Ranges = codes "Ranges"
+give_fault_name giving.Memory = codes "Memory"
+give_fault_name giving.Save = codes "Save"
+
+abbrev pub take_fault_name : TakeFault → List ℕ
+take_fault_name taking.Failed = codes "Failed"
+take_fault_name taking.Receiver = codes "Receiver"
+take_fault_name taking.Old = codes "Old"
+take_fault_name taking.Overlap = codes "Overlap"
+take_fault_name taking.Ranges = codes "Ranges"
+take_fault_name taking.Givers = codes "Givers"
+take_fault_name taking.Memory = codes "Memory"
+take_fault_name taking.Save = codes "Save"

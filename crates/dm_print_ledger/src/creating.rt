@@ -2,7 +2,7 @@
 
 ghost use Rattle.std.specs.Prelude.{◌≡◌, Ok, Err, IsTrue, MatchResult};
 ghost use Rattle.dm_print_ledger.specs.Creating.{SavesFirst, opening};
-ghost use Rattle.dm_print_ledger.specs.Ranges.{is_range as test_of_range};
+ghost use Rattle.dm_print_ledger.specs.Ledger.{is_range as test_of_range};
 
 use crate::fault::CreateFault;
 use crate::format::bytes_of;

@@ -2,9 +2,7 @@
 
 ghost use Rattle.std.specs.Prelude.{◌≡◌, ◌≤◌, ◌<◌, ◌+◌, ◌*◌, ◌++◌, ◌∷◌, [], None, Ok, Err, IfSome, IfNone, IsTrue, length};
 ghost use Rattle.std.specs.List.{flat_map};
-ghost use Rattle.dm_print_ledger.specs.Ranges.{are_ranges as test_of_ranges};
-ghost use Rattle.dm_print_ledger.specs.Givers.{are_givers as test_of_givers};
-ghost use Rattle.dm_print_ledger.specs.Ledger.{is_sound, ledger_bytes, first_bytes, range_bytes, giver_bytes, pairs_in, make_range, make_giver, is_first as test_of_first, read_first, read_second, shown_of, number_in, two_bytes};
+ghost use Rattle.dm_print_ledger.specs.Ledger.{are_ranges as test_of_ranges, are_givers as test_of_givers, is_sound, ledger_bytes, first_bytes, range_bytes, giver_bytes, pairs_in, make_range, make_giver, is_first as test_of_first, read_first, read_second, shown_of, number_in, two_bytes};
 ghost use Rattle.dm_print_ledger.specs.declared.fault.OpenFault.TheVariants.{Damaged};
 
 use crate::free::count;

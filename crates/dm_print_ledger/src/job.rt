@@ -1,9 +1,8 @@
 //! The labels of one print.
 
 ghost use Rattle.std.specs.Prelude.{◌≡◌, ◌∷◌, [], ◌≤◌, MatchOption, IfOk, length};
-ghost use Rattle.dm_append_label.specs.Labels.{Fits};
-ghost use Rattle.dm_append_label.specs.Parts.{PartsFit, parts_from};
-ghost use Rattle.dm_print_ledger.specs.Printing.{AreLabels, IsJobOf, IsLabelOf};
+ghost use Rattle.dm_append_label.specs.Labels.{Fits, PartsFit, parts_from};
+ghost use Rattle.dm_print_ledger.specs.Verdicts.{AreLabels, IsJobOf, IsLabelOf};
 
 use dm_append_label::{FileId, Page, SealFault, seal_with};
 use dm_check_blocks::Size;
@@ -25,7 +24,7 @@ pub struct Job<A: Allocator = Global> {
 
 impl<A: Allocator> Model for Job<A> {
     ghost use Rattle.std.specs.Prelude.{reverse};
-    ghost use Rattle.dm_print_ledger.specs.Views.{JobView};
+    ghost use Rattle.dm_print_ledger.specs.Ledger.{JobView};
 
     ghost Value = { JobView };
 

@@ -1,7 +1,7 @@
 //! Laws of printers: each function's contract is the law.
 
 ghost use Rattle.std.specs.Prelude.{◌≡◌};
-ghost use Rattle.dm_print_ledger.specs.FreeNumbers.{RangesAreNumbers, FirstIsLeast, GiversAreNoted};
+ghost use Rattle.dm_print_ledger.specs.Verdicts.{RangesAreNumbers, FirstIsLeast, GiversAreNoted};
 ghost use Rattle.dm_print_ledger.specs.Ledger.{ReadsWhatIsSpelled};
 
 use crate::limits::{GREATEST, MOST_BYTES, MOST_GIVERS, MOST_RANGES, TICKET_BYTES};

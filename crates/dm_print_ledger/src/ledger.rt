@@ -23,7 +23,7 @@ pub(crate) struct Ledger {
 impl Model for Ledger {
     ghost use Rattle.std.specs.Prelude.{IsTrue};
     ghost use Rattle.dm_print_ledger.specs.Ledger.{is_sound};
-    ghost use Rattle.dm_print_ledger.specs.Views.{LedgerView};
+    ghost use Rattle.dm_print_ledger.specs.Ledger.{LedgerView};
 
     ghost Value = { LedgerView };
 
@@ -58,8 +58,8 @@ impl Ledger {
     ghost use Rattle.std.specs.Prelude.{◌<◌, true, Ok, IfSome, IfNone, IsTrue, IfOk};
     ghost use Rattle.std.specs.List.{All};
     ghost use Rattle.dm_print_ledger.specs.Ledger.{is_sound};
-    ghost use Rattle.dm_print_ledger.specs.Changes.{least};
-    ghost use Rattle.dm_print_ledger.specs.Ranges.{free_count, is_range as test_of_range};
+    ghost use Rattle.dm_print_ledger.specs.Verdicts.{least};
+    ghost use Rattle.dm_print_ledger.specs.Ledger.{free_count, is_range as test_of_range};
     ghost use Rattle.dm_print_ledger.specs.Verdicts.{print_verdict, give_verdict, take_verdict, ticket_of};
 
     /// How many identifications are free.

@@ -9,7 +9,7 @@ use std::alloc::Allocator;
 
 impl<S: Store, A: Allocator + Copy> Printer<S, A> {
     ghost use Rattle.std.specs.Prelude.{◌≡◌, false, IsTrue};
-    ghost use Rattle.dm_print_ledger.specs.Ranges.{is_range};
+    ghost use Rattle.dm_print_ledger.specs.Ledger.{is_range};
     ghost use Rattle.dm_print_ledger.specs.Verdicts.{Gives, Takes};
 
     /// Gives the numbers of a range to another printer: they are saved as gone, and then the ticket is given.

@@ -16,7 +16,7 @@ pub struct OpenRefused<S: Store> {
 }
 
 impl<S: Store, A: Allocator + Copy> Printer<S, A> {
-    ghost use Rattle.dm_print_ledger.specs.Opening.{Opens};
+    ghost use Rattle.dm_print_ledger.specs.Verdicts.{Opens};
 
     /// The printer of a number whose ledger the store holds. A ledger of version 1 has no number and is any printer's;
     /// the next save makes it one of version 2. It takes no memory but the store's.

@@ -1,7 +1,7 @@
 //! How many labels a document has, before any is made.
 
 ghost use Rattle.std.specs.Prelude.{◌≡◌, ℕ, Some, IfSome};
-ghost use Rattle.dm_print_ledger.specs.Printing.{HasLabels};
+ghost use Rattle.dm_print_ledger.specs.Verdicts.{HasLabels};
 
 use dm_append_label::cut;
 use dm_append_label::laws::parts_of_a_document;

@@ -21,8 +21,8 @@ pub struct Printer<S: Store, A: Allocator + Copy = Global> {
 }
 
 impl<S: Store, A: Allocator + Copy> Model for Printer<S, A> {
-    ghost use Rattle.dm_print_ledger.specs.Views.{PrinterView};
-    ghost use Rattle.dm_print_ledger.specs.Carrying.{IsInOrder};
+    ghost use Rattle.dm_print_ledger.specs.Ledger.{PrinterView};
+    ghost use Rattle.dm_print_ledger.specs.Verdicts.{IsInOrder};
 
     ghost Value = { PrinterView };
 
@@ -32,8 +32,8 @@ impl<S: Store, A: Allocator + Copy> Model for Printer<S, A> {
 }
 
 impl<S: Store, A: Allocator + Copy> Printer<S, A> {
-    ghost use Rattle.dm_print_ledger.specs.Ranges.{free_count};
-    ghost use Rattle.dm_print_ledger.specs.Carrying.{IsInOrder, Saves};
+    ghost use Rattle.dm_print_ledger.specs.Ledger.{free_count};
+    ghost use Rattle.dm_print_ledger.specs.Verdicts.{IsInOrder, Saves};
 
     /// How many identifications are free, as last known to be saved: 0 to 64,516.
     pub fn left(&self) -> u32
@@ -81,7 +81,7 @@ impl<S: Store, A: Allocator + Copy> Printer<S, A> {
 }
 
 impl<A: Allocator + Copy> Printer<MemStore<A>, A> {
-    ghost use Rattle.dm_store.specs.Settings.{save_plan_of};
+    ghost use Rattle.dm_store.specs.Saved.{save_plan_of};
 
     /// Sets what the next save does, and that one alone.
     pub fn set_next(&mut self, next: NextSave)

@@ -10,7 +10,7 @@ use dm_store::Store;
 use std::alloc::Allocator;
 
 impl<S: Store, A: Allocator + Copy> Printer<S, A> {
-    ghost use Rattle.dm_print_ledger.specs.Printing.{Prints};
+    ghost use Rattle.dm_print_ledger.specs.Verdicts.{Prints};
 
     /// Prints a document under the least free identification: all its labels are made, then the identification is
     /// saved as used, and then the job is given.

@@ -5,9 +5,8 @@ use Rattle.std.specs.Ordering.{nat_cmp, eq_by_cmp}
 use Rattle.std.specs.Cmp.{nat_cmp_total}
 use Rattle.std.specs.FinMap.{get, insert, remove, get-empty, get-insert, get-remove, same_map, nat_cmp-IsAntisymmetric}
 use Rattle.std.proofs.lemmas.Bool.{cases_lt, cases_eq}
-use Rattle.dm_store.specs.Disk.{DiskState, Content}
-use Rattle.dm_store.specs.Sets.{Contents}
-use Rattle.dm_store.specs.Folder.{with_found, held_below, found_in, key_path}
+use Rattle.dm_store.specs.Disk.{DiskState, Content, with_found, held_below, found_in, key_path}
+use Rattle.dm_store.specs.Saved.{Contents}
 
 pub told_apart : (q n : ℕ) → q ≢ n → eq_by_cmp nat_cmp q n ≡ false
 told_apart q n apart = grind arith

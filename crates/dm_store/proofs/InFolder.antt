@@ -9,10 +9,8 @@ use Rattle.dm_store.specs.declared.store.ReplaceFault.{ReplaceFault}
 use Rattle.dm_store.specs.declared.store.ReplaceFault.TheVariants as replacing
 use Rattle.dm_store.specs.declared.set.RemoveFault.{RemoveFault}
 use Rattle.dm_store.specs.declared.set.RemoveFault.TheVariants as removing
-use Rattle.dm_store.specs.Sets.{ListsKeys, LoadsKey, SavesKey, RemovesKey, outcome_of_remove}
-use Rattle.dm_store.specs.Saved.{Saves}
-use Rattle.dm_store.specs.Disk.{DiskState, Content, Keeps, KeepsAll, Reads, SavesFile, RemovesFile, draft_of}
-use Rattle.dm_store.specs.Folder.{contents_in, key_path, found_in, set_in}
+use Rattle.dm_store.specs.Saved.{ListsKeys, LoadsKey, SavesKey, RemovesKey, outcome_of_remove, Saves}
+use Rattle.dm_store.specs.Disk.{DiskState, Content, Keeps, KeepsAll, Reads, SavesFile, RemovesFile, draft_of, contents_in, key_path, found_in, set_in}
 use Rattle.dm_store.proofs.Held.{held_at, found_is, held_same, held_kept, held_replaced, held_removed}
 use Rattle.dm_store.proofs.Names.{names_apart, draft_apart}
 

@@ -3,8 +3,7 @@ use Rattle.std.proofs.Common.{◌≡◌, ◌∙◌, ◌≢◌, ◌<◌, ◌+◌,
 use Rattle.std.specs.Prelude.{codes, if◌then◌else◌, nat_lt}
 use Rattle.std.specs.Fmt.{digit_glyph}
 use Rattle.std.proofs.lemmas.List.{append_cancel_left}
-use Rattle.dm_store.specs.Disk.{draft_of}
-use Rattle.dm_store.specs.Folder.{key_name, key_path}
+use Rattle.dm_store.specs.Disk.{draft_of, key_name, key_path}
 
 -- the digit that a letter shows
 abbrev digit_of : ℕ → ℕ

@@ -4,8 +4,7 @@ use Rattle.std.specs.Prelude.{◌≡◌, refl, ℕ, Bool, false, true, Option, L
 use Rattle.std.specs.Ordering.{nat_cmp}
 use Rattle.std.specs.FinMap as map
 use Rattle.std.specs.Coded.{Coded, code_by, coded×, coded_ℕ, coded_bool, coded_list, coded_option}
-use Rattle.dm_store.specs.Saved.{LoadPlan, LoadsFine, LoadsOpen, SavePlan, SavesFine, FaultOld, FaultNew, SavesOpen, Saved, SavedIn}
-use Rattle.dm_store.specs.Sets.{SavedSet}
+use Rattle.dm_store.specs.Saved.{LoadPlan, LoadsFine, LoadsOpen, SavePlan, SavesFine, FaultOld, FaultNew, SavesOpen, Saved, SavedIn, SavedSet}
 
 -- a plan as truth values, and back
 abbrev pub load_bit : LoadPlan → Bool

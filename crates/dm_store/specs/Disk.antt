@@ -1,8 +1,11 @@
 -- What contracts see of a disk: what a reader finds under each name, and what a stop of the machine may leave there.
 -- A stop may come at any moment: a call that it cuts short is a call that fails, and so is each later one.
-use Rattle.std.specs.Prelude.{◌≡◌, ◌≢◌, ◌+◌, ◌⊎◌, ◌++◌, ℕ, Bool, List, take, codes, Option, None, Some, option_map, Result, IsOk, IsErr, IfOk}
+use Rattle.std.specs.Prelude.{◌≡◌, ◌≢◌, ◌+◌, ◌⊎◌, ◌++◌, ℕ, Bool, List, take, codes, Option, None, Some, option_map, Result, IsOk, IsErr, IfOk, ◌<◌, ◌/◌, ◌%◌, ◌^◌, zero, suc, false, true, [], ◌∷◌, if◌then◌else◌, ⊤}
+use Rattle.std.specs.Fmt.{digit_glyph}
+use Rattle.std.specs.FinMap as map
 use Rattle.dm_store.specs.declared.disk.DiskFault.{DiskFault}
 use Rattle.dm_store.specs.declared.store.LoadFault.{LoadFault}
+use Rattle.dm_store.specs.Saved.{LoadsOpen, SavesOpen, Saved, Contents, SavedSet}
 
 -- the bytes of the file under a name, or None where no file is
 abbrev pub Content : Type 0
@@ -98,3 +101,80 @@ pub record RemovesFile (old : DiskState) (name : List ℕ) {F : Type 0} (answer 
 -- the name of the draft that a save under this name is written to first
 abbrev pub draft_of : List ℕ → List ℕ
 draft_of name = name ++ codes ".new"
+
+-- ---- The files of a set in a folder of a disk: the name of each key's file, and what the set holds.
+
+-- the path of a name in a folder
+abbrev pub path_in : List ℕ → List ℕ → List ℕ
+path_in folder name = folder ++ codes "/" ++ name
+
+-- the name of a key's file: the key in four lower-case hexadecimal digits
+unfoldable pub key_name : ℕ → List ℕ
+key_name key =
+    digit_glyph false (key / 256 / 16) ∷ digit_glyph false (key / 256 % 16) ∷ digit_glyph false (key % 256 / 16)
+    ∷ digit_glyph false (key % 256 % 16) ∷ []
+
+-- the path of a key's file
+abbrev pub key_path : List ℕ → ℕ → List ℕ
+key_path folder key = path_in folder (key_name key)
+
+-- The entries of a folder are brought to the disk. If the bytes of a key's file are there too, a stop then leaves just
+-- what a reader finds.
+abbrev pub SettlesFolder : DiskState → List ℕ → Result (Unit {0}) DiskFault → DiskState → Type 0
+SettlesFolder old folder answer new = IsOk answer → (key : ℕ) → key < 2 ^ 16 → old.is_synced (key_path folder key)
+    → (content : Content) → new.may_leave (key_path folder key) content → content ≡ old.seen (key_path folder key)
+
+-- the map with what is found at a key
+abbrev pub with_found : Contents → ℕ → Content → Contents
+with_found held key None = held
+with_found held key (Some bytes) = map.insert held key bytes
+
+-- what is found at the keys below n
+unfoldable pub held_below : (ℕ → Content) → ℕ → Contents
+held_below found zero = map.empty
+held_below found (suc n) = with_found (held_below found n) n (found n)
+
+-- what a reader finds under the name of a key's file; of a disk that is not honest nothing is said
+abbrev pub found_in : DiskState → List ℕ → ℕ → Content
+found_in disk folder key = if disk.is_honest then disk.seen (key_path folder key) else None
+
+-- under each key what a reader finds under the name of the key's file
+abbrev pub contents_in : DiskState → List ℕ → Contents
+contents_in disk folder = held_below (found_in disk folder) (2 ^ 16)
+
+-- A set holds what is found in its folder. It is honest if its disk is, and each of its calls may fail.
+abbrev pub set_in : DiskState → List ℕ → SavedSet
+set_in disk folder = record {
+  content = contents_in disk folder;
+  is_honest = disk.is_honest;
+  may_lack_memory = true;
+  load_plan = LoadsOpen;
+  save_plan = SavesOpen;
+}
+
+-- ---- What contracts see of a store in a file: its disk, and the name of its file; and the same of a set in a folder.
+
+pub record Filed (D : Type 0) : Type 0 where
+  pub disk : D
+  pub path : List ℕ
+
+-- A store holds what a reader finds under its name. It is honest if its disk is, and each of its calls may fail.
+abbrev pub saved_under : DiskState → List ℕ → Saved
+saved_under disk path = record {
+  content = disk.seen path;
+  is_honest = disk.is_honest;
+  may_lack_memory = true;
+  load_plan = LoadsOpen;
+  save_plan = SavesOpen;
+}
+
+-- ---- What contracts see of the files of the system: nothing is claimed of what they hold.
+
+-- a disk that is not honest, so that no law speaks of what a reader finds or a stop leaves
+abbrev pub unclaimed : DiskState
+unclaimed = record {
+  is_honest = false;
+  seen = λ name. None;
+  is_synced = λ name. ⊤;
+  may_leave = λ name content. ⊤;
+}

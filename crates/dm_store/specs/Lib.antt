@@ -1,10 +1,5 @@
 pub mod Saved
-pub mod Sets
-pub mod Settings
 pub mod Codes
 pub mod Fused
 pub mod Lending
-pub mod Unclaimed
 pub mod Disk
-pub mod Filed
-pub mod Folder

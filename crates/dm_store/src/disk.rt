@@ -93,7 +93,7 @@ pub trait Folders: Disk {
     ghost use Rattle.std.specs.Prelude.{◌+◌, IfOk, take};
     ghost use Rattle.std.specs.FinMap as map;
     ghost use Rattle.dm_store.specs.Disk.{KeepsAll};
-    ghost use Rattle.dm_store.specs.Folder.{contents_in, SettlesFolder};
+    ghost use Rattle.dm_store.specs.Disk.{contents_in, SettlesFolder};
 
     /// Makes the folder, if it isn't there, and brings its entry in the folder above it to the disk in either case.
     /// What is said of the files in it rests on that.

@@ -1,17 +1,8 @@
 //! A set of stores in a folder of a disk, with a file for each key.
 
 ghost use Rattle.std.specs.Prelude.{◌≡◌, ◌<◌, ◌≢◌, ◌^◌, ◌+◌, take, ℕ, Err, IsErr, IfOk, IsOk, IsErrOf, IsSome, IsTrue, true, false};
-ghost use Rattle.dm_store.specs.Disk.{
-  Keeps,
-  KeepsAll,
-  Reads,
-  SavesFile,
-  RemovesFile,
-  IsSettled,
-  draft_of,
-};
+ghost use Rattle.dm_store.specs.Disk.{Keeps, KeepsAll, Reads, SavesFile, RemovesFile, IsSettled, draft_of, contents_in, key_path};
 ghost use Rattle.std.specs.FinMap as map;
-ghost use Rattle.dm_store.specs.Folder.{contents_in, key_path};
 
 use crate::disk::{Disk, DiskFault, Folders};
 use crate::file_store::{load_settled, remove_file, replace_file};
@@ -114,8 +105,8 @@ fn load_key<D: Disk, A: Allocator + Copy>(
 }
 
 impl<D: Folders, A: Allocator + Copy> StoreSet for Filed<D, A> {
-    ghost use Rattle.dm_store.specs.Sets.{ListsKeys, LoadsKey, SavesKey, RemovesKey};
-    ghost use Rattle.dm_store.specs.Folder.{set_in};
+    ghost use Rattle.dm_store.specs.Saved.{ListsKeys, LoadsKey, SavesKey, RemovesKey};
+    ghost use Rattle.dm_store.specs.Disk.{set_in};
     ghost use Rattle.dm_store.specs.Saved.{MayLackMemory};
     ghost use Rattle.std.specs.Prelude.{Some, None};
     ghost use Rattle.std.specs.FinMap as map;

@@ -1,14 +1,7 @@
 //! A store in a file of a disk.
 
 ghost use Rattle.std.specs.Prelude.{◌≡◌, ◌≢◌, ℕ, List, Some, IfOk, IsErrOf, IsSome, IsTrue};
-ghost use Rattle.dm_store.specs.Disk.{
-  KeepsAll,
-  Reads,
-  SavesFile,
-  RemovesFile,
-  IsSettled,
-  draft_of,
-};
+ghost use Rattle.dm_store.specs.Disk.{KeepsAll, Reads, SavesFile, RemovesFile, IsSettled, draft_of};
 
 use crate::disk::{Disk, DiskFault};
 use crate::filed::Filed;
@@ -90,7 +83,7 @@ pub(crate) fn load_settled<D: Disk>(
 impl<D: Disk, A: Allocator + Copy> Store for Filed<D, A> {
     ghost use Rattle.dm_store.specs.Saved.{Loads, Replaces, MayLackMemory, SavesOpen, HeldAfterFault};
     ghost use Rattle.dm_store.specs.Disk.{IsSettled, Content};
-    ghost use Rattle.dm_store.specs.Filed.{saved_under};
+    ghost use Rattle.dm_store.specs.Disk.{saved_under};
 
     type Memory = D::Memory;
 

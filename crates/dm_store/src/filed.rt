@@ -39,7 +39,7 @@ pub type FileSet<D, A = Global> = Filed<D, A>;
 
 impl<D: Disk, A: Allocator + Copy> Model for Filed<D, A> {
     ghost use Rattle.std.specs.String.{string_bytes};
-    ghost use Rattle.dm_store.specs.Filed.{Filed};
+    ghost use Rattle.dm_store.specs.Disk.{Filed};
 
     ghost Value = { Filed D };
 

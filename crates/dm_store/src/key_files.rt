@@ -16,7 +16,7 @@ ghost use Rattle.std.specs.Prelude.{
 };
 ghost use Rattle.std.specs.Fmt.{digit_glyph};
 ghost use Rattle.std.specs.String.{string_bytes};
-ghost use Rattle.dm_store.specs.Folder.{key_name, key_path, path_in};
+ghost use Rattle.dm_store.specs.Disk.{key_name, key_path, path_in};
 
 use std::alloc::{AllocError, Allocator};
 

@@ -50,9 +50,9 @@ pub struct MemSet<A: Allocator + Copy = Global> {
 
 impl<A: Allocator + Copy> Model for MemSet<A> {
     ghost use Rattle.std.specs.Prelude.{true};
-    ghost use Rattle.dm_store.specs.Sets.{SavedSet};
+    ghost use Rattle.dm_store.specs.Saved.{SavedSet};
     ghost use Rattle.dm_store.specs.Codes.{saved_set_code};
-    ghost use Rattle.dm_store.specs.Settings.{load_plan_of, save_plan_of};
+    ghost use Rattle.dm_store.specs.Saved.{load_plan_of, save_plan_of};
 
     ghost Value = { SavedSet };
 
@@ -69,7 +69,7 @@ impl<A: Allocator + Copy> Model for MemSet<A> {
 
 impl<A: Allocator + Copy> MemSet<A> {
     ghost use Rattle.dm_store.specs.Saved.{LoadsFine, SavesFine};
-    ghost use Rattle.dm_store.specs.Settings.{load_plan_of, save_plan_of};
+    ghost use Rattle.dm_store.specs.Saved.{load_plan_of, save_plan_of};
 
     /// A set that holds nothing. It takes no memory.
     pub fn new(alloc: A) -> MemSet<A>
@@ -118,7 +118,7 @@ impl<A: Allocator + Copy> MemSet<A> {
 impl<A: Allocator + Copy> StoreSet for MemSet<A> {
     ghost use Rattle.dm_store.specs.Saved.{LoadsOpen};
     ghost use Rattle.std.specs.Prelude.{◌≢◌, Err};
-    ghost use Rattle.dm_store.specs.Sets.{ListsKeys, LoadsKey, RemovesKey};
+    ghost use Rattle.dm_store.specs.Saved.{ListsKeys, LoadsKey, RemovesKey};
 
     type Memory = A;
 

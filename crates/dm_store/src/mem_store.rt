@@ -32,7 +32,7 @@ impl<A: Allocator + Copy> Model for MemStore<A> {
     ghost use Rattle.std.specs.Prelude.{true, option_map};
     ghost use Rattle.dm_store.specs.Saved.{Saved};
     ghost use Rattle.dm_store.specs.Codes.{saved_code};
-    ghost use Rattle.dm_store.specs.Settings.{load_plan_of, save_plan_of};
+    ghost use Rattle.dm_store.specs.Saved.{load_plan_of, save_plan_of};
 
     ghost Value = { Saved };
 
@@ -49,7 +49,7 @@ impl<A: Allocator + Copy> Model for MemStore<A> {
 
 impl<A: Allocator + Copy> MemStore<A> {
     ghost use Rattle.dm_store.specs.Saved.{LoadsFine, SavesFine};
-    ghost use Rattle.dm_store.specs.Settings.{load_plan_of, save_plan_of};
+    ghost use Rattle.dm_store.specs.Saved.{load_plan_of, save_plan_of};
 
     /// A store that holds nothing. It takes no memory.
     pub fn new(alloc: A) -> MemStore<A>

@@ -131,7 +131,7 @@ fn done(ended: io::Result<()>) -> Result<(), DiskFault> {
 }
 
 impl<R: Files, A: Allocator + Copy> Disk for RealDisk<'_, R, A> {
-    ghost use Rattle.dm_store.specs.Unclaimed.{unclaimed};
+    ghost use Rattle.dm_store.specs.Disk.{unclaimed};
 
     type Memory = A;
 

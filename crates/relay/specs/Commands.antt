@@ -1,6 +1,6 @@
 -- What a command does, from the store and the set of the file that it names, and its streams, to the exit status, the
 -- store, the set and the streams: a line for each command. What a command does not need it leaves as it was.
-use Rattle.std.specs.Prelude.{◌≡◌, ℕ}
+use Rattle.std.specs.Prelude.{◌≡◌, ℕ, ◌++◌, ◌||◌, Bool, false, not, IsTrue, IsFalse, codes, string_bytes}
 use Rattle.std.specs.Option.{option_copied}
 use Rattle.relay_line.specs.declared.command.Command.{Command}
 use Rattle.relay_line.specs.declared.command.Command.TheVariants.{Words, Draw, Read, Plan, Ticket, Ledger, Print, Give, Take, Left, Scan, Deliver, Forget, Export, Import, Held, Copy, World}
@@ -24,6 +24,11 @@ use Rattle.relay_desk_commands.specs.Copy.{EndsCopy}
 use Rattle.relay_desk_commands.specs.Held.{EndsHeld}
 use Rattle.relay_desk_commands.specs.Scan.{EndsScan}
 use Rattle.relay_world_command.specs.World.{EndsWorld}
+use Rattle.dm_store.specs.Disk.{draft_of}
+use Rattle.relay.specs.declared.place.Access.{Access}
+use Rattle.relay.specs.declared.place.Access.TheVariants.{Makes, Saves, Reads, Moves, Looks}
+use Rattle.relay.specs.declared.place.Place.{Place}
+use Rattle.relay.specs.declared.locked.Found.{Found}
 
 -- at most this many bytes were read
 abbrev pub ReadsPart : ℕ → StreamsView → StreamsView → Type 0
@@ -76,3 +81,20 @@ Does A (Import file capacity) old status new =
 Does A (Held file id) old status new = EndsHeld (option_copied id) old status new
 Does A (Copy file id page side scheme) old status new =
     EndsCopy (record { id = id; page = page; side = side; scheme = scheme }) old status new
+
+-- ---- The files of a command: where they are, and when they are locked.
+
+-- The draft of a file is beside it, and so is the file that is locked: beside a ledger, or beside a desk's folder.
+pub record IsPlaced (place : Place) : Type 0 where
+  pub draft : string_bytes place.draft ≡ draft_of (string_bytes place.file)
+  pub of_ledger : IsFalse place.is_desk → string_bytes place.lock ≡ string_bytes place.file ++ codes ".lock"
+  pub of_desk : IsTrue place.is_desk → string_bytes place.lock ≡ string_bytes place.folder ++ codes ".lock"
+
+-- A command locks its files at its first load, by what it does to them and what it finds there: to make a desk, or a
+-- ledger where nothing is; to save to what is there; to move the documents of a joint file.
+abbrev pub locks : Access → Bool → Found → Bool
+locks Makes is_desk found = is_desk || not found.is_any
+locks Saves is_desk found = found.is_any
+locks Reads is_desk found = found.has_documents
+locks Moves is_desk found = found.has_documents
+locks Looks is_desk found = false

@@ -1,7 +1,7 @@
 //! Files that lock themselves.
 
 ghost use Rattle.std.specs.Prelude.{◌≡◌};
-ghost use Rattle.relay.specs.Files.{locks};
+ghost use Rattle.relay.specs.Commands.{locks};
 
 use crate::lock::{Lock, LockFault};
 use crate::place::{Access, Place};

@@ -1,7 +1,7 @@
 //! The files that a command names, and where they are.
 
 ghost use Rattle.std.specs.Prelude.{IfOk};
-ghost use Rattle.relay.specs.Files.{IsPlaced};
+ghost use Rattle.relay.specs.Commands.{IsPlaced};
 
 use dm_assembly_desk::MOST_CAPACITY;
 use relay_line::Command;

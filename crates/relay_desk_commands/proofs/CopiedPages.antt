@@ -1,16 +1,13 @@
 -- Copies of pages that a desk holds, and what they open as.
 use Rattle.std.proofs.Common.{◌≡◌, ℕ, List, Result, Ok, Err, refl, sym, ap, subst, ◌∙◌, arith}
-use Rattle.dm_gf256.specs.Polynomial.{differ}
+use Rattle.dm_gf256.specs.Field.{differ}
 use Rattle.dm_gf256.proofs.OneBlockWord.{differ-self}
-use Rattle.dm_check_blocks.specs.Blocks.{block_of}
-use Rattle.dm_finder_frame.specs.Frame.{FrameHasNoWrongModule, wrong_frame_modules}
-use Rattle.dm_finder_frame.specs.Grids.{GridView}
-use Rattle.dm_symbol.specs.Correction.{CorrectedView}
-use Rattle.dm_symbol.specs.Symbols.{CarriesItsWords, IsNear, words_of_grid}
+use Rattle.dm_check_blocks.specs.Sizes.{block_of}
+use Rattle.dm_finder_frame.specs.Frame.{FrameHasNoWrongModule, wrong_frame_modules, GridView}
+use Rattle.dm_symbol.specs.Correction.{CorrectedView, CarriesItsWords, IsNear, words_of_grid}
 use Rattle.dm_symbol.proofs.NearGrids.{near_gives}
-use Rattle.dm_append_label.specs.Labels.{Carries}
+use Rattle.dm_append_label.specs.Labels.{Carries, PageView}
 use Rattle.dm_append_label.specs.Opening.{LabelOpens, Opens, OpensAs, OpensNear}
-use Rattle.dm_append_label.specs.Pages.{PageView}
 use Rattle.dm_append_label.specs.declared.fault.LabelFault.{LabelFault}
 use Rattle.dm_append_label.specs.declared.fault.LabelFault.TheVariants as labels
 use Rattle.dm_append_label.specs.declared.opening.Opened.{Opened}

@@ -6,7 +6,7 @@ use Rattle.std.specs.Ordering.{nat_cmp}
 use Rattle.std.specs.FinMap.{empty, get, get-empty}
 use Rattle.dm_store.specs.Saved.{Saved}
 use Rattle.dm_assembly_desk.specs.Documents.{Documents}
-use Rattle.dm_assembly_desk.specs.JointFiles.{HasJointFileFault, HoldsJointFile, SpellsAll}
+use Rattle.dm_assembly_desk.specs.Opening.{HasJointFileFault, HoldsJointFile, SpellsAll}
 use Rattle.dm_assembly_desk.specs.declared.fault.MoveFault.{MoveFault}
 use Rattle.dm_assembly_desk.specs.declared.fault.MoveFault.TheVariants.{Device, Memory}
 use Rattle.relay_desk_commands.specs.Held.{HasJointUnsound}

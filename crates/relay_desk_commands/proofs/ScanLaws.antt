@@ -4,15 +4,14 @@ use Rattle.std.proofs.Common.{refl, ap, sym, ◌∙◌}
 use Rattle.dm_append_label.specs.declared.fault.LabelFault.{LabelFault}
 use Rattle.dm_append_label.specs.declared.fault.LabelFault.TheVariants as labels
 use Rattle.dm_append_label.specs.declared.opening.Opened.{Opened}
-use Rattle.dm_append_label.specs.Pages.{PageView}
+use Rattle.dm_append_label.specs.Labels.{PageView}
 use Rattle.dm_pbm_io.specs.FaultNames.{shape_fault_name}
-use Rattle.dm_pbm_io.specs.Image.{Picture}
-use Rattle.dm_pbm_io.specs.SymbolImage.{HasShape}
+use Rattle.dm_pbm_io.specs.Image.{Picture, HasShape}
 use Rattle.dm_pbm_io.specs.declared.fault.ShapeFault.{ShapeFault}
 use Rattle.dm_pbm_io.specs.declared.fault.ShapeFault.TheVariants.{Shape, Memory}
-use Rattle.dm_assembly_desk.specs.Accepting.{lone, scan_of, Accepts, Scans}
-use Rattle.dm_assembly_desk.specs.FaultOrigin.{scan_fault}
-use Rattle.dm_assembly_desk.specs.Views.{DeskView}
+use Rattle.dm_assembly_desk.specs.Adding.{lone, scan_of, Accepts, Scans}
+use Rattle.dm_assembly_desk.specs.Faults.{scan_fault}
+use Rattle.dm_assembly_desk.specs.Documents.{DeskView}
 use Rattle.dm_assembly_desk.specs.declared.adding.AddFault.{AddFault}
 use Rattle.dm_assembly_desk.specs.declared.adding.AddFault.TheVariants as adds
 use Rattle.dm_assembly_desk.specs.declared.fault.ScanFault.{ScanFault}

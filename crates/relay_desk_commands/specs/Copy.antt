@@ -2,15 +2,13 @@
 use Rattle.std.specs.Prelude.{◌≡◌, ℕ, List, Some, None, IsSome, IsSomeAnd, IfOk, Result, Ok, Err, codes}
 use Rattle.std.specs.FinMap as map
 use Rattle.dm_check_blocks.specs.Sizes.{IsSide, side}
-use Rattle.dm_finder_frame.specs.Grids.{GridView}
-use Rattle.dm_append_label.specs.Labels.{Carries, Fits, IsTooLong, Seals}
-use Rattle.dm_append_label.specs.Pages.{PageView}
+use Rattle.dm_finder_frame.specs.Frame.{GridView}
+use Rattle.dm_append_label.specs.Labels.{Carries, Fits, IsTooLong, Seals, PageView}
 use Rattle.dm_append_label.specs.declared.fault.LabelFault.{LabelFault}
 use Rattle.dm_append_label.specs.declared.fault.LabelFault.TheVariants as labels
 use Rattle.dm_append_label.specs.declared.opening.Opened.{Opened}
-use Rattle.dm_pbm_io.specs.SymbolImage.{p4}
-use Rattle.dm_assembly_desk.specs.Documents.{Documents, count_at, page_at}
-use Rattle.dm_assembly_desk.specs.Views.{DeskView}
+use Rattle.dm_pbm_io.specs.Image.{p4}
+use Rattle.dm_assembly_desk.specs.Documents.{Documents, count_at, page_at, DeskView}
 use Rattle.dm_assembly_desk.specs.declared.limits.TheConstants.{MOST_CAPACITY}
 use Rattle.relay_shared.specs.Refusals.{refusal_name}
 use Rattle.relay_shared.specs.declared.refusal.Refusal.TheVariants as refusals

@@ -3,18 +3,12 @@ use Rattle.std.specs.Prelude.{◌≡◌, ◌⊎◌, ℕ, List, [], ◌∷◌, Op
 use Rattle.std.specs.FinMap as map
 use Rattle.std.specs.Io.KnownBytes.{Appends}
 use Rattle.hex.specs.Hex.{decode_sized}
-use Rattle.dm_store.specs.Saved.{Saved}
-use Rattle.dm_store.specs.Sets.{SavedSet}
-use Rattle.dm_append_label.specs.Pages.{IsIdWord, id_words}
-use Rattle.dm_assembly_desk.specs.Asking.{Asks, Exports}
-use Rattle.dm_assembly_desk.specs.FaultNames.{ask_fault_name, desk_fault_name, export_fault_name}
-use Rattle.dm_assembly_desk.specs.FaultNames.{forget_fault_name, import_fault_name, move_fault_name}
-use Rattle.dm_assembly_desk.specs.Forgetting.{Forgets}
-use Rattle.dm_assembly_desk.specs.Importing.{ImportsBytes}
-use Rattle.dm_assembly_desk.specs.Moving.{Moves}
-use Rattle.dm_assembly_desk.specs.Opening.{HasDeskFault, Opens}
-use Rattle.dm_assembly_desk.specs.Pages.{Pages}
-use Rattle.dm_assembly_desk.specs.Views.{DeskView}
+use Rattle.dm_store.specs.Saved.{Saved, SavedSet}
+use Rattle.dm_append_label.specs.Labels.{IsIdWord, id_words}
+use Rattle.dm_assembly_desk.specs.Adding.{Asks, Exports, Forgets, ImportsBytes}
+use Rattle.dm_assembly_desk.specs.Faults.{ask_fault_name, desk_fault_name, export_fault_name, forget_fault_name, import_fault_name, move_fault_name}
+use Rattle.dm_assembly_desk.specs.Opening.{Moves, HasDeskFault, Opens}
+use Rattle.dm_assembly_desk.specs.Documents.{Pages, DeskView}
 use Rattle.dm_assembly_desk.specs.declared.limits.TheConstants.{MOST_CAPACITY}
 use Rattle.dm_assembly_desk.specs.declared.fault.AskFault.{AskFault}
 use Rattle.dm_assembly_desk.specs.declared.fault.DeskFault.{DeskFault}
@@ -23,8 +17,7 @@ use Rattle.dm_assembly_desk.specs.declared.fault.ForgetFault.{ForgetFault}
 use Rattle.dm_assembly_desk.specs.declared.fault.ImportFault.{ImportFault}
 use Rattle.dm_assembly_desk.specs.declared.fault.MoveFault.{MoveFault}
 use Rattle.dm_assembly_desk.specs.declared.reply.Imported.{Imported}
-use Rattle.relay_streams.specs.FaultNames.{input_fault_name, write_fault_name}
-use Rattle.relay_streams.specs.Streams.{AppendsPart, InputView, ReadsFirst}
+use Rattle.relay_streams.specs.Streams.{input_fault_name, write_fault_name, AppendsPart, InputView, ReadsFirst}
 use Rattle.relay_streams.specs.declared.fault.InputFault.{InputFault}
 use Rattle.relay_streams.specs.declared.fault.WriteFault.TheVariants.{Write}
 use Rattle.relay_desk_commands.specs.declared.giving.Given.{Given}

@@ -2,22 +2,17 @@
 use Rattle.std.specs.Prelude.{◌≡◌, ◌≤◌, ◌⊎◌, ◌||◌, ◌++◌, ◌+◌, ℕ, Bool, true, List, [], if◌then◌else◌}
 use Rattle.std.specs.Prelude.{Option, Some, None, Result, Ok, Err, is_err, IsTrue, IsSomeAnd}
 use Rattle.std.specs.FinMap as map
-use Rattle.dm_store.specs.Saved.{Saved, LoadsOpen}
-use Rattle.dm_store.specs.Sets.{SavedSet}
-use Rattle.dm_assembly_desk.specs.Documents.{Documents}
-use Rattle.dm_assembly_desk.specs.FaultNames.{ask_fault_name, desk_fault_name, move_fault_name}
-use Rattle.dm_assembly_desk.specs.JointFiles.{HasJointFileFault, HoldsJointFile}
-use Rattle.dm_assembly_desk.specs.Looking.{SeesKey}
-use Rattle.dm_assembly_desk.specs.Pages.{Pages}
-use Rattle.dm_assembly_desk.specs.Summaries.{summary}
+use Rattle.dm_store.specs.Saved.{Saved, LoadsOpen, SavedSet}
+use Rattle.dm_assembly_desk.specs.Documents.{Documents, Pages, summary}
+use Rattle.dm_assembly_desk.specs.Faults.{ask_fault_name, desk_fault_name, move_fault_name}
+use Rattle.dm_assembly_desk.specs.Opening.{HasJointFileFault, HoldsJointFile, SeesKey}
 use Rattle.dm_assembly_desk.specs.declared.fault.AskFault.TheVariants as asks
 use Rattle.dm_assembly_desk.specs.declared.fault.DeskFault.{DeskFault}
 use Rattle.dm_assembly_desk.specs.declared.fault.DeskFault.TheVariants as looks
 use Rattle.dm_assembly_desk.specs.declared.fault.MoveFault.{MoveFault}
 use Rattle.dm_assembly_desk.specs.declared.fault.MoveFault.TheVariants as moves
 use Rattle.dm_assembly_desk.specs.declared.reply.Held.{Held}
-use Rattle.relay_streams.specs.Refusal.{refused_line}
-use Rattle.relay_streams.specs.Streams.{AppendsPart, OutputView}
+use Rattle.relay_streams.specs.Streams.{refused_line, AppendsPart, OutputView}
 use Rattle.relay_shared.specs.HeldLines.{held_line, unsound_joint_line, unsound_line}
 use Rattle.relay_shared.specs.Refusals.{refusal_name}
 use Rattle.relay_shared.specs.declared.refusal.Refusal.TheVariants as refusals

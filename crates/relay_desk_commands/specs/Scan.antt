@@ -1,15 +1,13 @@
 -- What `scan` does to the files of a desk, and what it prints: a line for each image, in order, up to the end of the
 -- input, a plain image, bytes that are no image, a save that failed, or the greatest number of images.
 use Rattle.std.specs.Prelude.{◌≡◌, ℕ, false, List, Ok, Err}
-use Rattle.dm_finder_frame.specs.Grids.{GridView}
+use Rattle.dm_finder_frame.specs.Frame.{GridView}
 use Rattle.dm_pbm_io.specs.FaultNames.{shape_fault_name}
-use Rattle.dm_pbm_io.specs.Image.{Picture}
-use Rattle.dm_pbm_io.specs.SymbolImage.{HasShape, IsGridInside}
+use Rattle.dm_pbm_io.specs.Image.{Picture, HasShape, IsGridInside}
 use Rattle.dm_pbm_io.specs.declared.fault.ShapeFault.TheVariants.{Shape, Memory}
-use Rattle.dm_assembly_desk.specs.Accepting.{AcceptsGrid}
-use Rattle.dm_assembly_desk.specs.Documents.{KeepsPages}
-use Rattle.dm_assembly_desk.specs.FaultNames.{scan_fault_name}
-use Rattle.dm_assembly_desk.specs.Views.{DeskView, IsInOrder}
+use Rattle.dm_assembly_desk.specs.Adding.{AcceptsGrid}
+use Rattle.dm_assembly_desk.specs.Documents.{KeepsPages, DeskView, IsInOrder}
+use Rattle.dm_assembly_desk.specs.Faults.{scan_fault_name}
 use Rattle.dm_assembly_desk.specs.declared.fault.ScanFault.{ScanFault}
 use Rattle.dm_assembly_desk.specs.declared.reply.Accepted.{Accepted}
 use Rattle.relay_shared.specs.DeskLines.{accepted_line}

@@ -3,11 +3,9 @@
 ghost use Rattle.std.specs.Prelude.{◌≡◌, ◌≤◌, ◌*◌, true, false, length, IfOk, MatchResult};
 ghost use Rattle.dm_append_label.specs.Labels.{Fits, IsTooLong};
 ghost use Rattle.dm_append_label.specs.declared.opening.TheConstants.{MOST_PAGE_BYTES};
-ghost use Rattle.dm_assembly_desk.specs.Pages.{lent_bytes, page};
-ghost use Rattle.dm_finder_frame.specs.Grids.{GridView};
-ghost use Rattle.dm_pbm_io.specs.Shown.{picture};
-ghost use Rattle.dm_pbm_io.specs.SymbolImage.{image_with_quiet_zone};
-ghost use Rattle.dm_pbm_io.specs.Writing.{written};
+ghost use Rattle.dm_assembly_desk.specs.Documents.{lent_bytes, page};
+ghost use Rattle.dm_finder_frame.specs.Frame.{GridView};
+ghost use Rattle.dm_pbm_io.specs.Image.{picture, image_with_quiet_zone, written};
 ghost use Rattle.relay_desk_commands.specs.Copy.{Copies, EndsCopy, HasCopyFault, copy_fault_name};
 ghost use Rattle.relay_desk_commands.specs.Desks.{TellsBytes, desk_at};
 ghost use Rattle.relay_desk_commands.specs.declared.copy.CopyFault.TheVariants as copy_faults;

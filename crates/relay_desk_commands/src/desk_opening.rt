@@ -1,7 +1,7 @@
 //! The desk that a command works with.
 
 ghost use Rattle.std.specs.Prelude.{◌≡◌, ℕ, List, MatchResult};
-ghost use Rattle.dm_assembly_desk.specs.Views.{IsInOrder};
+ghost use Rattle.dm_assembly_desk.specs.Documents.{IsInOrder};
 ghost use Rattle.relay_shared.specs.Telling.{TellsRefusal};
 ghost use Rattle.relay_desk_commands.specs.Desks.{HasNoDesk, OpensDesk};
 

@@ -1,8 +1,8 @@
 //! `relay forget`: a document let go.
 
 ghost use Rattle.std.specs.Prelude.{◌≡◌, false, Result};
-ghost use Rattle.dm_assembly_desk.specs.FaultNames.{forget_fault_name};
-ghost use Rattle.dm_assembly_desk.specs.Forgetting.{Forgets};
+ghost use Rattle.dm_assembly_desk.specs.Faults.{forget_fault_name};
+ghost use Rattle.dm_assembly_desk.specs.Adding.{Forgets};
 ghost use Rattle.dm_assembly_desk.specs.declared.fault.ForgetFault.{ForgetFault};
 ghost use Rattle.relay_shared.specs.DeskLines.{forgotten_line};
 ghost use Rattle.relay_shared.specs.Telling.{TellsAnswer};

@@ -5,7 +5,7 @@ ghost use Rattle.std.specs.FinMap as map;
 ghost use Rattle.std.specs.Option.{option_copied};
 ghost use Rattle.dm_store.specs.Saved.{Loads, Saved};
 ghost use Rattle.dm_assembly_desk.specs.Documents.{Documents};
-ghost use Rattle.dm_assembly_desk.specs.Looking.{IsFirstFrom};
+ghost use Rattle.dm_assembly_desk.specs.Opening.{IsFirstFrom};
 ghost use Rattle.dm_assembly_desk.specs.declared.fault.MoveFault.{MoveFault};
 ghost use Rattle.relay_shared.specs.Telling.{Puts};
 ghost use Rattle.relay_desk_commands.specs.Desks.{desk_at};

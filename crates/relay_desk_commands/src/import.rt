@@ -1,8 +1,8 @@
 //! `relay import`: pages from another desk.
 
 ghost use Rattle.std.specs.Prelude.{◌≡◌, false, Result};
-ghost use Rattle.dm_assembly_desk.specs.FaultNames.{import_fault_name};
-ghost use Rattle.dm_assembly_desk.specs.Importing.{ImportsBytes};
+ghost use Rattle.dm_assembly_desk.specs.Faults.{import_fault_name};
+ghost use Rattle.dm_assembly_desk.specs.Adding.{ImportsBytes};
 ghost use Rattle.dm_assembly_desk.specs.declared.fault.ImportFault.{ImportFault};
 ghost use Rattle.dm_assembly_desk.specs.declared.reply.Imported.{Imported};
 ghost use Rattle.relay_streams.specs.Streams.{TakesPart};

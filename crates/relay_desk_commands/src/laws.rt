@@ -1,8 +1,8 @@
 //! Laws of what stands here: the function's contract is the law.
 
 ghost use Rattle.std.specs.Prelude.{◌≡◌};
-ghost use Rattle.dm_finder_frame.specs.Grids.{GridView};
-ghost use Rattle.dm_symbol.specs.Symbols.{IsNear};
+ghost use Rattle.dm_finder_frame.specs.Frame.{GridView};
+ghost use Rattle.dm_symbol.specs.Correction.{IsNear};
 ghost use Rattle.dm_assembly_desk.specs.Documents.{Documents};
 ghost use Rattle.relay_desk_commands.specs.Copy.{Copies, OpensAsHeld, OpensAsNoOther};
 ghost use Rattle.relay_desk_commands.specs.declared.copy.AskedPage.{AskedPage};

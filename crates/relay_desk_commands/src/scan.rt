@@ -1,8 +1,7 @@
 //! `relay scan`: labels gathered at a desk.
 
 ghost use Rattle.std.specs.Prelude.{◌≡◌, false};
-ghost use Rattle.dm_assembly_desk.specs.Documents.{KeepsPages};
-ghost use Rattle.dm_assembly_desk.specs.Views.{IsInOrder};
+ghost use Rattle.dm_assembly_desk.specs.Documents.{KeepsPages, IsInOrder};
 ghost use Rattle.relay_desk_commands.specs.Desks.{desk_at};
 ghost use Rattle.relay_desk_commands.specs.Scan.{EndsScan, scan_images};
 

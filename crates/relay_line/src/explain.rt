@@ -1,7 +1,7 @@
 //! What a refusal means.
 
 ghost use Rattle.std.specs.Prelude.{◌≡◌, option_map};
-ghost use Rattle.relay_line.specs.Explaining.{explained};
+ghost use Rattle.relay_line.specs.Line.{explained};
 
 /// What docs/REFUSALS.md says of a refusal.
 #[derive(Clone, Copy)]

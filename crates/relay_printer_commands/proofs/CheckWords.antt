@@ -5,7 +5,7 @@ use Rattle.std.specs.List.{All}
 use Rattle.std.proofs.lemmas.Bool.{cases_lt}
 use Rattle.std.proofs.lemmas.List.{append-nil, take-append-drop, length-append, length-drop, take_at, drop_at, get_or_past}
 use Rattle.std.proofs.lemmas.List.Elements.{All-get_or, All-drop, recursion_from_All}
-use Rattle.dm_gf256.specs.Polynomial.{differ, IsBlockWord}
+use Rattle.dm_gf256.specs.Field.{differ, IsBlockWord}
 use Rattle.dm_gf256.proofs.OneBlockWord.{one_block_word}
 use Rattle.hex.specs.Hex.{encode_lower, IsBytes}
 use Rattle.hex.proofs.HexLemmas.{decode_sized-ok, decode_sized-encode_lower}

@@ -7,7 +7,7 @@ use Rattle.std.proofs.lemmas.List.Quantifiers.{all_pairs_push}
 use Rattle.dm_check_blocks.specs.declared.size.Size.{Size}
 use Rattle.dm_check_blocks.specs.Sizes.{side}
 use Rattle.dm_encodation.specs.declared.scheme.Scheme.{Scheme}
-use Rattle.dm_print_ledger.specs.Printing.{HasLabels}
+use Rattle.dm_print_ledger.specs.Verdicts.{HasLabels}
 use Rattle.relay_shared.specs.declared.plan_lines.PlannedSide.{PlannedSide}
 use Rattle.relay_printer_commands.specs.Plan.{IsPlan, IsPlanned}
 use Rattle.relay_printer_commands.proofs.Sizes.{greatest_side}

@@ -4,12 +4,10 @@ use Rattle.std.specs.Prelude.{◌≡◌, ℕ, List, [], Result, Ok, Err}
 use Rattle.std.proofs.Common.{inl, inr, sym, ap, subst, append-nil}
 use Rattle.std.specs.Io.KnownBytes.{Appends}
 use Rattle.std.proofs.KnownBytes.{Appends-trans}
-use Rattle.dm_finder_frame.specs.Grids.{GridView}
-use Rattle.dm_print_ledger.specs.Views.{JobView}
+use Rattle.dm_finder_frame.specs.Frame.{GridView}
+use Rattle.dm_print_ledger.specs.Ledger.{JobView}
 use Rattle.dm_print_ledger.specs.declared.fault.PrintFault.{PrintFault}
-use Rattle.relay_streams.specs.FaultNames.{write_fault_name}
-use Rattle.relay_streams.specs.Refusal.{refused_line}
-use Rattle.relay_streams.specs.Streams.{AppendsPart, OutputView}
+use Rattle.relay_streams.specs.Streams.{write_fault_name, refused_line, AppendsPart, OutputView}
 use Rattle.relay_printer_commands.specs.Print.{PrintsButRefuses, PrintsLabels, PrintsLineFirst, TellsPrint, images_of}
 use Rattle.relay_printer_commands.specs.Print.PrintsLabels.{all, no_line, no_memory, not_written}
 use Rattle.relay_streams.specs.declared.fault.WriteFault.TheVariants.{Write}

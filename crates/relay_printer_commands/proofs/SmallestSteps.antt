@@ -5,7 +5,7 @@ use Rattle.std.proofs.lemmas.Bool.{cases_lt}
 use Rattle.dm_check_blocks.specs.declared.size.Size.{Size}
 use Rattle.dm_check_blocks.specs.Sizes.{side}
 use Rattle.dm_encodation.specs.declared.scheme.Scheme.{Scheme}
-use Rattle.dm_print_ledger.specs.Printing.{HasLabels}
+use Rattle.dm_print_ledger.specs.Verdicts.{HasLabels}
 use Rattle.relay_printer_commands.specs.Plan.{IsPlanned}
 use Rattle.relay_printer_commands.specs.PrintAuto.{HasAtMost, IsSmallestSide}
 use Rattle.relay_printer_commands.proofs.PlanSteps.{planned_at}

@@ -1,8 +1,7 @@
 -- What `left` says of the ledger in a store.
 use Rattle.std.specs.Prelude.{◌≡◌, ℕ, Ok, Err}
-use Rattle.dm_print_ledger.specs.FaultNames.{open_fault_name}
-use Rattle.dm_print_ledger.specs.Opening.{LoadsLedger, show_verdict}
-use Rattle.dm_print_ledger.specs.Views.{ShownView}
+use Rattle.dm_print_ledger.specs.Verdicts.{open_fault_name, LoadsLedger, show_verdict}
+use Rattle.dm_print_ledger.specs.Ledger.{ShownView}
 use Rattle.dm_print_ledger.specs.declared.fault.OpenFault.{OpenFault}
 use Rattle.relay_shared.specs.LedgerLines.{shown_lines}
 use Rattle.relay_shared.specs.Surroundings.{RefusesOnOutput, TellsOnOutput}

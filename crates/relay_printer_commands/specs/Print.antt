@@ -4,18 +4,13 @@ use Rattle.std.specs.List.{flat_map}
 use Rattle.std.specs.Io.KnownBytes.{Appends}
 use Rattle.dm_check_blocks.specs.declared.size.Size.{Size}
 use Rattle.dm_check_blocks.specs.Sizes.{IsSide, side}
-use Rattle.dm_finder_frame.specs.Grids.{GridView}
-use Rattle.dm_pbm_io.specs.SymbolImage.{p4}
-use Rattle.dm_print_ledger.specs.FaultNames.{open_fault_name, print_fault_name}
-use Rattle.dm_print_ledger.specs.Opening.{Opens}
-use Rattle.dm_print_ledger.specs.Printing.{Prints}
-use Rattle.dm_print_ledger.specs.Ranges.{free_count}
-use Rattle.dm_print_ledger.specs.Views.{JobView, PrinterView}
+use Rattle.dm_finder_frame.specs.Frame.{GridView}
+use Rattle.dm_pbm_io.specs.Image.{p4}
+use Rattle.dm_print_ledger.specs.Verdicts.{open_fault_name, print_fault_name, Opens, Prints}
+use Rattle.dm_print_ledger.specs.Ledger.{free_count, JobView, PrinterView}
 use Rattle.dm_print_ledger.specs.declared.fault.OpenFault.{OpenFault}
 use Rattle.dm_print_ledger.specs.declared.fault.PrintFault.{PrintFault}
-use Rattle.relay_streams.specs.FaultNames.{input_fault_name, write_fault_name}
-use Rattle.relay_streams.specs.Refusal.{refused_line}
-use Rattle.relay_streams.specs.Streams.{AppendsPart, InputView, OutputView}
+use Rattle.relay_streams.specs.Streams.{input_fault_name, write_fault_name, refused_line, AppendsPart, InputView, OutputView}
 use Rattle.relay_streams.specs.declared.fault.InputFault.{InputFault}
 use Rattle.relay_streams.specs.declared.fault.WriteFault.TheVariants.{Write}
 use Rattle.relay_shared.specs.Documents.{HasInputFault, ReadsDocument}

@@ -3,11 +3,9 @@ use Rattle.std.specs.Prelude.{◌≡◌, ◌≤◌, ◌<◌, ℕ, List}
 use Rattle.dm_check_blocks.specs.declared.size.Size.{Size}
 use Rattle.dm_check_blocks.specs.Sizes.{side}
 use Rattle.dm_encodation.specs.declared.scheme.Scheme.{Scheme}
-use Rattle.dm_print_ledger.specs.FaultNames.{print_fault_name}
-use Rattle.dm_print_ledger.specs.Printing.{HasLabels}
+use Rattle.dm_print_ledger.specs.Verdicts.{print_fault_name, HasLabels}
 use Rattle.dm_print_ledger.specs.declared.fault.PrintFault.TheVariants.{TooLong}
-use Rattle.relay_streams.specs.FaultNames.{input_fault_name}
-use Rattle.relay_streams.specs.Streams.{InputView}
+use Rattle.relay_streams.specs.Streams.{input_fault_name, InputView}
 use Rattle.relay_streams.specs.declared.fault.InputFault.{InputFault}
 use Rattle.relay_shared.specs.Documents.{HasInputFault, ReadsDocument}
 use Rattle.relay_shared.specs.Surroundings.{RefusesOnErrors}

@@ -2,11 +2,8 @@
 use Rattle.std.specs.Prelude.{◌≡◌, ℕ, Result, Ok, Err}
 use Rattle.dm_store.specs.Saved.{Saved}
 use Rattle.dm_print_ledger.specs.Creating.{Creates}
-use Rattle.dm_print_ledger.specs.FaultNames.{create_fault_name, open_fault_name, give_fault_name, take_fault_name}
-use Rattle.dm_print_ledger.specs.Opening.{Opens}
-use Rattle.dm_print_ledger.specs.Ranges.{free_count}
-use Rattle.dm_print_ledger.specs.Verdicts.{Gives, Takes}
-use Rattle.dm_print_ledger.specs.Views.{PrinterView, TicketView}
+use Rattle.dm_print_ledger.specs.Verdicts.{create_fault_name, open_fault_name, give_fault_name, take_fault_name, Opens, Gives, Takes}
+use Rattle.dm_print_ledger.specs.Ledger.{free_count, PrinterView, TicketView}
 use Rattle.dm_print_ledger.specs.declared.fault.CreateFault.{CreateFault}
 use Rattle.dm_print_ledger.specs.declared.fault.GiveFault.{GiveFault}
 use Rattle.dm_print_ledger.specs.declared.fault.OpenFault.{OpenFault}

@@ -2,9 +2,8 @@
 use Rattle.std.specs.Prelude.{◌≡◌, ◌⊎◌, ◌<◌, ◌++◌, ℕ, List, Ok, length, take}
 use Rattle.std.specs.List.{All}
 use Rattle.hex.specs.Hex.{decode_sized}
-use Rattle.dm_gf256.specs.Polynomial.{IsBlockWord}
-use Rattle.dm_print_ledger.specs.Tickets.{AreOfTicket, ticket_bytes}
-use Rattle.dm_print_ledger.specs.Views.{TicketView}
+use Rattle.dm_gf256.specs.Field.{IsBlockWord}
+use Rattle.dm_print_ledger.specs.Ledger.{AreOfTicket, ticket_bytes, TicketView}
 use Rattle.relay_shared.specs.Refusals.{refusal_name}
 use Rattle.relay_shared.specs.Surroundings.{RefusesOnOutput, StreamsView, TellsOnOutput}
 use Rattle.relay_shared.specs.TicketLines.{check_line, from_line, grouped}

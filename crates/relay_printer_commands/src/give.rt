@@ -1,6 +1,6 @@
 //! `relay give`: identifications for another printer.
 
-ghost use Rattle.dm_print_ledger.specs.FaultNames.{give_fault_name};
+ghost use Rattle.dm_print_ledger.specs.Verdicts.{give_fault_name};
 ghost use Rattle.relay_shared.specs.PrinterLines.{ticket_line};
 ghost use Rattle.relay_shared.specs.Telling.{TellsAnswer};
 ghost use Rattle.relay_printer_commands.specs.Printers.{EndsGive, ledger_at};

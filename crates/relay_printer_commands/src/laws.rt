@@ -1,7 +1,7 @@
 //! Laws of the texts of tickets. The functions do nothing: their contracts are the laws.
 
 ghost use Rattle.std.specs.Prelude.{◌≡◌, ◌≢◌, ◌≤◌, List, ℕ};
-ghost use Rattle.dm_gf256.specs.Polynomial.{differ};
+ghost use Rattle.dm_gf256.specs.Field.{differ};
 ghost use Rattle.relay_shared.specs.TicketLines.{check_text};
 ghost use Rattle.relay_printer_commands.specs.Tickets.{
   HasTicket,

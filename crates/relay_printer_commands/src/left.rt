@@ -2,7 +2,7 @@
 
 ghost use Rattle.std.specs.Prelude.{IsTrue};
 ghost use Rattle.std.specs.List.{All, flat_map};
-ghost use Rattle.dm_print_ledger.specs.Ranges.{is_range};
+ghost use Rattle.dm_print_ledger.specs.Ledger.{is_range};
 ghost use Rattle.relay_shared.specs.LedgerLines.{free_line, shown_lines, took_line};
 ghost use Rattle.relay_shared.specs.Telling.{Puts};
 ghost use Rattle.relay_printer_commands.specs.Left.{EndsLeft};

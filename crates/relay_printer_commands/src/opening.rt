@@ -1,7 +1,7 @@
 //! The printer that a command works with.
 
 ghost use Rattle.std.specs.Prelude.{◌≡◌, Ok, IfErr, MatchResult};
-ghost use Rattle.dm_print_ledger.specs.Opening.{Opens};
+ghost use Rattle.dm_print_ledger.specs.Verdicts.{Opens};
 ghost use Rattle.relay_printer_commands.specs.inner.Opening.{TellsNotOpened};
 
 use dm_print_ledger::{OpenRefused, Printer};

@@ -1,6 +1,6 @@
 //! `relay take`: identifications from another printer.
 
-ghost use Rattle.dm_print_ledger.specs.FaultNames.{take_fault_name};
+ghost use Rattle.dm_print_ledger.specs.Verdicts.{take_fault_name};
 ghost use Rattle.relay_shared.specs.PrinterLines.{taken_line};
 ghost use Rattle.relay_shared.specs.Telling.{TellsAnswer};
 ghost use Rattle.relay_printer_commands.specs.Printers.{EndsTake, ledger_at};

@@ -18,7 +18,7 @@ ghost use Rattle.std.specs.Prelude.{
   MatchOption,
 };
 ghost use Rattle.std.specs.List.{All};
-ghost use Rattle.dm_print_ledger.specs.Tickets.{AreOfTicket, ticket_bytes};
+ghost use Rattle.dm_print_ledger.specs.Ledger.{AreOfTicket, ticket_bytes};
 ghost use Rattle.relay_shared.specs.TicketLines.{grouped};
 ghost use Rattle.relay_printer_commands.specs.Tickets.{
   HasTicket,

@@ -12,7 +12,7 @@ use Rattle.std.proofs.lemmas.Str.Parse.{digit_at}
 use borrow.Author.Count.{below_none, below_more}
 use Rattle.hex.specs.Hex.{is_hex_digit}
 use Rattle.hex.proofs.HexLemmas.{decode_of-ok, decode_sized-ok, decode_sized-twice}
-use Rattle.dm_append_label.specs.Pages.{id_words}
+use Rattle.dm_append_label.specs.Labels.{id_words}
 use Rattle.dm_encodation.specs.declared.scheme.Scheme.{Scheme}
 use Rattle.dm_encodation.specs.declared.scheme.Scheme.TheVariants.{Ascii, C40, Text, Base256}
 use Rattle.dm_event_history.specs.declared.event.Event.{Event}

@@ -7,8 +7,7 @@ use Rattle.dm_pbm_io.specs.FaultNames.{pbm_fault_name}
 use Rattle.dm_pbm_io.specs.Image.{Picture, Spells}
 use Rattle.dm_pbm_io.specs.declared.fault.PbmFault.{PbmFault}
 use Rattle.dm_pbm_io.specs.declared.fault.PbmFault.TheVariants as image_faults
-use Rattle.relay_streams.specs.Refusal.{refused_line}
-use Rattle.relay_streams.specs.Streams.{AppendsPart, InputView, OutputView}
+use Rattle.relay_streams.specs.Streams.{refused_line, AppendsPart, InputView, OutputView}
 use Rattle.relay_streams.specs.declared.fault.WriteFault.{WriteFault}
 use Rattle.relay_shared.specs.Images.{IsAnother, IsUnread}
 use Rattle.relay_shared.specs.Refusals.{refusal_name}

@@ -2,9 +2,8 @@
 use Rattle.std.specs.Prelude.{ℕ, List, [], ◌∷◌, ◌++◌, codes}
 use Rattle.std.specs.Fmt.{decimal}
 use Rattle.hex.specs.Hex.{encode_lower}
-use Rattle.dm_append_label.specs.Pages.{id_words}
-use Rattle.dm_print_ledger.specs.Tickets.{ticket_bytes}
-use Rattle.dm_print_ledger.specs.Views.{TicketView}
+use Rattle.dm_append_label.specs.Labels.{id_words}
+use Rattle.dm_print_ledger.specs.Ledger.{ticket_bytes, TicketView}
 
 -- the two words of an identification in hexadecimal
 abbrev pub id_text : ℕ → List ℕ

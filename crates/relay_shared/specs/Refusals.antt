@@ -1,6 +1,6 @@
 -- The names of what a command refuses itself.
 use Rattle.std.specs.Prelude.{ℕ, List, codes}
-use Rattle.relay_streams.specs.FaultNames.{write_fault_name}
+use Rattle.relay_streams.specs.Streams.{write_fault_name}
 use Rattle.relay_shared.specs.declared.refusal.Refusal.{Refusal}
 use Rattle.relay_shared.specs.declared.refusal.Refusal.TheVariants.{Side, FileId, Ticket, TooMany, Memory, Output}
 

@@ -1,8 +1,7 @@
 -- How a command says what has happened, by one line and by its exit status, and what is out if its output fails.
 use Rattle.std.specs.Prelude.{◌≡◌, ◌⊎◌, ◌++◌, ℕ, List, Option, Result, Ok, Err, OnErr, OnOk, true}
 use Rattle.std.specs.Io.KnownBytes.{Appends}
-use Rattle.relay_streams.specs.Streams.{AppendsPart, IsFirstPart, OutputView}
-use Rattle.relay_streams.specs.Refusal.{refused_line}
+use Rattle.relay_streams.specs.Streams.{AppendsPart, IsFirstPart, OutputView, refused_line}
 use Rattle.relay_streams.specs.declared.fault.WriteFault.{WriteFault}
 
 -- The text was written, or the output has failed. Either way a part of it is out, from its first byte on, and nothing

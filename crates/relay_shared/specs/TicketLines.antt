@@ -3,7 +3,7 @@
 use Rattle.std.specs.Prelude.{ℕ, zero, suc, List, [], ◌∷◌, ◌++◌, codes, take, drop}
 use Rattle.std.specs.Fmt.{decimal}
 use Rattle.hex.specs.Hex.{encode_lower}
-use Rattle.dm_print_ledger.specs.Views.{TicketView}
+use Rattle.dm_print_ledger.specs.Ledger.{TicketView}
 
 -- the numbers of a ticket, each after its word, and what comes after them
 abbrev pub range_before : TicketView → List ℕ → List ℕ

@@ -16,7 +16,7 @@ use std::io::{Read, Write};
 /// What a command does with each image.
 pub trait OnImages<A: Allocator + Copy> {
     ghost use Rattle.relay_shared.specs.EachImage.{AnswersPicture, ImageCommand};
-    ghost use Rattle.dm_pbm_io.specs.Shown.{picture};
+    ghost use Rattle.dm_pbm_io.specs.Image.{picture};
 
     /// What it answers to a picture.
     ghost command: { ImageCommand };

@@ -1,7 +1,7 @@
 //! The lines that say what a ledger holds. They take no memory.
 
 ghost use Rattle.std.specs.Prelude.{◌≡◌, ◌≤◌, IsTrue};
-ghost use Rattle.dm_print_ledger.specs.Ranges.{is_range};
+ghost use Rattle.dm_print_ledger.specs.Ledger.{is_range};
 ghost use Rattle.relay_shared.specs.LedgerLines.{free_line, given_line, number_line, took_line};
 ghost use Rattle.relay_shared.specs.PrinterLines.{id_text};
 ghost use Rattle.relay_shared.specs.Telling.{Puts};

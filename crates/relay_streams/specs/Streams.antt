@@ -1,8 +1,13 @@
--- What contracts see of a reader and of a writer: the bytes, where they are known, and whether it has failed.
-use Rattle.std.specs.Prelude.{◌≡◌, ◌<◌, ◌≤◌, ℕ, Bool, true, List, [], ◌∷◌, ◌++◌, length, take, Option, IfSome, MatchOption, Result, Err}
+-- What contracts see of a reader and of a writer: the bytes, where they are known, and whether it has failed; and how a
+-- refusal is told.
+use Rattle.std.specs.Prelude.{◌≡◌, ◌<◌, ◌≤◌, ℕ, Bool, true, List, [], ◌∷◌, ◌++◌, length, take, Option, IfSome, MatchOption, Result, Err, codes}
 use Rattle.std.specs.Io.KnownBytes.{Keeps, Consumes, Appends, IsAtEnd}
 use Rattle.relay_streams.specs.declared.fault.WriteFault.{WriteFault}
+use Rattle.relay_streams.specs.declared.fault.ReadFault.{ReadFault}
+use Rattle.relay_streams.specs.declared.fault.InputFault.{InputFault}
 use Rattle.relay_streams.specs.declared.fault.WriteFault.TheVariants as write_faults
+use Rattle.relay_streams.specs.declared.fault.ReadFault.TheVariants as read_faults
+use Rattle.relay_streams.specs.declared.fault.InputFault.TheVariants as input_faults
 
 -- the bytes that are left to read, and whether a read has failed
 pub record InputView : Type 0 where
@@ -56,3 +61,21 @@ AppendsPart old new text = (part : List ℕ) × IsFirstPart part text × Appends
 -- once a write has failed, each later one is refused, and nothing goes out
 abbrev pub StaysFailed : OutputView → Result (Unit {0}) WriteFault → OutputView → Type 0
 StaysFailed old result new = old.has_failed ≡ true → (result ≡ Err write_faults.Write) × (new ≡ old)
+
+-- ---- The names of the faults of readers and writers, as they are printed.
+
+abbrev pub read_fault_name : ReadFault → List ℕ
+read_fault_name read_faults.Read = codes "Read"
+
+abbrev pub input_fault_name : InputFault → List ℕ
+input_fault_name input_faults.Read = codes "Read"
+input_fault_name input_faults.Memory = codes "Memory"
+
+abbrev pub write_fault_name : WriteFault → List ℕ
+write_fault_name write_faults.Write = codes "Write"
+
+-- ---- The line by which a command refuses.
+
+-- `refused`, a space, the name of what is refused, and a line end
+abbrev pub refused_line : List ℕ → List ℕ
+refused_line name = (codes "refused " ++ name) ++ 10 ∷ []

@@ -1,7 +1,7 @@
 //! What a reader or a writer refuses.
 
 ghost use Rattle.std.specs.Prelude.{◌≡◌};
-ghost use Rattle.relay_streams.specs.FaultNames.{read_fault_name, input_fault_name, write_fault_name};
+ghost use Rattle.relay_streams.specs.Streams.{read_fault_name, input_fault_name, write_fault_name};
 ghost use Rattle.relay_streams.specs.declared.fault.InputFault.TheVariants as input_faults;
 
 use std::alloc::AllocError;

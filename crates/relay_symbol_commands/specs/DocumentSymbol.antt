@@ -1,8 +1,7 @@
 -- The symbol that carries a document, and when there is none.
 use Rattle.std.specs.Prelude.{◌≡◌, ℕ, ◌<◌, ◌≤◌, true, List, [], IfSome}
 use Rattle.dm_check_blocks.specs.declared.size.Size.{Size}
-use Rattle.dm_check_blocks.specs.Sizes.{IsSide, side, data_words}
-use Rattle.dm_check_blocks.specs.Blocks.{Completes}
+use Rattle.dm_check_blocks.specs.Sizes.{IsSide, side, data_words, Completes}
 use Rattle.dm_encodation.specs.Written.{filled, need_of}
 use Rattle.relay_streams.specs.Streams.{InputView, OutputView}
 use Rattle.relay_symbol_commands.specs.Refusals.{symbol_refusal_name}

@@ -2,12 +2,9 @@
 use Rattle.std.specs.Prelude.{◌≡◌, ◌⊎◌, ℕ, Bool, true, List, IfSome}
 use Rattle.std.specs.Io.KnownBytes.{Appends}
 use Rattle.dm_check_blocks.specs.declared.size.Size.{Size}
-use Rattle.dm_symbol.specs.Symbols.{grid_of_words}
-use Rattle.dm_pbm_io.specs.Image.{Picture}
-use Rattle.dm_pbm_io.specs.SymbolImage.{image_with_quiet_zone}
-use Rattle.dm_pbm_io.specs.Writing.{written}
-use Rattle.relay_streams.specs.Streams.{AppendsPart, InputView, OutputView, TakesPart}
-use Rattle.relay_streams.specs.FaultNames.{write_fault_name}
+use Rattle.dm_symbol.specs.Correction.{grid_of_words}
+use Rattle.dm_pbm_io.specs.Image.{Picture, image_with_quiet_zone, written}
+use Rattle.relay_streams.specs.Streams.{AppendsPart, InputView, OutputView, TakesPart, write_fault_name}
 use Rattle.relay_streams.specs.declared.fault.WriteFault.{WriteFault}
 use Rattle.relay_symbol_commands.specs.DocumentSymbol.{CarriesDocument, PrintsRefusal}
 use Rattle.relay_symbol_commands.specs.declared.document_symbol.Form.{Form}

@@ -2,25 +2,20 @@
 -- image, or the greatest number of images. What a symbol carries is the standard's (ISO/IEC 16022:2006, 5.2 and 5.6,
 -- Annexes A, E and F), how images follow one another Netpbm's, and where reading ends this project's own rule.
 use Rattle.std.specs.Prelude.{◌≡◌, ◌≢◌, ℕ, false, List, Err}
-use Rattle.dm_gf256.specs.Polynomial.{differ}
+use Rattle.dm_gf256.specs.Field.{differ}
 use Rattle.dm_check_blocks.specs.Sizes.{side}
 use Rattle.dm_encodation.specs.Grammar.{ReadsOnly, StuckOnly}
 use Rattle.dm_encodation.specs.declared.fault.DecodeFault.{DecodeFault}
 use Rattle.dm_encodation.specs.declared.fault.DecodeFault.TheVariants as text_faults
-use Rattle.dm_finder_frame.specs.Frame.{wrong_frame_modules}
-use Rattle.dm_finder_frame.specs.Grids.{GridView}
-use Rattle.dm_symbol.specs.Correction.{CorrectsGrid, IsReadAs}
-use Rattle.dm_symbol.specs.Symbols.{data_of, words_of_grid}
+use Rattle.dm_finder_frame.specs.Frame.{wrong_frame_modules, GridView}
+use Rattle.dm_symbol.specs.Correction.{CorrectsGrid, IsReadAs, data_of, words_of_grid}
 use Rattle.dm_symbol.specs.declared.fault.SymbolFault.{SymbolFault}
-use Rattle.dm_append_label.specs.FaultOrigin.{page_fault, symbol_fault}
-use Rattle.dm_append_label.specs.Pages.{PageView}
-use Rattle.dm_append_label.specs.Heads.{head_at}
-use Rattle.dm_append_label.specs.Opening.{OpensAs, ReadsPage}
+use Rattle.dm_append_label.specs.Opening.{page_fault, symbol_fault, OpensAs, ReadsPage}
+use Rattle.dm_append_label.specs.Labels.{PageView, head_at}
 use Rattle.dm_append_label.specs.declared.fault.HeadFault.TheVariants as head_faults
 use Rattle.dm_append_label.specs.declared.fault.PageFault.{PageFault}
 use Rattle.dm_append_label.specs.declared.fault.PageFault.TheVariants as page_faults
-use Rattle.dm_pbm_io.specs.SymbolImage.{HasShape, IsGridInside}
-use Rattle.dm_pbm_io.specs.Image.{Picture}
+use Rattle.dm_pbm_io.specs.Image.{HasShape, IsGridInside, Picture}
 use Rattle.relay_shared.specs.EachImage.{ImageCommand, Said, TellsImages, progress_at, refusal_of}
 use Rattle.relay_shared.specs.Surroundings.{LeavesErrors, StreamsView}
 use Rattle.relay_symbol_commands.specs.Refusals.{read_refusal_name}

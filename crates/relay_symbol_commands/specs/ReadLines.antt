@@ -2,7 +2,7 @@
 use Rattle.std.specs.Prelude.{ℕ, List, [], ◌∷◌, ◌++◌, codes}
 use Rattle.std.specs.Fmt.{decimal}
 use Rattle.hex.specs.Hex.{encode_lower}
-use Rattle.dm_append_label.specs.Pages.{PageView, id_words}
+use Rattle.dm_append_label.specs.Labels.{PageView, id_words}
 use Rattle.relay_shared.specs.Hexadecimal.{hexadecimal}
 
 -- how many words were corrected, how many modules of the finder patterns are wrong, the bytes, and the line's end

@@ -1,11 +1,11 @@
 -- The names of refusals: each is that of its innermost fault.
 use Rattle.std.specs.Prelude.{ℕ, List}
-use Rattle.dm_append_label.specs.FaultNames.{label_fault_name}
+use Rattle.dm_append_label.specs.Opening.{label_fault_name}
 use Rattle.dm_encodation.specs.Faults.{decode_fault_name, encode_fault_name}
 use Rattle.dm_encodation.specs.declared.fault.EncodeFault.TheVariants.{TooLong}
 use Rattle.dm_pbm_io.specs.FaultNames.{shape_fault_name}
 use Rattle.dm_pbm_io.specs.declared.fault.ShapeFault.TheVariants as shape_faults
-use Rattle.relay_streams.specs.FaultNames.{input_fault_name}
+use Rattle.relay_streams.specs.Streams.{input_fault_name}
 use Rattle.relay_streams.specs.declared.fault.InputFault.TheVariants.{Read}
 use Rattle.relay_shared.specs.Refusals.{refusal_name}
 use Rattle.relay_shared.specs.declared.refusal.Refusal.TheVariants as refusals

@@ -2,9 +2,8 @@
 
 ghost use Rattle.std.specs.Prelude.{◌≡◌, ◌*◌, length, IfOk, IfErr, IfSome, OnOk};
 ghost use Rattle.dm_check_blocks.specs.Sizes.{all_words};
-ghost use Rattle.dm_symbol.specs.Symbols.{grid_of_words};
-ghost use Rattle.dm_pbm_io.specs.Shown.{picture};
-ghost use Rattle.dm_pbm_io.specs.SymbolImage.{image_with_quiet_zone};
+ghost use Rattle.dm_symbol.specs.Correction.{grid_of_words};
+ghost use Rattle.dm_pbm_io.specs.Image.{picture, image_with_quiet_zone};
 ghost use Rattle.relay_streams.specs.Streams.{TakesPart};
 ghost use Rattle.relay_symbol_commands.specs.DocumentSymbol.{RefusesSymbol};
 ghost use Rattle.relay_shared.specs.Documents.{document_of};

@@ -3,8 +3,8 @@
 ghost use Rattle.std.specs.Prelude.{◌≡◌, ◌≢◌, true, false, string_bytes, MatchResult};
 ghost use Rattle.dm_append_label.specs.declared.fault.HeadFault.TheVariants as head_faults;
 ghost use Rattle.dm_append_label.specs.declared.fault.PageFault.TheVariants as page_faults;
-ghost use Rattle.dm_finder_frame.specs.Grids.{GridView};
-ghost use Rattle.dm_pbm_io.specs.Shown.{picture};
+ghost use Rattle.dm_finder_frame.specs.Frame.{GridView};
+ghost use Rattle.dm_pbm_io.specs.Image.{picture};
 ghost use Rattle.dm_symbol.specs.Correction.{IsCorrectedAs};
 ghost use Rattle.relay_symbol_commands.specs.Read.{HasLine, HasNoHead, PrintsPicture, RefusesGrid, RefusesPicture};
 

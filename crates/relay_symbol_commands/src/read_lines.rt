@@ -2,7 +2,7 @@
 
 ghost use Rattle.std.specs.Prelude.{◌≡◌, ◌++◌, string_bytes, IfOk, OnOk};
 ghost use Rattle.dm_check_blocks.specs.Sizes.{side};
-ghost use Rattle.dm_append_label.specs.Pages.{id_words};
+ghost use Rattle.dm_append_label.specs.Labels.{id_words};
 ghost use Rattle.hex.specs.Hex.{encode_lower};
 ghost use Rattle.relay_shared.specs.Hexadecimal.{hexadecimal};
 ghost use Rattle.relay_symbol_commands.specs.ReadLines.{label_line, line_end, symbol_line};

@@ -1,3 +1,1 @@
-pub mod Images
-pub mod Labels
 pub mod Symbols

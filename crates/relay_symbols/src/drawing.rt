@@ -1,7 +1,7 @@
 //! From a grid to the bytes of its image.
 
 ghost use Rattle.std.specs.Prelude.{◌≡◌, IfOk};
-ghost use Rattle.dm_pbm_io.specs.SymbolImage.{p4};
+ghost use Rattle.dm_pbm_io.specs.Image.{p4};
 
 use dm_finder_frame::Grid;
 use dm_pbm_io::{image_of, write_image};

@@ -1,7 +1,7 @@
 //! Labels for programs in C.
 
 ghost use Rattle.std.specs.Prelude.{◌≡◌, ◌≢◌, ◌≤◌, ◌^◌, ◌-◌, IfSome, length, take};
-ghost use Rattle.relay_symbols.specs.Labels.{DrawsLabel, ReadsPage};
+ghost use Rattle.relay_symbols.specs.Symbols.{DrawsLabel, ReadsPage};
 
 use crate::drawing::grid_image;
 use crate::opening::grid_from;

@@ -1,7 +1,7 @@
 //! From an image to the grid inside its quiet zone.
 
 ghost use Rattle.std.specs.Prelude.{IfSome};
-ghost use Rattle.relay_symbols.specs.Images.{ShowsGrid};
+ghost use Rattle.relay_symbols.specs.Symbols.{ShowsGrid};
 
 use dm_finder_frame::Grid;
 use dm_pbm_io::{grid_moved, image_in};

@@ -3,14 +3,14 @@ use Rattle.std.specs.Prelude.{ℕ, Bool, true, false, List, [], ◌∷◌, ◌++
 use Rattle.std.specs.Fmt.{decimal}
 use Rattle.std.specs.List.{list_any}
 use Rattle.hex.specs.Hex.{encode_lower}
-use Rattle.dm_print_ledger.specs.FaultNames.{print_fault_name, give_fault_name, take_fault_name, open_fault_name}
-use Rattle.dm_print_ledger.specs.Tickets.{ticket_bytes}
-use Rattle.dm_assembly_desk.specs.FaultNames.{scan_fault_name, ask_fault_name, forget_fault_name, export_fault_name, import_fault_name, desk_fault_name}
+use Rattle.dm_print_ledger.specs.Verdicts.{print_fault_name, give_fault_name, take_fault_name, open_fault_name}
+use Rattle.dm_print_ledger.specs.Ledger.{ticket_bytes}
+use Rattle.dm_assembly_desk.specs.Faults.{scan_fault_name, ask_fault_name, forget_fault_name, export_fault_name, import_fault_name, desk_fault_name}
 use Rattle.dm_event_history.specs.declared.reply.Reply.{Reply}
 use Rattle.dm_event_history.specs.declared.reply.Reply.TheVariants.{Printed, PrintRefused, Scanned, ScanRefused, Document, AskRefused, Forgotten, ForgetRefused, Given, GiveRefused, Taken, TakeRefused, Exported, ExportRefused, Imported, ImportRefused, Restarted, PrinterRefused, DeskRefused, Stopped, Down, NoSuch, Memory}
 use Rattle.dm_event_world.specs.declared.answers.Answer.{Answer}
 use Rattle.dm_event_world.specs.declared.answers.Answer.TheVariants as answers
-use Rattle.relay_streams.specs.Refusal.{refused_line}
+use Rattle.relay_streams.specs.Streams.{refused_line}
 use Rattle.relay_shared.specs.DeskLines.{accepted_line, imported_line}
 use Rattle.relay_shared.specs.PrinterLines.{id_text}
 use Rattle.relay_shared.specs.Hexadecimal.{hexadecimal}

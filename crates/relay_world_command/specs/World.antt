@@ -3,11 +3,10 @@ use Rattle.std.specs.Prelude.{◌≡◌, ◌+◌, ℕ, List, Err, if◌then◌el
 use Rattle.std.specs.List.{flat_map}
 use Rattle.dm_event_world.specs.FaultNames.{world_fault_name}
 use Rattle.dm_event_world.specs.Openings.{HasWorldFault}
-use Rattle.dm_event_world.specs.Watched.{IsWatched}
+use Rattle.dm_event_world.specs.Shows.{IsWatched}
 use Rattle.dm_event_world.specs.declared.answers.Answer.{Answer}
 use Rattle.dm_event_world.specs.declared.fault.WorldFault.{WorldFault}
-use Rattle.relay_streams.specs.FaultNames.{input_fault_name}
-use Rattle.relay_streams.specs.Streams.{InputView, OutputView, ReadsFirst}
+use Rattle.relay_streams.specs.Streams.{input_fault_name, InputView, OutputView, ReadsFirst}
 use Rattle.relay_streams.specs.declared.fault.InputFault.{InputFault}
 use Rattle.relay_script.specs.Scripts.{IsScript}
 use Rattle.relay_script.specs.Words.{IsRead, script_fault_name}

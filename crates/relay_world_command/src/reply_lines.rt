@@ -2,7 +2,7 @@
 
 ghost use Rattle.std.specs.Prelude.{◌≡◌, ◌∷◌, [], codes, if◌then◌else◌};
 ghost use Rattle.hex.specs.Hex.{encode_lower};
-ghost use Rattle.dm_print_ledger.specs.Tickets.{ticket_bytes};
+ghost use Rattle.dm_print_ledger.specs.Ledger.{ticket_bytes};
 ghost use Rattle.relay_shared.specs.Telling.{Puts};
 ghost use Rattle.relay_world_command.specs.ReplyLines.{answer_line, document_line, export_line, is_refusal, is_refused_answer, labels_line, numbered_ticket_line, reply_line};
 

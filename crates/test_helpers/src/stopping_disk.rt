@@ -99,7 +99,7 @@ impl StoppingDisk {
 }
 
 impl Disk for StoppingDisk {
-    ghost use Rattle.dm_store.specs.Unclaimed.{unclaimed};
+    ghost use Rattle.dm_store.specs.Disk.{unclaimed};
 
     type Memory = Global;
 

@@ -1,8 +1,13 @@
--- A head as the code has it, and what reading one answers.
-use Rattle.std.specs.Prelude.{◌≡◌, Result, Ok, Err}
-use Rattle.dm_append_label.specs.Heads.{HeadView, IsHead}
+-- A head as the code has it, what reading one answers, and the data words of a page's label.
+use Rattle.std.specs.Prelude.{◌≡◌, Result, Ok, Err, ℕ, List, length, take, drop}
+use Rattle.dm_append_label.specs.Labels.{HeadView, IsHead, head_of, head_words, PageView}
 use Rattle.dm_append_label.specs.declared.fault.HeadFault.{HeadFault}
 use Rattle.dm_append_label.specs.declared.head.Head.{Head}
+use Rattle.dm_check_blocks.specs.declared.size.Size.{Size}
+use Rattle.dm_check_blocks.specs.Sizes.{data_words}
+use Rattle.dm_encodation.specs.declared.scheme.Scheme.{Scheme}
+use Rattle.dm_encodation.specs.Written.{filled}
+use Rattle.dm_encodation.specs.Grammar.{ReadsOnly}
 
 -- what a head says
 abbrev pub view_of : Head → HeadView
@@ -12,3 +17,13 @@ view_of h = record { m = h.m; n = h.n; id = h.id }
 abbrev pub ReadsHead : Result HeadView HeadFault → Result Head HeadFault → Type 0
 ReadsHead read (Ok h) = (read ≡ Ok (view_of h)) × IsHead (view_of h)
 ReadsHead read (Err fault) = read ≡ Err fault
+
+-- ---- The data words of a page's label.
+
+-- the head, the text and pads, that many as a symbol of the size has, which read as the page
+pub record IsDataOf (size : Size) (scheme : Scheme) (page : PageView) (words : List ℕ) : Type 0 where
+  pub filled_is : words ≡ filled scheme (head_words (head_of page)) page.bytes (data_words size)
+  pub count : length words ≡ data_words size
+  pub is_head : IsHead (head_of page)
+  pub begins : take 4 words ≡ head_words (head_of page)
+  pub reads : ReadsOnly 5 (drop 4 words) page.bytes

@@ -1,10 +1,24 @@
--- The division of a message by the generator polynomial, which leaves the check words.
-use Rattle.std.specs.Prelude.{◌≡◌, ℕ, ◌+◌, ◌<◌, ◌≤◌, List, ◌∷◌, length, slice_index, slice_range}
+-- The division of blocks by a generator polynomial (ISO/IEC 16022:2006, Annex E), which completes a symbol.
+use Rattle.std.specs.Prelude.{◌≡◌, ℕ, ◌+◌, ◌≤◌, List, [], length, slice_range, slice_index_or, ◌<◌, ◌∷◌, slice_index, ◌≢◌, ◌%◌, ◌⊎◌}
 use Rattle.std.specs.Int.Bits.{bit_xor}
 use Rattle.std.specs.List.{All}
-use Rattle.dm_gf256.specs.Field.{product, power}
-use Rattle.dm_gf256.specs.Polynomial.{value, IsBlockWord}
-use Rattle.dm_check_blocks.specs.inner.Division.{row_at}
+use Rattle.dm_gf256.specs.Field.{power, product, value, IsBlockWord}
+use Rattle.dm_check_blocks.specs.declared.size.Size.{Size}
+use Rattle.dm_check_blocks.specs.Sizes.{data_words, blocks, block_data, block_checks, position}
+
+-- row k of a table
+abbrev pub row_at : List (List ℕ) → ℕ → List ℕ
+row_at rows k = slice_index_or rows k []
+
+-- `old` begins with a block of `count` words and that many check words, and `new` has its remainder by the generator
+-- polynomial at the check words' places: it has the block's value at each root of the generator polynomial,
+-- 2^1 .. 2^checks.
+pub record IsDivided (checks count : ℕ) (old new : List ℕ) : Type 0 where
+  pub size : length new ≡ length old
+  pub values : (k : ℕ) → 1 ≤ k → k ≤ checks → value (slice_range new count (count + checks)) (power 2 k)
+      ≡ value (slice_range old 0 (count + checks)) (power 2 k)
+
+-- ---- The division of a message by the generator polynomial, which leaves the check words.
 
 -- these are the coefficients, after the leading 1, of a polynomial with the roots 2^1 .. 2^c, c being their number
 abbrev pub IsGenerator : List ℕ → Type 0
@@ -27,3 +41,20 @@ pub record IsStep (checks at : ℕ) (old new : List ℕ) : Type 0 where
       → value (slice_range new (at + 1) end) (power 2 k) ≡ value (slice_range old at end) (power 2 k)
   pub size : length new ≡ length old
   pub bytes : All (λ word. word < 256) new
+
+-- ---- What changes as a symbol is completed, and the windows in which its blocks are divided.
+
+-- only check words of block b may differ
+abbrev pub KeepsOtherWords : Size → ℕ → List ℕ → List ℕ → Type 0
+KeepsOtherWords s b old new = (p : ℕ) → (p < data_words s) ⊎ (p % blocks s ≢ b) → slice_index new p ≡ slice_index old p
+
+-- a window begins with the data words of block b, and zeros follow them
+pub record HoldsData (s : Size) (b : ℕ) (words window : List ℕ) : Type 0 where
+  pub size : length window ≡ 336
+  pub words_read : (i : ℕ) → i < block_data s → slice_index window i ≡ slice_index words (position s b i)
+  pub zeros : (i : ℕ) → block_data s ≤ i → slice_index window i ≡ 0
+
+-- after a block's data words its window has the block's check words
+abbrev pub HoldsChecks : Size → ℕ → List ℕ → List ℕ → Type 0
+HoldsChecks s b words window = (k : ℕ) → k < block_checks s
+    → slice_index words (position s b (block_data s + k)) ≡ slice_index window (block_data s + k)

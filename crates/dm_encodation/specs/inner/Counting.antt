@@ -1,17 +1,21 @@
--- What a counter of words knows of the bytes so far.
-use Rattle.std.specs.Prelude.{◌≡◌, ℕ, ◌+◌, ◌*◌, ◌/◌, ◌<◌, ◌^◌, List, [], ◌∷◌, length, take, drop, Bool, false, ◌&&◌, ◌==◌, nat_le, if◌then◌else◌}
+-- What a counter of words knows of the bytes so far, and the pieces that an encoder takes from a text.
+use Rattle.std.specs.Prelude.{◌≡◌, ℕ, ◌+◌, ◌*◌, ◌/◌, ◌<◌, ◌^◌, List, [], ◌∷◌, length, take, drop, Bool, false, ◌&&◌, ◌==◌, nat_le, if◌then◌else◌, ◌++◌, ◌-◌, ◌≤◌, zero, suc, ◌%◌, get_or}
 use Rattle.std.specs.Char.{is_ascii_digit}
-use Rattle.std.specs.List.{flat_map}
-use Rattle.dm_encodation.specs.Characters.{values_of}
-use Rattle.dm_encodation.specs.Written.{ascii, run_length}
+use Rattle.std.specs.List.{flat_map, AllByRecursion}
+use Rattle.dm_encodation.specs.Grammar.{values_of}
+use Rattle.dm_encodation.specs.Written.{ascii, run_length, pairs}
 use Rattle.dm_encodation.specs.declared.letters.Letters.{Letters}
 use Rattle.dm_encodation.specs.declared.letters.Letters.TheVariants.{Capital, Small}
 use Rattle.dm_encodation.specs.declared.counter.RunCounter.{RunCounter}
 use Rattle.dm_encodation.specs.declared.counter.AsciiCounter.{AsciiCounter}
 use Rattle.dm_encodation.specs.declared.counter.Counter.{Counter}
-use Rattle.dm_encodation.specs.declared.counter.Counter.TheVariants as counters
 use Rattle.dm_encodation.specs.declared.scheme.Scheme.{Scheme}
 use Rattle.dm_encodation.specs.declared.scheme.Scheme.TheVariants.{Ascii, C40, Text, Base256}
+use Rattle.dm_encodation.specs.declared.run.Held.{Held}
+use Rattle.dm_encodation.specs.declared.run.Held.TheVariants.{Nothing, One, Two}
+use Rattle.dm_encodation.specs.declared.ascii.Piece.{Piece}
+use Rattle.dm_encodation.specs.declared.ascii.Piece.TheVariants.{Digits, Character, Upper}
+use Rattle.dm_encodation.specs.declared.counter.Counter.TheVariants as counters
 
 -- whether a text in ASCII ends in a digit that has a word of its own
 unfoldable pub has_lone_digit : List ℕ → Bool
@@ -60,3 +64,69 @@ abbrev pub IsSmall : Counter → Type 0
 IsSmall (counters.Ascii c) = c.words < 2 ^ 100
 IsSmall (counters.Run t c) = IsSmallRun c
 IsSmall (counters.Base256 n) = n < 2 ^ 100
+
+-- ---- Values of a run that wait until they are three.
+
+-- the waiting values in order
+abbrev pub held_values : Held → List ℕ
+held_values Nothing = []
+held_values (One a) = a ∷ []
+held_values (Two a b) = a ∷ b ∷ []
+
+-- each of them is a value
+abbrev pub AreValues : Held → Type 0
+AreValues h = AllByRecursion (λ v. v < 40) (held_values h)
+
+-- These values were taken: whatever values follow, the words written and the pairs still to come are the same list.
+abbrev pub Writes : List ℕ → Held → List ℕ → List ℕ → Held → Type 0
+Writes old before values new after = (rest : List ℕ)
+    → new ++ pairs (held_values after ++ rest) ≡ old ++ pairs (held_values before ++ (values ++ rest))
+
+-- ---- The pieces that the encoder takes from the front of a text in ASCII.
+
+-- the words of a piece
+abbrev pub piece_words : Piece → List ℕ
+piece_words (Digits n) = (130 + n) ∷ []
+piece_words (Character b) = (b + 1) ∷ []
+piece_words (Upper b) = 235 ∷ (b - 127) ∷ []
+
+-- whether a text begins with two digits
+abbrev pub has_digits : List ℕ → Bool
+has_digits (a ∷ b ∷ _) = is_ascii_digit a && is_ascii_digit b
+has_digits _ = false
+
+-- the range of a piece's number or byte
+abbrev pub IsPiece : Piece → Type 0
+IsPiece (Digits n) = n < 100
+IsPiece (Character b) = b < 128
+IsPiece (Upper b) = 128 ≤ b
+
+-- ---- Bytes between two bounds; words in ASCII that stand for two digits each, 130 to 229 (ISO/IEC 16022:2006, 5.2.3).
+
+-- each of the bytes from an index to before another lies between two bounds
+abbrev pub AreBetween : ℕ → ℕ → List ℕ → ℕ → ℕ → Type 0
+AreBetween low high bytes from end =
+    (k : ℕ) → from ≤ k → k < end → (low ≤ get_or bytes k 0) × (get_or bytes k 0 ≤ high)
+
+-- each of the words from an index to before another is one of two digits
+abbrev pub ArePairs : List ℕ → ℕ → ℕ → Type 0
+ArePairs = AreBetween 130 229
+
+-- the two digits of such a word
+abbrev pub digits_of : ℕ → List ℕ
+digits_of word = (48 + (word - 130) / 10) ∷ (48 + (word - 130) % 10) ∷ []
+
+-- the digits of that many words from an index on
+abbrev pub digits_from : List ℕ → ℕ → ℕ → List ℕ
+digits_from words from zero = []
+digits_from words from (suc count) = digits_from words from count ++ digits_of (get_or words (from + count) 0)
+
+-- the word of two digits
+abbrev pub word_of : ℕ → ℕ → ℕ
+word_of tens ones = 130 + (10 * (tens - 48) + (ones - 48))
+
+-- the words of the first digits of a text, two to a word
+abbrev pub words_of_pairs : List ℕ → ℕ → List ℕ
+words_of_pairs digits zero = []
+words_of_pairs digits (suc count) =
+    words_of_pairs digits count ++ word_of (get_or digits (2 * count) 0) (get_or digits (2 * count + 1) 0) ∷ []

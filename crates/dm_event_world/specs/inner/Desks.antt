@@ -1,9 +1,8 @@
 -- Calls of desks as a world makes them.
 use Rattle.std.specs.Prelude.{◌≡◌, ℕ, true, false, List, Some, Result, Err, length, slice_get}
 use Rattle.std.specs.FinMap as map
-use Rattle.dm_finder_frame.specs.Grids.{GridView}
-use Rattle.dm_store.specs.Sets.{SavedSet}
-use Rattle.dm_store.specs.Settings.{save_plan_of}
+use Rattle.dm_finder_frame.specs.Frame.{GridView}
+use Rattle.dm_store.specs.Saved.{SavedSet, save_plan_of}
 use Rattle.dm_store.specs.declared.mem_store.NextSave.{NextSave}
 use Rattle.dm_assembly_desk.specs.declared.reply.Accepted.{Accepted}
 use Rattle.dm_assembly_desk.specs.declared.reply.Imported as imported_type
@@ -13,11 +12,9 @@ use Rattle.dm_assembly_desk.specs.declared.fault.ForgetFault.{ForgetFault}
 use Rattle.dm_assembly_desk.specs.declared.fault.ForgetFault.TheVariants as forget_fault
 use Rattle.dm_assembly_desk.specs.declared.fault.ImportFault.{ImportFault}
 use Rattle.dm_assembly_desk.specs.declared.fault.ImportFault.TheVariants as import_fault
-use Rattle.dm_assembly_desk.specs.Accepting.{AcceptsGrid}
-use Rattle.dm_assembly_desk.specs.Forgetting.{Forgets}
-use Rattle.dm_assembly_desk.specs.Importing.{ImportsBytes}
-use Rattle.dm_assembly_desk.specs.Views.{DeskView, IsInOrder}
-use Rattle.dm_event_history.specs.Actors as actor_states
+use Rattle.dm_assembly_desk.specs.Adding.{AcceptsGrid, Forgets, ImportsBytes}
+use Rattle.dm_assembly_desk.specs.Documents.{DeskView, IsInOrder}
+use Rattle.dm_event_history.specs.Relay as actor_states
 use Rattle.dm_event_world.specs.declared.actor.DeskActor.{DeskActor}
 use Rattle.dm_event_world.specs.declared.actor.DeskState.{DeskState}
 use Rattle.dm_event_world.specs.Shows.{ShowsDesk}

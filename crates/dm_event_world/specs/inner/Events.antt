@@ -1,15 +1,22 @@
--- Events of a world.
+-- Events of a world; and how what a set and a desk hold is coded, which a model asks of its value.
+use Rattle.std.specs.Ordering.{nat_cmp}
+use Rattle.std.specs.Coded.{Coded, coded_ℕ, coded_list}
 use Rattle.std.specs.Prelude.{◌≡◌, ◌↔◌, true, List, [], ◌∷◌}
+use Rattle.std.specs.FinMap as map
+use Rattle.dm_store.specs.Saved.{Contents}
 use Rattle.dm_event_history.specs.declared.event.Event.{Event}
 use Rattle.dm_event_history.specs.declared.reply.Reply.{Reply}
-use Rattle.dm_event_history.specs.Places.{IsInOrder}
+use Rattle.dm_event_history.specs.Headline.{IsInOrder}
 use Rattle.dm_event_history.specs.Relay.{Relay}
 use Rattle.dm_event_history.specs.Steps.{Step}
 use Rattle.dm_event_world.specs.declared.answers.Answer.{Answer}
 use Rattle.dm_event_world.specs.declared.answers.Answer.TheVariants.{Given, NotGiven}
-use Rattle.dm_event_world.specs.Shows.{Shows}
-use Rattle.dm_event_world.specs.StandsFor.{GoesOn}
-use Rattle.dm_event_world.specs.Worlds.{IsFairIn, IsLookedAt, WorldView}
+use Rattle.dm_event_world.specs.Shows.{Shows, GoesOn, IsFairIn, IsLookedAt, WorldView}
+
+abbrev pub contents_code : Coded Contents
+contents_code = map.code {R = nat_cmp} coded_ℕ (coded_list coded_ℕ)
+
+-- ---- Events of a world.
 
 -- the relay takes the event on, and the world shows what it is then
 pub record TakesOn {A : Type 0} (relay : Relay) (event : Event A) (reply : Reply A) (new : WorldView A) : Type 0 where

@@ -1,8 +1,7 @@
 -- How far a square is filled, and how far the wrong modules of a grid are counted.
 use Rattle.std.specs.Prelude.{ℕ, ◌/◌, ◌%◌, Bool, List, map, count_by}
 use Rattle.std.specs.List.{range_with_len}
-use Rattle.dm_finder_frame.specs.Frame.{is_wrong}
-use Rattle.dm_finder_frame.specs.Grids.{GridView}
+use Rattle.dm_finder_frame.specs.Frame.{is_wrong, GridView}
 
 -- the first modules of a square of side n, each what this function gives of its row and its column
 abbrev pub first_modules : ℕ → (ℕ → ℕ → Bool) → ℕ → List Bool

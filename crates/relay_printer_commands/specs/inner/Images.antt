@@ -1,7 +1,7 @@
 -- How the images of the labels of a job go out, if not all do.
 use Rattle.std.specs.Prelude.{◌≡◌, ◌∷◌, ◌++◌, List, true}
 use Rattle.std.specs.Io.KnownBytes.{Appends}
-use Rattle.dm_finder_frame.specs.Grids.{GridView}
+use Rattle.dm_finder_frame.specs.Frame.{GridView}
 use Rattle.relay_streams.specs.Streams.{OutputView}
 use Rattle.relay_streams.specs.declared.fault.WriteFault.{WriteFault}
 use Rattle.relay_shared.specs.declared.refusal.Refusal.{Refusal}

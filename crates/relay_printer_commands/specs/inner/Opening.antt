@@ -1,8 +1,7 @@
 -- That no printer was opened.
 use Rattle.std.specs.Prelude.{ℕ, Err}
 use Rattle.dm_store.specs.Saved.{Saved}
-use Rattle.dm_print_ledger.specs.FaultNames.{open_fault_name}
-use Rattle.dm_print_ledger.specs.Opening.{Opens}
+use Rattle.dm_print_ledger.specs.Verdicts.{open_fault_name, Opens}
 use Rattle.dm_print_ledger.specs.declared.fault.OpenFault.{OpenFault}
 use Rattle.relay_streams.specs.Streams.{OutputView}
 use Rattle.relay_shared.specs.Telling.{TellsRefusal}

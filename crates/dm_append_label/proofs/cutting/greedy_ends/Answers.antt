@@ -1,5 +1,5 @@
 use Rattle.std.proofs.Common.{◌≡◌, ℕ, ◌+◌, ◌-◌, ◌<◌, ◌≤◌, List, [], ◌∷◌, ◌++◌, length, drop, sym, ap, subst, ◌∙◌, arith, rules, length-append, length-drop}
-use Rattle.dm_append_label.specs.Parts.{AreFullEnds, until_two}
+use Rattle.dm_append_label.specs.Labels.{AreFullEnds, until_two}
 use Rattle.dm_encodation.specs.Written.{IsGreatestPrefix}
 use Rattle.dm_append_label.proofs.CutsSoFar.{CutSoFar, one_more, stuck, crowded, whole, of_rest}
 use Rattle.dm_append_label.proofs.cutting.greedy_ends.Goals as goal

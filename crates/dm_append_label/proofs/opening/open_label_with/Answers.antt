@@ -1,7 +1,6 @@
 use Rattle.std.proofs.Common.{◌≡◌, ◌∙◌, Err, Result, ap, subst, sym}
 use Rattle.std.proofs.lemmas.Result.{err_from_is_err_and}
-use Rattle.dm_append_label.specs.Opening.{LabelOpens}
-use Rattle.dm_append_label.specs.FaultOrigin.{page_fault}
+use Rattle.dm_append_label.specs.Opening.{LabelOpens, page_fault}
 use Rattle.dm_append_label.specs.declared.fault.LabelFault.{LabelFault}
 use Rattle.dm_append_label.specs.declared.opening.Opened.{Opened}
 use Rattle.dm_append_label.proofs.Near.{no_page, one_page_opens}

@@ -1,6 +1,6 @@
 use Rattle.std.proofs.Common.{◌∙◌, List, ℕ, ap, drop, subst, sym, rules}
 use Rattle.dm_encodation.specs.Grammar.{StuckOnly}
-use Rattle.dm_append_label.specs.Heads.{head_at}
+use Rattle.dm_append_label.specs.Labels.{head_at}
 use Rattle.dm_append_label.specs.inner.ReadHeads.{view_of}
 use Rattle.dm_append_label.proofs.opening.page_of.Goals as goal
 

@@ -3,10 +3,9 @@ use Rattle.std.proofs.Common.{◌≡◌, ◌∙◌, ◌+◌, List, ℕ, take, So
 use Rattle.std.specs.Prelude.{IsTrue, option_map}
 use Rattle.std.specs.FinMap.{keys as map_keys, entries as map_entries}
 use Rattle.std.proofs.lemmas.Result.{err_from_is_err_and}
-use Rattle.dm_store.specs.Saved.{Saved, Replaces}
-use Rattle.dm_store.specs.Sets.{SavedSet}
-use Rattle.dm_assembly_desk.specs.Moving.{Moves, early}
-use Rattle.dm_assembly_desk.specs.inner.MovingOn.{lacking, WritesAll}
+use Rattle.dm_store.specs.Saved.{Saved, Replaces, SavedSet}
+use Rattle.dm_assembly_desk.specs.Opening.{Moves, early}
+use Rattle.dm_assembly_desk.specs.inner.Reading.{lacking, WritesAll}
 use Rattle.dm_assembly_desk.specs.declared.fault.MoveFault.{MoveFault}
 use Rattle.dm_assembly_desk.proofs.JointContents.{all_of_them}
 use Rattle.dm_assembly_desk.proofs.MoveEnds.{no_documents, not_loaded, nothing_there, not_joint, none_there, no_keys, not_saved, ended}

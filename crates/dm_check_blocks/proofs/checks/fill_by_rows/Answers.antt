@@ -1,8 +1,7 @@
 use Rattle.std.proofs.Common.{◌≡◌, ◌++◌, ℕ, List, sym, ◌∙◌, ap, subst, arith, length, length-append, length-drop, take, drop, replicate}
 use Rattle.std.proofs.lemmas.List.{take_at}
-use Rattle.dm_gf256.specs.Field.{power}
-use Rattle.dm_gf256.specs.Polynomial.{value}
-use Rattle.dm_check_blocks.specs.inner.Division.{row_at, IsDivided}
+use Rattle.dm_gf256.specs.Field.{power, value}
+use Rattle.dm_check_blocks.specs.inner.Remainders.{row_at, IsDivided}
 use Rattle.dm_check_blocks.proofs.DivisionSteps.{divided_message, zeros_after}
 use Rattle.dm_check_blocks.proofs.checks.fill_by_rows.Goals as goal
 

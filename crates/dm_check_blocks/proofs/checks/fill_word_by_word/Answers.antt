@@ -1,6 +1,5 @@
 use Rattle.std.proofs.Common.{◌≡◌, ◌∷◌, sym, ◌∙◌, ap, arith, length, take}
-use Rattle.dm_gf256.specs.Field.{product, power}
-use Rattle.dm_gf256.specs.Polynomial.{value}
+use Rattle.dm_gf256.specs.Field.{product, power, value}
 use Rattle.dm_gf256.proofs.Ring.{product-zero_l, power_byte}
 use Rattle.dm_check_blocks.proofs.Remainders.{zeros_value, next_word, whole}
 use Rattle.dm_check_blocks.proofs.checks.fill_word_by_word.Goals as goal

@@ -1,6 +1,5 @@
 use Rattle.std.proofs.Common.{◌≡◌, ◌<◌, ℕ, get_or, length, take, ◌∷◌}
-use Rattle.dm_gf256.specs.Field.{product, power}
-use Rattle.dm_gf256.specs.Polynomial.{value}
+use Rattle.dm_gf256.specs.Field.{product, power, value}
 use Rattle.dm_check_blocks.proofs.checks.fill_word_by_word.Given as goal
 
 abbrev pub invariant-loop-check : goal.invariant-loop-check

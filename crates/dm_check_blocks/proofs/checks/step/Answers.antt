@@ -1,5 +1,5 @@
 use Rattle.std.proofs.Common.{◌∙◌, ap, length, arith}
-use Rattle.dm_gf256.specs.Polynomial.{value}
+use Rattle.dm_gf256.specs.Field.{value}
 use Rattle.dm_check_blocks.proofs.Remainders.{step_value}
 use Rattle.dm_check_blocks.proofs.checks.step.Goals as goal
 

@@ -1,8 +1,7 @@
 use Rattle.std.proofs.Common.{◌≡◌, ◌+◌, ◌-◌, ◌<◌, ◌≤◌, refl, sym, ◌∙◌, ap, arith, length, length-take, length-drop, take, drop, ⊎_elim}
 use Rattle.std.proofs.lemmas.Bool.{cases_lt}
 use Rattle.std.specs.Int.Bits.{bit_xor, xor_self}
-use Rattle.dm_gf256.specs.Field.{product, power}
-use Rattle.dm_gf256.specs.Polynomial.{value}
+use Rattle.dm_gf256.specs.Field.{product, power, value}
 use Rattle.dm_gf256.proofs.Ring.{product-zero_l, product-zero_r}
 use Rattle.dm_gf256.proofs.Divide.{length-add_scaled}
 use Rattle.dm_check_blocks.proofs.Generators.{first_zeros, next_size, next_first, next_generator, next_zeros}

@@ -1,6 +1,5 @@
 use Rattle.std.proofs.Common.{◌≡◌, ◌<◌, ◌≤◌, ◌+◌, ℕ, get_or, length, take}
-use Rattle.dm_gf256.specs.Field.{power}
-use Rattle.dm_gf256.specs.Polynomial.{value}
+use Rattle.dm_gf256.specs.Field.{power, value}
 use Rattle.dm_check_blocks.proofs.generator.coefficients_of.Given as goal
 
 abbrev pub invariant-loop-k : goal.invariant-loop-k

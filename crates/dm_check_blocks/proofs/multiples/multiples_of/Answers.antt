@@ -4,7 +4,7 @@ use Rattle.std.proofs.lemmas.List.{ext_get_or}
 use Rattle.std.specs.Int.Bits.{bit_xor}
 use Rattle.dm_gf256.specs.Field.{product}
 use Rattle.dm_gf256.proofs.Ring.{one-product, product-zero_l}
-use Rattle.dm_check_blocks.specs.inner.Division.{row_at}
+use Rattle.dm_check_blocks.specs.inner.Remainders.{row_at}
 use Rattle.dm_check_blocks.proofs.DivisionSteps.{blank_row, zeros_at, even_multiple, odd_multiple}
 use Rattle.dm_check_blocks.proofs.multiples.multiples_of.Goals as goal
 use Rattle.dm_check_blocks.proofs.multiples.multiples_of.Goals.{then-factor-eq0, else-factor-eq0}

@@ -1,6 +1,6 @@
 use Rattle.std.proofs.Common.{◌≡◌, ◌<◌, ℕ, get_or, length}
 use Rattle.dm_gf256.specs.Field.{product}
-use Rattle.dm_check_blocks.specs.inner.Division.{row_at}
+use Rattle.dm_check_blocks.specs.inner.Remainders.{row_at}
 use Rattle.dm_check_blocks.proofs.multiples.multiples_of.Given as goal
 
 abbrev pub invariant-loop-factor : goal.invariant-loop-factor

@@ -1,8 +1,7 @@
 use Rattle.std.proofs.Common.{◌≡◌, ◌-◌, ◌*◌, ◌++◌, ◌<◌, ℕ, List, sym, ◌∙◌, ap, arith, length, length-append, length-take, length-drop, take, drop}
 use Rattle.std.proofs.lemmas.List.{append-nil, drop_all}
 use Rattle.std.proofs.lemmas.List.Elements.{All-from_get_or}
-use Rattle.dm_gf256.specs.Field.{power}
-use Rattle.dm_gf256.specs.Polynomial.{value}
+use Rattle.dm_gf256.specs.Field.{power, value}
 use Rattle.dm_check_blocks.specs.Sizes.{data_words, all_words, blocks, block_checks}
 use Rattle.dm_check_blocks.proofs.Sound.{sound}
 use Rattle.dm_check_blocks.proofs.Interleaving.{single_block}

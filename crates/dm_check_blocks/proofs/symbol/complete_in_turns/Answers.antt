@@ -1,11 +1,9 @@
 use Rattle.std.proofs.Common.{◌≡◌, ◌+◌, ◌-◌, ◌<◌, ◌++◌, ℕ, List, sym, ◌∙◌, ap, subst, arith, length, length-take, length-drop, take, drop, replicate}
 use Rattle.std.specs.Prelude.{slice_range}
 use Rattle.std.proofs.lemmas.List.{get_or-take, get_or-drop}
-use Rattle.dm_gf256.specs.Field.{power}
-use Rattle.dm_gf256.specs.Polynomial.{value}
-use Rattle.dm_check_blocks.specs.Sizes.{blocks, block_data, block_checks}
-use Rattle.dm_check_blocks.specs.Blocks.{position, block_of}
-use Rattle.dm_check_blocks.specs.inner.Division.{row_at, IsDivided}
+use Rattle.dm_gf256.specs.Field.{power, value}
+use Rattle.dm_check_blocks.specs.Sizes.{blocks, block_data, block_checks, position, block_of}
+use Rattle.dm_check_blocks.specs.inner.Remainders.{row_at, IsDivided}
 use Rattle.dm_check_blocks.proofs.Sound.{sound}
 use Rattle.dm_check_blocks.proofs.DivisionSteps.{divided_message}
 use Rattle.dm_check_blocks.proofs.Interleaving.{block_of-parts, position_in_data}

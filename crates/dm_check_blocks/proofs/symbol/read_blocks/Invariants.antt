@@ -1,6 +1,5 @@
 use Rattle.std.proofs.Common.{◌<◌, ℕ}
-use Rattle.dm_check_blocks.specs.inner.Division.{row_at}
-use Rattle.dm_check_blocks.specs.inner.Completing.{HoldsData}
+use Rattle.dm_check_blocks.specs.inner.Remainders.{row_at, HoldsData}
 use Rattle.dm_check_blocks.proofs.symbol.read_blocks.Given as goal
 
 abbrev pub invariant-loop-block : goal.invariant-loop-block

@@ -1,7 +1,6 @@
 use Rattle.std.proofs.Common.{◌≡◌, ◌<◌, ℕ, get_or}
 use Rattle.dm_check_blocks.specs.Sizes.{data_words}
-use Rattle.dm_check_blocks.specs.inner.Division.{row_at}
-use Rattle.dm_check_blocks.specs.inner.Completing.{HoldsChecks}
+use Rattle.dm_check_blocks.specs.inner.Remainders.{row_at, HoldsChecks}
 use Rattle.dm_check_blocks.proofs.symbol.write_blocks.Given as goal
 
 abbrev pub invariant-loop-block : goal.invariant-loop-block

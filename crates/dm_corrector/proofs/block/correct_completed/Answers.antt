@@ -1,6 +1,6 @@
 use Rattle.std.proofs.Common.{sym, arith, length-take}
 use Rattle.dm_gf256.proofs.OneBlockWord.{differ-self}
-use Rattle.dm_corrector.specs.Corrections.{Corrects}
+use Rattle.dm_corrector.specs.Symbols.{Corrects}
 use Rattle.dm_corrector.proofs.Corrected.{itself, one_correction}
 use Rattle.dm_corrector.proofs.block.correct_completed.Goals as goal
 

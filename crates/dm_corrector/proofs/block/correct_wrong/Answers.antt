@@ -2,11 +2,9 @@ use Rattle.std.proofs.Common.{refl, sym, ap, ◌∙◌, ◌≡◌, ◌<◌, ◌�
 use Rattle.std.proofs.lemmas.List.{length-map}
 use Rattle.std.proofs.lemmas.Bool.{false≢true}
 use Rattle.dm_gf256.specs.declared.element.Gf.{Gf}
-use Rattle.dm_gf256.specs.Elements.{numbers}
-use Rattle.dm_gf256.specs.Polynomial.{differ, sum_word, IsBlockWord}
-use Rattle.dm_corrector.specs.inner.Syndromes.{AreSyndromes}
-use Rattle.dm_corrector.specs.Corrections.{Corrects}
-use Rattle.dm_corrector.specs.Locators.{IsLocator}
+use Rattle.dm_gf256.specs.Field.{numbers, differ, sum_word, IsBlockWord}
+use Rattle.dm_corrector.specs.inner.Polynomials.{AreSyndromes}
+use Rattle.dm_corrector.specs.Symbols.{Corrects, IsLocator}
 use Rattle.dm_corrector.proofs.Corrected.{recovered, block_syndromes, one_correction}
 use Rattle.dm_corrector.proofs.block.correct_wrong.Goals as goal
 

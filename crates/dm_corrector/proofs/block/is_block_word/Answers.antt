@@ -4,8 +4,7 @@ use Rattle.std.proofs.lemmas.Bool.Decides.{Decides-eqb}
 use Rattle.std.proofs.lemmas.List.{take-append-drop}
 use Rattle.std.proofs.lemmas.List.Elements.{All-drop}
 use Rattle.std.proofs.lemmas.Slice.Eq.{slice_eq-Decides}
-use Rattle.dm_gf256.specs.Field.{power}
-use Rattle.dm_gf256.specs.Polynomial.{value}
+use Rattle.dm_gf256.specs.Field.{power, value}
 use Rattle.dm_corrector.proofs.WordsByPlace.{all_bytes}
 use Rattle.dm_corrector.proofs.block.is_block_word.Goals as goal
 

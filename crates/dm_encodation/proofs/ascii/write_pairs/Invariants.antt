@@ -1,5 +1,5 @@
 use Rattle.std.proofs.Common.{◌≡◌, take}
-use Rattle.dm_encodation.specs.inner.Pairs.{words_of_pairs}
+use Rattle.dm_encodation.specs.inner.Counting.{words_of_pairs}
 use Rattle.dm_encodation.proofs.ascii.write_pairs.Given as goal
 
 abbrev pub invariant-loop-at : goal.invariant-loop-at

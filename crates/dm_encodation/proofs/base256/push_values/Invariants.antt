@@ -1,5 +1,5 @@
 use Rattle.std.proofs.Common.{◌≡◌, ◌++◌, ◌+◌, drop, vec_len}
-use Rattle.dm_encodation.specs.Words.{randomised}
+use Rattle.dm_encodation.specs.Grammar.{randomised}
 use Rattle.dm_encodation.proofs.base256.push_values.Given as goal
 
 abbrev pub invariant-loop-value : goal.invariant-loop-value

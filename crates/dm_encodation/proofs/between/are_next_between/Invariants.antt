@@ -1,5 +1,5 @@
 use Rattle.std.proofs.Common.{◌≡◌, ◌+◌, true}
-use Rattle.dm_encodation.specs.inner.Pairs.{AreBetween}
+use Rattle.dm_encodation.specs.inner.Counting.{AreBetween}
 use Rattle.dm_encodation.proofs.between.are_next_between.Given as goal
 
 abbrev pub invariant-loop-ahead : goal.invariant-loop-ahead

@@ -1,4 +1,4 @@
-use Rattle.dm_encodation.specs.inner.Pairs.{AreBetween}
+use Rattle.dm_encodation.specs.inner.Counting.{AreBetween}
 use Rattle.dm_encodation.proofs.between.between_end.Given as goal
 
 abbrev pub invariant-loop-at : goal.invariant-loop-at

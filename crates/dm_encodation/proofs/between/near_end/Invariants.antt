@@ -1,5 +1,5 @@
 use Rattle.std.proofs.Common.{◌-◌, ◌≤◌, length}
-use Rattle.dm_encodation.specs.inner.Pairs.{AreBetween}
+use Rattle.dm_encodation.specs.inner.Counting.{AreBetween}
 use Rattle.dm_encodation.proofs.between.near_end.Given as goal
 
 abbrev pub invariant-loop-end : goal.invariant-loop-end

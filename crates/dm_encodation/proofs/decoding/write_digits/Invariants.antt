@@ -1,5 +1,5 @@
 use Rattle.std.proofs.Common.{◌≡◌, ◌*◌, take}
-use Rattle.dm_encodation.specs.inner.Pairs.{digits_from}
+use Rattle.dm_encodation.specs.inner.Counting.{digits_from}
 use Rattle.dm_encodation.proofs.decoding.write_digits.Given as goal
 
 abbrev pub invariant-loop-at : goal.invariant-loop-at

@@ -1,5 +1,5 @@
 use Rattle.std.proofs.Common.{◌≡◌, ◌++◌, ◌+◌, ◌-◌}
-use Rattle.dm_encodation.specs.Words.{later_pads}
+use Rattle.dm_encodation.specs.Grammar.{later_pads}
 use Rattle.dm_encodation.proofs.pads.push_pads.Given as goal
 
 abbrev pub invariant-loop-position : goal.invariant-loop-position

@@ -1,7 +1,7 @@
 use Rattle.std.proofs.Common.{take}
 use Rattle.std.specs.List.{flat_map}
-use Rattle.dm_encodation.specs.Characters.{values_of}
-use Rattle.dm_encodation.specs.inner.Runs.{AreValues, Writes}
+use Rattle.dm_encodation.specs.Grammar.{values_of}
+use Rattle.dm_encodation.specs.inner.Counting.{AreValues, Writes}
 use Rattle.dm_encodation.specs.declared.run.Held.TheVariants.{Nothing}
 use Rattle.dm_encodation.proofs.run.push_pairs.Given as goal
 

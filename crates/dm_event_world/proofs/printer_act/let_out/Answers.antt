@@ -1,6 +1,6 @@
 use Rattle.std.proofs.Common.{◌++◌, take, ap, rules}
-use Rattle.dm_print_ledger.specs.Views.{JobView}
-use Rattle.dm_event_world.specs.inner.Printers.{left_labels}
+use Rattle.dm_print_ledger.specs.Ledger.{JobView}
+use Rattle.dm_event_world.specs.inner.Calls.{left_labels}
 use Rattle.dm_event_world.proofs.LabelsOut.{one_more}
 use Rattle.dm_event_world.proofs.printer_act.let_out.Goals as goal
 

@@ -1,5 +1,5 @@
 use Rattle.std.proofs.Common.{◌≡◌, ◌≤◌, ◌+◌, ◌-◌, ◌++◌, length, take, vec_len, vec_capacity}
-use Rattle.dm_event_world.specs.inner.Printers.{left_labels}
+use Rattle.dm_event_world.specs.inner.Calls.{left_labels}
 use Rattle.dm_event_world.proofs.printer_act.let_out.Given as goal
 
 abbrev pub invariant-loop-before : goal.invariant-loop-before

@@ -1,5 +1,5 @@
 use Rattle.std.proofs.Common.{ap, ◌∙◌}
-use Rattle.dm_event_world.specs.inner.Printers.{saved_of}
+use Rattle.dm_event_world.specs.inner.Calls.{saved_of}
 use Rattle.dm_event_world.proofs.PrinterEvents.{restart_refused, restarted}
 use Rattle.dm_event_world.proofs.printer_act.restart.Goals as goal
 

@@ -1,6 +1,6 @@
 use Rattle.std.proofs.Common.{◌≡◌, ◌↔◌, ◌<◌, true, IfOk, OnErr, length, refl, sym, subst, arith}
 use Rattle.dm_event_history.specs.declared.event.Event.{Event}
-use Rattle.dm_event_world.specs.Worlds.{AreWithin, WorldView, IsFairIn, IsLookedAt}
+use Rattle.dm_event_world.specs.Shows.{AreWithin, WorldView, IsFairIn, IsLookedAt}
 use Rattle.dm_event_world.proofs.Changing.{read_by, world_of}
 use Rattle.dm_event_world.proofs.ScannedLabels.{outside, fair_scan, looked_at}
 use Rattle.dm_event_world.proofs.steps.is_honest.Goals as goal

@@ -5,9 +5,7 @@ use Rattle.dm_check_blocks.specs.Sizes.{region, regions}
 use Rattle.dm_finder_frame.specs.declared.fault.FrameFault.{FrameFault}
 use Rattle.dm_finder_frame.specs.declared.fault.FrameFault.TheVariants.{Memory}
 use Rattle.dm_finder_frame.specs.declared.unframing.Framed.{Framed}
-use Rattle.dm_finder_frame.specs.Grids.{GridView}
-use Rattle.dm_finder_frame.specs.UnframeOutcome.{HasGoodFrame, Unframes}
-use Rattle.dm_finder_frame.specs.Frame.{frame_module_count}
+use Rattle.dm_finder_frame.specs.Frame.{GridView, HasGoodFrame, Unframes, frame_module_count}
 use Rattle.dm_finder_frame.proofs.unframing.unframe.Goals as goal
 
 -- how many modules the finder patterns have

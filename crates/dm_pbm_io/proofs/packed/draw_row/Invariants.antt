@@ -1,5 +1,5 @@
 use Rattle.std.proofs.Common.{◌≡◌, ◌*◌, take, flat_map}
-use Rattle.dm_pbm_io.specs.Raster.{bits}
+use Rattle.dm_pbm_io.specs.Header.{bits}
 use Rattle.dm_pbm_io.proofs.packed.draw_row.Given as goal
 
 -- the pixels of the first bytes are drawn

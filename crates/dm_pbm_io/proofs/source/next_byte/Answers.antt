@@ -1,5 +1,5 @@
 use Rattle.std.proofs.lemmas.Result.{err_from_is_err_and}
-use Rattle.dm_pbm_io.specs.Stops.HasNoByte.{ended, failed}
+use Rattle.dm_pbm_io.specs.Header.HasNoByte.{ended, failed}
 use Rattle.dm_pbm_io.proofs.Streaming.{takes-nil, until-end, cut_not_read}
 use Rattle.dm_pbm_io.proofs.source.next_byte.Goals as goal
 

@@ -1,5 +1,5 @@
 use Rattle.std.proofs.Common.{take, refl, rules, arith}
-use Rattle.dm_pbm_io.specs.Stops.HasNoByte.{ended, failed}
+use Rattle.dm_pbm_io.specs.Header.HasNoByte.{ended, failed}
 use Rattle.dm_pbm_io.proofs.Streaming.{remembers-other, cut_not_read}
 use Rattle.dm_pbm_io.proofs.source.next_row.Goals as goal
 

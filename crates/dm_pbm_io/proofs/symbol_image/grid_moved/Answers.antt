@@ -1,5 +1,5 @@
 use Rattle.std.proofs.Common.{arith, ap, ◌∙◌, length}
-use Rattle.dm_pbm_io.specs.Shown.{picture}
+use Rattle.dm_pbm_io.specs.Image.{picture}
 use Rattle.dm_pbm_io.proofs.Insides.{length-inside}
 use Rattle.dm_pbm_io.proofs.Shapes.{wide_enough, as_many}
 use Rattle.dm_pbm_io.proofs.symbol_image.grid_moved.Goals as goal

@@ -1,6 +1,6 @@
 use Rattle.std.proofs.Common.{◌≡◌, ◌+◌, ap, refl, ◌∙◌, arith}
 use Rattle.dm_check_blocks.specs.Sizes.{side}
-use Rattle.dm_finder_frame.specs.Grids.{square_of}
+use Rattle.dm_finder_frame.specs.Frame.{square_of}
 use Rattle.dm_pbm_io.proofs.OneImage.{same_picture}
 use Rattle.dm_pbm_io.proofs.QuietZone.{drawn_pixels}
 use Rattle.dm_pbm_io.proofs.symbol_image.image_of.Goals as goal

@@ -1,4 +1,4 @@
-use Rattle.dm_pbm_io.specs.Shown.{picture}
+use Rattle.dm_pbm_io.specs.Image.{picture}
 use Rattle.dm_pbm_io.proofs.Shapes.{too_narrow}
 use Rattle.dm_pbm_io.proofs.symbol_image.size_in.Goals as goal
 

@@ -1,6 +1,6 @@
 use Rattle.std.proofs.Common.{◌≡◌, take, map}
 use Rattle.arrayvec.specs.ArrayVec.{array_vec_len}
-use Rattle.dm_pbm_io.specs.Raster.{digit_of}
+use Rattle.dm_pbm_io.specs.Header.{digit_of}
 use Rattle.dm_pbm_io.proofs.write.line_text.Given as goal
 
 abbrev pub invariant-loop-i : goal.invariant-loop-i

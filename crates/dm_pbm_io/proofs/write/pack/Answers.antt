@@ -1,7 +1,7 @@
 use Rattle.std.proofs.Common.{◌≡◌, ◌<◌, ℕ, ◌+◌, ◌-◌, ◌*◌, ◌++◌, ◌∷◌, [], List, Bool, length, drop, ap, sym, ◌∙◌, append_assoc, append-nil, drop-drop, take, take_all, set, length-set, ◌≤◌, ◌/◌, rules, arith}
 use Rattle.std.proofs.lemmas.List.{take_rest, take_more_set}
-use Rattle.dm_pbm_io.specs.Raster.{stride}
-use Rattle.dm_pbm_io.specs.Writing.{number_of_first, packed}
+use Rattle.dm_pbm_io.specs.Header.{stride}
+use Rattle.dm_pbm_io.specs.Image.{number_of_first, packed}
 use Rattle.dm_pbm_io.proofs.Written.{packed_step}
 use Rattle.dm_pbm_io.proofs.write.pack.Goals as goal
 

@@ -2,9 +2,8 @@ use Rattle.std.proofs.lemmas.Grind.{common_steps}
 use Rattle.std.proofs.Common.{◌≡◌, ◌+◌, ◌-◌, ◌++◌, ℕ, List, Some, ap, append-nil, arith, map, subst, sym, ◌∙◌}
 use Rattle.dm_check_blocks.specs.Sizes.{mapping}
 use Rattle.dm_placement.specs.declared.shape.Shape.TheVariants.{Plain}
-use Rattle.dm_placement.specs.Cells.{shape_cells}
-use Rattle.dm_placement.specs.Square.{place_of}
-use Rattle.dm_placement.specs.inner.Walk.{IsInside}
+use Rattle.dm_placement.specs.Placement.{shape_cells, place_of}
+use Rattle.dm_placement.specs.inner.Places.{IsInside}
 use Rattle.dm_placement.proofs.InsideWords.{some_inside}
 use Rattle.dm_placement.proofs.WalkedWords.{walked_more}
 use Rattle.dm_placement.proofs.layout.add_inside.Goals as goal

@@ -1,5 +1,5 @@
 use Rattle.std.proofs.Common.{◌≤◌}
-use Rattle.dm_placement.specs.inner.Walk.{HasWalked, IsInside, steps_left}
+use Rattle.dm_placement.specs.inner.Places.{HasWalked, IsInside, steps_left}
 use Rattle.dm_placement.proofs.layout.add_inside.Given as goal
 
 abbrev pub invariant-loop-left : goal.invariant-loop-left

@@ -5,9 +5,7 @@ use Rattle.std.proofs.Common.{◌≡◌, ◌+◌, ◌*◌, ◌<◌, ◌++◌, �
 use Rattle.std.proofs.lemmas.List.{length-map}
 use Rattle.std.proofs.lemmas.List.FromFn.{map-range_with_len_more, length-map-range_with_len}
 use Rattle.dm_check_blocks.specs.Sizes.{mapping, all_words}
-use Rattle.dm_placement.specs.Cells.{bit_cells, cell_at}
-use Rattle.dm_placement.specs.Placement.{is_dark, number_of, word_from, lifted}
-use Rattle.dm_placement.specs.Square.{Square, place_of}
+use Rattle.dm_placement.specs.Placement.{bit_cells, cell_at, is_dark, number_of, word_from, lifted, Square, place_of}
 use Rattle.dm_placement.specs.inner.Places.{word_from_places}
 use Rattle.dm_placement.proofs.LiftedWords.{same_made}
 use Rattle.dm_placement.proofs.Places.{all_places_in, place_at}

@@ -4,10 +4,7 @@ use Rattle.std.proofs.lemmas.List.{length-map}
 use Rattle.std.proofs.lemmas.List.FromFn.{get_or-map-range_with_len}
 use Rattle.dm_check_blocks.specs.declared.size.Size.{Size}
 use Rattle.dm_check_blocks.specs.Sizes.{all_words, mapping}
-use Rattle.dm_placement.specs.Bits.{byte_bits}
-use Rattle.dm_placement.specs.Cells.{bit_cells, cell_at, dark_cells}
-use Rattle.dm_placement.specs.Placement.{bit_of}
-use Rattle.dm_placement.specs.Square.{Square, place_of, with_module, with_dark, light_square}
+use Rattle.dm_placement.specs.Placement.{byte_bits, bit_cells, cell_at, dark_cells, bit_of, Square, place_of, with_module, with_dark, light_square}
 use Rattle.dm_placement.proofs.EachSize.{side_is_sound}
 use Rattle.dm_placement.proofs.Places.{place_at, places_in}
 use Rattle.dm_placement.proofs.PlacedBits.{Placing, placing_start, placing_step, placing_end}

@@ -1,7 +1,7 @@
 use Rattle.std.proofs.Common.{◌≡◌, ◌≤◌, ◌+◌, ◌++◌, List, drop, length}
-use Rattle.dm_finder_frame.specs.Grids.{GridView}
-use Rattle.dm_append_label.specs.Parts.{PartsFit, parts_from}
-use Rattle.dm_print_ledger.specs.Printing.{AreLabels}
+use Rattle.dm_finder_frame.specs.Frame.{GridView}
+use Rattle.dm_append_label.specs.Labels.{PartsFit, parts_from}
+use Rattle.dm_print_ledger.specs.Verdicts.{AreLabels}
 use Rattle.dm_print_ledger.proofs.job.labels_by.Given as goal
 
 abbrev pub invariant-loop-end : goal.invariant-loop-end

@@ -2,7 +2,7 @@
 use Rattle.std.proofs.Common.{◌≡◌, ◌∙◌, refl, subst, arith}
 use Rattle.std.proofs.lemmas.Result.{err_from_is_err_and}
 use Rattle.std.specs.Prelude.{is_err}
-use Rattle.dm_store.specs.Sets.{SavedSet}
+use Rattle.dm_store.specs.Saved.{SavedSet}
 use Rattle.relay_desk_commands.specs.Held.{SeenFiles, SeesNumber, documents_in}
 use Rattle.relay_desk_commands.proofs.HeldLists.{first_line, one_more, cut_before, cut_in}
 use Rattle.relay_desk_commands.proofs.held.put_list.Goals.{in-Err, in_default}

@@ -1,5 +1,5 @@
 use Rattle.std.specs.Prelude.{◌≡◌, IfSome}
-use Rattle.dm_assembly_desk.specs.Looking.{IsFirstFrom}
+use Rattle.dm_assembly_desk.specs.Opening.{IsFirstFrom}
 use Rattle.relay_desk_commands.specs.Held.{documents_in}
 use Rattle.relay_desk_commands.specs.inner.Listing.{HasCount, WritesList}
 use Rattle.relay_desk_commands.proofs.held.put_list.Given as goal

@@ -1,7 +1,7 @@
 use Rattle.std.proofs.Common.{subst}
 use Rattle.dm_check_blocks.specs.declared.size.Size.{Size}
 use Rattle.dm_finder_frame.specs.Frame.{FrameHasNoWrongModule}
-use Rattle.dm_symbol.specs.Symbols.{CarriesItsWords}
+use Rattle.dm_symbol.specs.Correction.{CarriesItsWords}
 use Rattle.relay_desk_commands.proofs.CopiedPages.{opens_as_held, opens_as_no_other}
 use Rattle.relay_desk_commands.proofs.laws.copies_open_as_the_page_held.Goals as goal
 

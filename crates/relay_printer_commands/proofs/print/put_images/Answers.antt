@@ -4,11 +4,10 @@ use Rattle.std.proofs.lemmas.Grind.{flat_map-append}
 use Rattle.std.proofs.lemmas.List.{flat_map_more}
 use Rattle.std.proofs.lemmas.List.Concat.{flat_map-cons}
 use Rattle.std.proofs.lemmas.Result.{err_from_is_err_and}
-use Rattle.dm_finder_frame.specs.Grids.{GridView}
+use Rattle.dm_finder_frame.specs.Frame.{GridView}
 use Rattle.std.specs.Io.KnownBytes.{Appends}
-use Rattle.dm_pbm_io.specs.SymbolImage.{p4}
-use Rattle.dm_pbm_io.specs.Writing.{written}
-use Rattle.dm_print_ledger.specs.Views.{JobView}
+use Rattle.dm_pbm_io.specs.Image.{p4, written}
+use Rattle.dm_print_ledger.specs.Ledger.{JobView}
 use Rattle.relay_streams.specs.Streams.{AppendsPart}
 use Rattle.relay_streams.proofs.Parts.{part_after, part_more, part_whole}
 use Rattle.relay_printer_commands.specs.Print.{images_of}

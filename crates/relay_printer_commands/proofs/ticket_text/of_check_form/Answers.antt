@@ -1,6 +1,6 @@
 use Rattle.std.proofs.Common.{◌≡◌, ◌∙◌, List, ℕ, sym, subst}
 use Rattle.std.specs.Cmp.Lexicographic.{other_text}
-use Rattle.dm_print_ledger.specs.Tickets.{AreOfTicket}
+use Rattle.dm_print_ledger.specs.Ledger.{AreOfTicket}
 use Rattle.relay_printer_commands.specs.Tickets.{IsChecked}
 use Rattle.relay_printer_commands.proofs.CheckWords.{begins_with}
 use Rattle.relay_printer_commands.proofs.ticket_text.of_check_form.Goals as goal

@@ -1,7 +1,7 @@
 use Rattle.std.proofs.Common.{ap, rules, ◌∙◌}
 use Rattle.dm_check_blocks.specs.declared.size.Size.{Size}
-use Rattle.dm_symbol.specs.Symbols.{grid_of_words}
-use Rattle.dm_pbm_io.specs.SymbolImage.{p4}
+use Rattle.dm_symbol.specs.Correction.{grid_of_words}
+use Rattle.dm_pbm_io.specs.Image.{p4}
 use Rattle.relay_symbols.proofs.Outcomes.{some_of_ok}
 use Rattle.relay_symbols.proofs.symbols.image_of_words.Goals as goal
 

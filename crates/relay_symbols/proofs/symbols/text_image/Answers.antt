@@ -3,7 +3,7 @@ use Rattle.dm_check_blocks.specs.Sizes.{data_words}
 use Rattle.dm_check_blocks.specs.declared.size.Size.{Size}
 use Rattle.dm_encodation.specs.Written.{filled}
 use Rattle.dm_encodation.specs.declared.scheme.Scheme.TheVariants.{Ascii}
-use Rattle.dm_symbol.specs.Symbols.{DrawsSymbol}
+use Rattle.dm_symbol.specs.Correction.{DrawsSymbol}
 use Rattle.relay_symbols.proofs.Outcomes.{some_of_ok}
 use Rattle.relay_symbols.proofs.symbols.text_image.Goals as goal
 

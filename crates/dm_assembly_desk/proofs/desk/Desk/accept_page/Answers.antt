@@ -1,12 +1,9 @@
 use Rattle.std.proofs.Common.{rules}
 use Rattle.std.proofs.Common.{◌≡◌, ◌∙◌, ℕ, ◌-◌, ◌<◌, ◌≤◌, map, take, Some, None, Ok, Err, ap, sym, subst, arith, replicate}
 use Rattle.std.specs.Prelude.{Result, slice_set}
-use Rattle.dm_append_label.specs.Pages.{PageView}
-use Rattle.dm_assembly_desk.specs.Pages.{Pages, lent_bytes}
-use Rattle.dm_assembly_desk.specs.Files.{IsEntry}
-use Rattle.dm_assembly_desk.specs.Views.{DeskView}
-use Rattle.dm_assembly_desk.specs.Adding.{Adds}
-use Rattle.dm_assembly_desk.specs.Accepting.{lone}
+use Rattle.dm_append_label.specs.Labels.{PageView}
+use Rattle.dm_assembly_desk.specs.Documents.{Pages, lent_bytes, IsEntry, DeskView}
+use Rattle.dm_assembly_desk.specs.Adding.{Adds, lone}
 use Rattle.dm_assembly_desk.specs.declared.adding.AddFault.{AddFault}
 use Rattle.dm_assembly_desk.specs.declared.reply.Kind.{Kind}
 use Rattle.dm_assembly_desk.specs.declared.reply.Accepted.{Accepted}

@@ -5,13 +5,9 @@ use Rattle.std.proofs.lemmas.List.{length-map}
 use Rattle.dm_store.specs.Saved.{Refused, outcome_of}
 use Rattle.dm_store.specs.declared.store.ReplaceFault.{ReplaceFault}
 use Rattle.dm_store.specs.declared.store.ReplaceFault.TheVariants as replacing
-use Rattle.dm_assembly_desk.specs.Pages.{Pages, lent_bytes}
-use Rattle.dm_assembly_desk.specs.Files.{IsEntry, file}
-use Rattle.dm_assembly_desk.specs.Documents.{Documents}
-use Rattle.dm_assembly_desk.specs.Views.{DeskView}
-use Rattle.dm_assembly_desk.specs.FaultOrigin.{keep_fault}
-use Rattle.dm_assembly_desk.specs.Holding.{answer_by}
-use Rattle.dm_assembly_desk.specs.Adding.{add_kind, added_to, pages_with, reply_of, Adds}
+use Rattle.dm_assembly_desk.specs.Documents.{Pages, lent_bytes, IsEntry, file, Documents, DeskView}
+use Rattle.dm_assembly_desk.specs.Faults.{keep_fault}
+use Rattle.dm_assembly_desk.specs.Adding.{answer_by, add_kind, added_to, pages_with, reply_of, Adds}
 use Rattle.dm_assembly_desk.specs.declared.reply.Kind.{Kind}
 use Rattle.dm_assembly_desk.specs.declared.reply.Kind.TheVariants.{Again}
 use Rattle.dm_assembly_desk.specs.declared.reply.Imported.{Imported}

@@ -2,14 +2,11 @@ use Rattle.std.proofs.Common.{arith}
 use Rattle.std.proofs.Common.{◌≡◌, ℕ, true, Result, Ok, Err, refl, sym, subst, rules}
 use Rattle.std.specs.Prelude.{IsSome}
 use Rattle.std.specs.FinMap.{get, remove}
-use Rattle.dm_store.specs.Saved.{Refused}
-use Rattle.dm_store.specs.Sets.{SavedSet, RemovesKey, outcome_of_remove}
+use Rattle.dm_store.specs.Saved.{Refused, SavedSet, RemovesKey, outcome_of_remove}
 use Rattle.dm_store.specs.declared.set.RemoveFault.{RemoveFault}
 use Rattle.dm_store.specs.declared.set.RemoveFault.TheVariants as removing
-use Rattle.dm_assembly_desk.specs.Documents.{Documents}
-use Rattle.dm_assembly_desk.specs.Views.{DeskView, IsInOrder}
-use Rattle.dm_assembly_desk.specs.Holding.{answer_by, Ends}
-use Rattle.dm_assembly_desk.specs.Forgetting.{Forgets}
+use Rattle.dm_assembly_desk.specs.Documents.{Documents, DeskView, IsInOrder}
+use Rattle.dm_assembly_desk.specs.Adding.{answer_by, Ends, Forgets}
 use Rattle.dm_assembly_desk.specs.declared.fault.ForgetFault.{ForgetFault}
 use Rattle.dm_assembly_desk.specs.declared.fault.ForgetFault.TheVariants as forgets
 use Rattle.dm_assembly_desk.proofs.DeskViews.{desk_of}

@@ -1,13 +1,10 @@
 use Rattle.std.proofs.Common.{arith}
 use Rattle.std.proofs.Common.{◌≡◌, ◌∙◌, ◌<◌, ℕ, true, None, Ok, Err, refl, ap, sym, subst, rules}
 use Rattle.std.specs.FinMap.{get, insert, len}
-use Rattle.dm_store.specs.Saved.{Done, Faulted, Refused}
-use Rattle.dm_store.specs.Sets.{SavedSet, SavesKey}
+use Rattle.dm_store.specs.Saved.{Done, Faulted, Refused, SavedSet, SavesKey}
 use Rattle.dm_store.specs.declared.store.ReplaceFault.TheVariants as replacing
-use Rattle.dm_assembly_desk.specs.Files.{file}
-use Rattle.dm_assembly_desk.specs.Documents.{Documents}
-use Rattle.dm_assembly_desk.specs.Views.{DeskView, IsInOrder}
-use Rattle.dm_assembly_desk.specs.Holding.{Ends}
+use Rattle.dm_assembly_desk.specs.Documents.{file, Documents, DeskView, IsInOrder}
+use Rattle.dm_assembly_desk.specs.Adding.{Ends}
 use Rattle.dm_assembly_desk.proofs.DeskViews.{desk_of}
 use Rattle.dm_assembly_desk.proofs.Saving.{held_ends, held_order}
 use Rattle.dm_assembly_desk.proofs.desk.Desk.hold.Goals as goal

@@ -1,8 +1,7 @@
 use Rattle.std.proofs.Common.{◌≡◌, ◌+◌, ◌<◌, ℕ, sym, ◌∙◌, ap, arith, length}
 use Rattle.std.specs.Prelude.{slice_range}
-use Rattle.dm_gf256.specs.Field.{power}
-use Rattle.dm_gf256.specs.Polynomial.{value}
-use Rattle.dm_check_blocks.specs.inner.Division.{row_at}
+use Rattle.dm_gf256.specs.Field.{power, value}
+use Rattle.dm_check_blocks.specs.inner.Remainders.{row_at}
 use Rattle.dm_check_blocks.proofs.multiples.Multiples.divide.Goals as goal
 
 pub returns : goal.returns

@@ -1,9 +1,8 @@
 use Rattle.std.proofs.Common.{◌≡◌, ◌+◌, ◌<◌, ◌≤◌, ℕ, length}
 use Rattle.std.specs.Prelude.{slice_range}
 use Rattle.std.specs.List.{All}
-use Rattle.dm_gf256.specs.Field.{power}
-use Rattle.dm_gf256.specs.Polynomial.{value}
-use Rattle.dm_check_blocks.specs.inner.Division.{row_at}
+use Rattle.dm_gf256.specs.Field.{power, value}
+use Rattle.dm_check_blocks.specs.inner.Remainders.{row_at}
 use Rattle.dm_check_blocks.proofs.multiples.Multiples.divide.Given as goal
 
 abbrev pub invariant-loop-at : goal.invariant-loop-at

@@ -5,7 +5,7 @@ use Rattle.std.specs.List.{All}
 use Rattle.std.specs.Int.Bits.{bit_xor}
 use Rattle.dm_gf256.specs.Field.{product, power}
 use Rattle.dm_gf256.proofs.Ring.{power_byte}
-use Rattle.dm_check_blocks.specs.inner.Division.{row_at}
+use Rattle.dm_check_blocks.specs.inner.Remainders.{row_at}
 use Rattle.dm_check_blocks.proofs.DivisionSteps.{row_step, split_multiple, written_value, written_bytes, sum_bytes}
 use Rattle.dm_check_blocks.proofs.multiples.Multiples.step.Goals as goal
 

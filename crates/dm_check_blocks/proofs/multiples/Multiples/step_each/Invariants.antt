@@ -1,6 +1,5 @@
 use Rattle.std.proofs.Common.{◌≡◌, ◌<◌, ◌≤◌, ℕ}
-use Rattle.dm_check_blocks.specs.inner.Division.{row_at}
-use Rattle.dm_check_blocks.specs.inner.Remainders.{IsStep}
+use Rattle.dm_check_blocks.specs.inner.Remainders.{row_at, IsStep}
 use Rattle.dm_check_blocks.proofs.multiples.Multiples.step_each.Given as goal
 
 abbrev pub invariant-loop-window : goal.invariant-loop-window

@@ -1,5 +1,5 @@
 use Rattle.std.proofs.Common.{◌≡◌, take}
-use Rattle.dm_finder_frame.specs.Grids.{flipped}
+use Rattle.dm_finder_frame.specs.Frame.{flipped}
 use Rattle.dm_finder_frame.proofs.grid.Grid.with_flips.Given as goal
 
 abbrev pub invariant-loop-row : goal.invariant-loop-row

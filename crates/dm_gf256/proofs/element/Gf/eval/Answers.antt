@@ -1,5 +1,5 @@
 use Rattle.std.proofs.Common.{refl, arith}
-use Rattle.dm_gf256.specs.Polynomial.{value}
+use Rattle.dm_gf256.specs.Field.{value}
 use Rattle.dm_gf256.proofs.Evals.{value-more}
 use Rattle.dm_gf256.proofs.element.Gf.eval.Goals as goal
 

@@ -1,6 +1,5 @@
 use Rattle.std.proofs.Common.{◌≡◌, take}
-use Rattle.dm_gf256.specs.Polynomial.{value}
-use Rattle.dm_gf256.specs.Elements.{numbers}
+use Rattle.dm_gf256.specs.Field.{value, numbers}
 use Rattle.dm_gf256.proofs.element.Gf.eval.Given as goal
 
 abbrev pub invariant-loop-c : goal.invariant-loop-c

@@ -1,6 +1,6 @@
 use Rattle.std.proofs.Common.{◌≡◌, ◌-◌, ◌++◌, ℕ, List, [], length, take, drop, refl, sym, ◌∙◌, ap, arith, append-nil, length-take, length-drop}
 use Rattle.std.proofs.lemmas.List.{nil_from_length}
-use Rattle.dm_pbm_io.specs.Stops.HasNoByte.{ended}
+use Rattle.dm_pbm_io.specs.Header.HasNoByte.{ended}
 use Rattle.dm_pbm_io.proofs.Streaming.{remembers-other, cut_not_read}
 use Rattle.dm_pbm_io.proofs.packed.RefSliceU8RowSourceInMemory.draw_next.Goals as goal
 

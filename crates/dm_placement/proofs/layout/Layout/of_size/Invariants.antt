@@ -1,4 +1,4 @@
-use Rattle.dm_placement.specs.inner.Walk.{HasWalked, steps_left}
+use Rattle.dm_placement.specs.inner.Places.{HasWalked, steps_left}
 use Rattle.dm_placement.proofs.layout.Layout.of_size.Given as goal
 
 abbrev pub invariant-loop-walk : goal.invariant-loop-walk

@@ -2,8 +2,7 @@ use Rattle.std.proofs.Common.{arith}
 use Rattle.std.proofs.Common.{◌≡◌, subst, rules, Some, true, false, length}
 use Rattle.std.proofs.lemmas.Result.{err_from_is_err_and}
 use Rattle.dm_print_ledger.specs.declared.fault.PrintFault.TheVariants as printing
-use Rattle.dm_print_ledger.specs.Carrying.{IsInOrder}
-use Rattle.dm_print_ledger.specs.Verdicts.{print_verdict}
+use Rattle.dm_print_ledger.specs.Verdicts.{IsInOrder, print_verdict}
 use Rattle.dm_print_ledger.proofs.CarryLaws.{made_by, none_free, prints, refuses}
 use Rattle.dm_print_ledger.proofs.RangeTests.{both}
 use Rattle.dm_print_ledger.proofs.printer.Printer.print.Goals as goal
