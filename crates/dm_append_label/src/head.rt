@@ -49,7 +49,7 @@ fn head_of_words(indicator: u8, first: u8, second: u8) -> Result<Head, HeadFault
 }
 
 /// The head that data words begin with, or its first fault.
-#[tactic(auto, unfolding(crate::specs::Heads::head_at))]
+#[tactic(auto, unfolding(crate::specs::Labels::head_at))]
 pub(crate) fn read_head(words: &[u8]) -> Result<Head, HeadFault>
     ensures head { ReadsHead (head_at words.now) result }
     ensures long { IfOk result (λ _. 4 ≤ length words.now) }

@@ -7,7 +7,7 @@ ghost use Rattle.dm_encodation.specs.Written.{base_256, length_words};
 use std::alloc::{AllocError, Allocator};
 
 // A value as it stands at a position (the 255-state algorithm of Annex B).
-#[tactic(auto, unfolding(crate::specs::Words::state_255))]
+#[tactic(auto, unfolding(crate::specs::Grammar::state_255))]
 fn randomise(position: usize, value: u8) -> u8
     requires { position < 2 ^ 32 }
     ensures { result ≡ state_255 position value }

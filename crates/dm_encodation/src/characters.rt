@@ -9,7 +9,7 @@ use crate::letters::Letters;
 use crate::mode::Set;
 
 /// The shift, if any, and the value of a byte below 128.
-#[tactic(auto, unfolding(crate::specs::Characters::values_below_128))]
+#[tactic(auto, unfolding(crate::specs::Grammar::values_below_128))]
 pub(crate) fn spelled(letters: Letters, byte: u8) -> (Option<u8>, u8)
     requires { byte < 128 }
     ensures values { option_bytes result.0 ++ result.1 ∷ [] ≡ values_below_128 letters byte }
@@ -48,7 +48,7 @@ fn low_values_in(letters: Letters, byte: u8) -> u8
 }
 
 /// The number of values that spell a byte.
-#[tactic(auto, unfolding(crate::specs::Characters::values_of))]
+#[tactic(auto, unfolding(crate::specs::Grammar::values_of))]
 pub(crate) fn values_in(letters: Letters, byte: u8) -> u8
     ensures exact { result ≡ length (values_of letters byte) }
     ensures few { result ≤ 4 }

@@ -7,7 +7,7 @@ ghost use Rattle.dm_encodation.specs.Written.{words_after_text};
 use std::alloc::{AllocError, Allocator};
 
 // A pad other than the first, by its position (the 253-state algorithm of Annex B).
-#[tactic(auto, unfolding(crate::specs::Words::state_253))]
+#[tactic(auto, unfolding(crate::specs::Grammar::state_253))]
 fn later_pad(position: usize) -> u8
     requires { position < 2 ^ 32 }
     ensures { result ≡ state_253 position }

@@ -60,7 +60,7 @@ fn push_low<A: Allocator>(
 }
 
 // Takes the values of a byte.
-#[tactic(auto, unfolding(crate::specs::Characters::values_of))]
+#[tactic(auto, unfolding(crate::specs::Grammar::values_of))]
 fn push_byte<A: Allocator>(
     out: &mut Vec<u8, A>,
     letters: Letters,

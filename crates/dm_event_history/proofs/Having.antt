@@ -1,12 +1,23 @@
 -- What is so of all that a desk shows and stores, before a call and after it.
 use Rattle.std.proofs.Common.{arith, ◌≡◌, true, Some}
+use Rattle.dm_store.specs.declared.fuse.Kept.TheVariants.{New}
 use Rattle.dm_assembly_desk.specs.Documents.{Documents}
 use Rattle.dm_event_history.specs.declared.event.Event.{Event}
 use Rattle.dm_event_history.specs.declared.reply.Reply.{Reply}
 use Rattle.dm_event_history.specs.declared.stop.Stop.{Stop}
-use Rattle.dm_event_history.specs.Steps.{Stores, leaves_new, may_save, stop_of}
+use Rattle.dm_event_history.specs.declared.stop.Stop.TheVariants.{InSave, SaveFault, AfterLabels}
+use Rattle.dm_event_history.specs.declared.stop.Stop.TheVariants as stops
+use Rattle.dm_event_history.specs.Steps.{leaves_new, may_save, stop_of}
 use Rattle.dm_event_history.specs.Relay.{Actor, HasAll, Running, Failed, Down, Goods}
 use Rattle.dm_event_history.specs.Calls.{Answers, Calls, Course, Ending, Faults, LacksMemory, Looks, MayLackFirst, Restarts, Saves, ends}
+
+-- a save under this stop leaves the new content
+abbrev pub Stores : Stop → Type 0
+Stores stops.None = Unit {0}
+Stores (SaveFault New) = Unit {0}
+Stores (InSave New) = Unit {0}
+Stores (AfterLabels count) = Unit {0}
+Stores stop = ⊥
 
 pub has_map : (P Q : Documents → Type 0) → ((held : Documents) → P held → Q held) → (actor : Actor Documents) →
     HasAll P actor → HasAll Q actor

@@ -6,7 +6,11 @@ use Rattle.dm_encodation.specs.declared.scheme.Scheme.TheVariants.{Ascii}
 use Rattle.dm_encodation.specs.Written.{IsGreatestPrefix, need_of}
 use Rattle.dm_encodation.specs.Written as written
 use Rattle.dm_append_label.specs.Labels.{AreParts}
-use Rattle.dm_event_history.specs.Worked.{digits, digits_cut}
+use Rattle.dm_event_history.specs.Relay.{CutDocument}
+use Rattle.dm_event_history.specs.Worked.{digits}
+
+abbrev pub digits_cut : CutDocument
+digits_cut = record { bytes = digits; size = Side12; scheme = Ascii; parts = (49 ∷ 50 ∷ []) ∷ (51 ∷ 52 ∷ []) ∷ [] }
 
 -- two of the digits fill a label
 two_rising : IsGreatestPrefix Ascii 1 digits 2

@@ -10,8 +10,8 @@ use Rattle.dm_print_ledger.specs.Verdicts.{least, print_verdict}
 use Rattle.dm_print_ledger.specs.Ledger.{is_sound, LedgerView}
 use Rattle.dm_assembly_desk.specs.Documents.{Documents}
 use Rattle.dm_event_history.specs.declared.reply.Reply.TheVariants.{Printed}
-use Rattle.dm_event_history.specs.Worked.{digits, digits_cut}
-use Rattle.dm_event_history.proofs.WorkedParts.{are_rising_parts}
+use Rattle.dm_event_history.specs.Worked.{digits}
+use Rattle.dm_event_history.proofs.WorkedParts.{are_rising_parts, digits_cut}
 use Rattle.dm_event_history.specs.Relay.{Actor, Desk, Goods, Label, Relay, Used, with_desk, with_printer}
 use Rattle.dm_event_history.specs.Calls.{Ending, Saves, PrintComes}
 use Rattle.dm_event_history.specs.Steps.{DeskGoes, PrinterGoes}

@@ -100,14 +100,6 @@ IsStopping (AfterLabels count) = Unit {0}
 IsStopping stops.None = ⊥
 IsStopping (SaveFault kept) = ⊥
 
--- a save under this stop leaves the new content
-abbrev pub Stores : Stop → Type 0
-Stores stops.None = Unit {0}
-Stores (SaveFault New) = Unit {0}
-Stores (InSave New) = Unit {0}
-Stores (AfterLabels count) = Unit {0}
-Stores stop = ⊥
-
 -- ---- What one event does to a relay.
 
 -- ---- what is there

@@ -15,14 +15,11 @@ use Rattle.dm_event_history.specs.declared.event.Event.TheVariants.{Print, Scan,
 use Rattle.dm_event_history.specs.declared.reply.Reply.TheVariants.{Printed, Scanned, Document, AskRefused, Given, Taken, TakeRefused, Restarted, Stopped, Down, NoSuch}
 use Rattle.dm_event_history.specs.declared.stop.Stop.{Stop}
 use Rattle.dm_event_history.specs.declared.stop.Stop.TheVariants.{None, InSave, AfterLabels}
-use Rattle.dm_event_history.specs.Relay.{CutDocument, Relay, start}
+use Rattle.dm_event_history.specs.Relay.{Relay, start}
 use Rattle.dm_event_history.specs.Steps.{Said, said, Tells}
 
 abbrev pub digits : List ℕ
 digits = 49 ∷ 50 ∷ 51 ∷ 52 ∷ []
-
-abbrev pub digits_cut : CutDocument
-digits_cut = record { bytes = digits; size = Side12; scheme = Ascii; parts = (49 ∷ 50 ∷ []) ∷ (51 ∷ 52 ∷ []) ∷ [] }
 
 abbrev pub range : ℕ → ℕ → Range
 range first last = record { first = first; last = last }

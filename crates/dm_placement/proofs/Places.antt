@@ -8,8 +8,7 @@ use Rattle.std.proofs.lemmas.Nat.{mul-add-lt, mul-le, div-mul-add, mod-mul-add}
 use Rattle.dm_placement.specs.declared.shape.Cell.{Cell}
 use Rattle.dm_placement.specs.declared.shape.Shape.TheVariants.{Plain}
 use Rattle.dm_placement.specs.Placement.{cell_at, cell_from_anchor, shape_cells, place_of}
-use Rattle.dm_placement.specs.inner.Places.{AllIn}
-use Rattle.dm_placement.proofs.CellLists.{all_in_at, same_cell}
+use Rattle.dm_placement.proofs.CellLists.{all_in_at, same_cell, AllIn}
 
 -- a place fits sixteen bits
 pub place_fits : (n r c : ℕ) → n ≤ 120 → r < n → c < n → r * n + c < 2 ^ 16

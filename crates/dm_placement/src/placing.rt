@@ -12,7 +12,7 @@ use dm_check_blocks::Size;
 use std::alloc::{AllocError, Allocator};
 
 // A matrix in which the dark free cells are dark, and all other cells are light.
-#[tactic(auto, unfolding(crate::specs::Cells::dark_cells))]
+#[tactic(auto, unfolding(crate::specs::Placement::dark_cells))]
 fn blank<A: Allocator>(alloc: A, side: u16) -> Result<Matrix<A>, AllocError>
     requires { IsSideSound side }
     ensures { IfOk result (λ m. m ≡ with_dark (light_square side) (dark_cells side)) }

@@ -35,7 +35,7 @@ fn place_at(side: u16, row: u16, column: u16) -> u16
 // The cell that stands `up` rows above and `left` columns left of an anchor. What leaves the matrix at the top comes in
 // again at the bottom, and what leaves it at the left comes in again at the right.
 #[inline(always)]
-#[tactic(auto, unfolding(crate::specs::Cells::cell_from_anchor))]
+#[tactic(auto, unfolding(crate::specs::Placement::cell_from_anchor))]
 fn cell_from_anchor(side: u16, anchor: Cell, up: u16, left: u16) -> Cell
     requires side { IsSideSound side }
     requires anchor { MayBeAnchor side anchor }
@@ -98,7 +98,7 @@ pub(crate) fn places_inside(side: u16, anchor: Cell) -> [u16; 8]
 }
 
 /// Where bits 1 to 8 of a word stand, row by row.
-#[tactic(auto, unfolding(crate::specs::Cells::shape_cells))]
+#[tactic(auto, unfolding(crate::specs::Placement::shape_cells))]
 pub(crate) fn places_of(side: u16, shape: Shape) -> [u16; 8]
     requires side { IsSideSound side }
     requires fits { IsPlaceable side shape }

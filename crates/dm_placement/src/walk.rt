@@ -33,7 +33,7 @@ pub(crate) struct Walk {
 
 // Whether a cell is one of the two that no word has as its anchor, since the second corner shape stands there.
 #[inline(always)]
-#[tactic(auto, unfolding(crate::specs::Cells::is_left_out))]
+#[tactic(auto, unfolding(crate::specs::Placement::is_left_out))]
 fn is_left_out(side: u16, cell: Cell) -> bool
     requires { IsSideSound side }
     ensures { result ≡ is_left_out side cell }
@@ -44,7 +44,7 @@ fn is_left_out(side: u16, cell: Cell) -> bool
 
 // The corner shape that an upward sweep from a position begins with, if any.
 #[inline(always)]
-#[tactic(auto, unfolding(crate::specs::inner::Walk::corner_at))]
+#[tactic(auto, unfolding(crate::specs::inner::Places::corner_at))]
 fn corner_at(side: usize, row: usize, column: usize) -> Option<Shape>
     requires { IsSideSound side }
     ensures { option_to_list result ≡ corner_at side row column }
@@ -60,7 +60,7 @@ fn corner_at(side: usize, row: usize, column: usize) -> Option<Shape>
 
 // The word at a position of the walk, if any.
 #[inline(always)]
-#[tactic(auto, unfolding(crate::specs::inner::Walk::word_at))]
+#[tactic(auto, unfolding(crate::specs::inner::Places::word_at))]
 fn word_at(side: usize, row: usize, column: usize) -> Option<Shape>
     requires { IsSideSound side }
     ensures { option_to_list result ≡ word_at side row column }

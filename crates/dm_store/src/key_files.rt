@@ -46,7 +46,7 @@ fn byte_of(high: u8, low: u8) -> Option<u16>
 }
 
 // The key whose file has this name.
-#[tactic(auto, unfolding(crate::specs::Folder::key_name))]
+#[tactic(auto, unfolding(crate::specs::Disk::key_name))]
 pub(crate) fn key_of(name: &[u8]) -> Option<u16>
     ensures named { IfSome result (λ key. name.now ≡ key_name key) }
     ensures found { (key : ℕ) → key < 2 ^ 16 → name.now ≡ key_name key → result ≡ Some key }
@@ -104,7 +104,7 @@ fn digits_of(byte: u16) -> (char, char)
 }
 
 // The path of a key's file.
-#[tactic(auto, unfolding(crate::specs::Folder::key_name))]
+#[tactic(auto, unfolding(crate::specs::Disk::key_name))]
 pub(crate) fn path_of<A: Allocator>(
     alloc: A,
     folder: &str,

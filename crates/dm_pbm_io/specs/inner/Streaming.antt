@@ -115,12 +115,3 @@ HasNumber (InWidth n) = n ≤ 1025
 HasNumber (BeforeHeight w) = w ≤ 1025
 HasNumber (InHeight w n) = (w ≤ 1025) × (n ≤ 1025)
 HasNumber (Done w h) = (w ≤ 1025) × (h ≤ 1025)
-
--- the header has not ended at the state
-abbrev pub IsLive : HeaderState → Type 0
-IsLive AfterMagic = Unit {0}
-IsLive BeforeWidth = Unit {0}
-IsLive (InWidth n) = Unit {0}
-IsLive (BeforeHeight w) = Unit {0}
-IsLive (InHeight w n) = Unit {0}
-IsLive (Done w h) = ⊥

@@ -39,11 +39,6 @@ IsPlaceable n (Plain p) = MayBeAnchor n p
 IsPlaceable n CornerOne = Unit {0}
 IsPlaceable n CornerTwo = Unit {0}
 
--- each of the cells lies in the matrix
-abbrev pub AllIn : ℕ → List Cell → Type 0
-AllIn n [] = Unit {0}
-AllIn n (p ∷ ps) = IsIn n p × AllIn n ps
-
 -- ---- The walk over the mapping matrix (ISO/IEC 16022:2006, Annex F): it passes over a position that lies outside of
 -- the matrix, and over the two cells that are left out for the second corner shape. It counts rows and columns from 2
 -- above and left of the matrix, since it never goes further out on those sides.
