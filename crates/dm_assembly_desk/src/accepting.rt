@@ -13,8 +13,7 @@ use std::alloc::Allocator;
 
 impl<S: StoreSet, A: Allocator + Copy> Desk<S, A> {
     ghost use Rattle.dm_assembly_desk.specs.Adding.{Accepts, AcceptsGrid};
-    ghost use Rattle.dm_assembly_desk.specs.Documents.{KeepsPages};
-    ghost use Rattle.dm_assembly_desk.specs.Documents.{IsInOrder};
+    ghost use Rattle.dm_assembly_desk.specs.Documents.{KeepsPages, IsInOrder};
 
     /// Opens a scanned label, from any grid, and holds and saves its page where it was not held.
     ///

@@ -46,8 +46,7 @@ impl From<ReplaceFault> for AddFault {
 }
 
 impl<S: StoreSet, A: Allocator + Copy> Desk<S, A> {
-    ghost use Rattle.dm_assembly_desk.specs.Adding.{Adds};
-    ghost use Rattle.dm_assembly_desk.specs.Adding.{Ends};
+    ghost use Rattle.dm_assembly_desk.specs.Adding.{Adds, Ends};
     ghost use Rattle.dm_assembly_desk.specs.Documents.{IsInOrder};
 
     /// Answers the pages of a document, and holds and saves at once those that were not held. Where that fails, what

@@ -32,7 +32,6 @@ mod looking;
 mod merging;
 mod moving;
 mod opening;
-mod page_bytes;
 mod pages;
 mod reading;
 mod reply;

@@ -1,7 +1,7 @@
 //! The text of a symbol's data words.
 
-ghost use Rattle.std.specs.Prelude.{◌≡◌, ◌≢◌, ◌+◌, ◌-◌, ◌*◌, ◌≤◌, ◌++◌};
-ghost use Rattle.std.specs.Prelude.{ℕ, List, length, drop, Ok, IfOk, IfErr, OnOk, IsErrOf};
+ghost use Rattle.std.specs.Prelude.{◌≡◌, ◌≢◌, ◌+◌, ◌-◌, ◌*◌, ◌≤◌, ◌++◌, ℕ, List, length, drop, Ok, IfOk, IfErr, OnOk};
+ghost use Rattle.std.specs.Prelude.{IsErrOf};
 ghost use Rattle.dm_encodation.specs.Grammar.{ReadsOnly, StuckOnly};
 ghost use Rattle.dm_encodation.specs.inner.Counting.{ArePairs, digits_from};
 ghost use Rattle.dm_encodation.specs.inner.Reading.{reading};

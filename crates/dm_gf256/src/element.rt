@@ -13,9 +13,7 @@ pub struct Gf(pub u8);
 impl Gf {
     ghost use Rattle.std.specs.Prelude.{◌≡◌, ◌<◌};
     ghost use Rattle.std.specs.Int.Bits.{bit_xor};
-    ghost use Rattle.dm_gf256.specs.Field.{product, power};
-    ghost use Rattle.dm_gf256.specs.Field.{value};
-    ghost use Rattle.dm_gf256.specs.Field.{numbers};
+    ghost use Rattle.dm_gf256.specs.Field.{product, power, value, numbers};
 
     /// The sum, which is the difference too.
     pub fn add(self, other: Gf) -> Gf

@@ -251,8 +251,7 @@ pub fn write_image<W: Write, A: Allocator>(
 impl<A: Allocator> Image<A> {
     ghost use Rattle.std.specs.Prelude.{◌≡◌, ◌*◌, true, length, OnOk, OnErr};
     ghost use Rattle.std.specs.Io.KnownBytes.{Appends};
-    ghost use Rattle.dm_pbm_io.specs.Image.{picture};
-    ghost use Rattle.dm_pbm_io.specs.Image.{written};
+    ghost use Rattle.dm_pbm_io.specs.Image.{picture, written};
     ghost use Rattle.relay_streams.specs.Streams.{AppendsPart, StaysFailed};
 
     /// Writes the image in its own form. No memory is taken.

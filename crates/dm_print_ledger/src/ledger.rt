@@ -22,8 +22,7 @@ pub(crate) struct Ledger {
 
 impl Model for Ledger {
     ghost use Rattle.std.specs.Prelude.{IsTrue};
-    ghost use Rattle.dm_print_ledger.specs.Ledger.{is_sound};
-    ghost use Rattle.dm_print_ledger.specs.Ledger.{LedgerView};
+    ghost use Rattle.dm_print_ledger.specs.Ledger.{is_sound, LedgerView};
 
     ghost Value = { LedgerView };
 
@@ -57,10 +56,8 @@ fn copy_of(givers: &[Giver]) -> ArrayVec<Giver, MOST_GIVERS>
 impl Ledger {
     ghost use Rattle.std.specs.Prelude.{◌<◌, true, Ok, IfSome, IfNone, IsTrue, IfOk};
     ghost use Rattle.std.specs.List.{All};
-    ghost use Rattle.dm_print_ledger.specs.Ledger.{is_sound};
-    ghost use Rattle.dm_print_ledger.specs.Verdicts.{least};
-    ghost use Rattle.dm_print_ledger.specs.Ledger.{free_count, is_range as test_of_range};
-    ghost use Rattle.dm_print_ledger.specs.Verdicts.{print_verdict, give_verdict, take_verdict, ticket_of};
+    ghost use Rattle.dm_print_ledger.specs.Ledger.{is_sound, free_count, is_range as test_of_range};
+    ghost use Rattle.dm_print_ledger.specs.Verdicts.{least, print_verdict, give_verdict, take_verdict, ticket_of};
 
     /// How many identifications are free.
     pub(crate) fn left(&self) -> u32

@@ -34,9 +34,8 @@ impl Model for Shown {
 
 impl Shown {
     ghost use Rattle.std.specs.Prelude.{Ok, IsTrue, IfOk};
-    ghost use Rattle.dm_print_ledger.specs.Ledger.{is_sound};
+    ghost use Rattle.dm_print_ledger.specs.Ledger.{is_sound, free_count, is_range};
     ghost use Rattle.dm_print_ledger.specs.Verdicts.{LoadsLedger, numbered, show_verdict};
-    ghost use Rattle.dm_print_ledger.specs.Ledger.{free_count, is_range};
     ghost use Rattle.std.specs.List.{All};
 
     /// What the ledger says that the store holds. It takes no memory but the store's.

@@ -154,3 +154,13 @@ abbrev pub save_plan_of : NextSave → SavePlan
 save_plan_of Fine = SavesFine
 save_plan_of FaultOld = FaultOld
 save_plan_of FaultNew = FaultNew
+
+-- what contracts see of a store or a set in memory that holds this, by its settings
+abbrev pub in_memory : {X : Type 0} → X → Bool → NextSave → SavedIn X
+in_memory held fails_loads next = record {
+  content = held;
+  is_honest = true;
+  may_lack_memory = true;
+  load_plan = load_plan_of fails_loads;
+  save_plan = save_plan_of next;
+}

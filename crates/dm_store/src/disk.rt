@@ -20,16 +20,7 @@ pub enum DiskFault {
 /// The calls of a file system that a save needs. Each may fail. Once the machine has stopped, within a call or between
 /// two, each later call fails and changes nothing.
 pub trait Disk: Drop {
-    ghost use Rattle.dm_store.specs.Disk.{
-      DiskState,
-      KeepsAll,
-      Reads,
-      Writes,
-      Syncs,
-      Renames,
-      Removes,
-      SyncsEntry,
-    };
+    ghost use Rattle.dm_store.specs.Disk.{DiskState, KeepsAll, Reads, Writes, Syncs, Renames, Removes, SyncsEntry};
 
     /// What the bytes that a read gives are allocated in.
     type Memory: Allocator;
@@ -92,8 +83,7 @@ pub trait Disk: Drop {
 pub trait Folders: Disk {
     ghost use Rattle.std.specs.Prelude.{◌+◌, IfOk, take};
     ghost use Rattle.std.specs.FinMap as map;
-    ghost use Rattle.dm_store.specs.Disk.{KeepsAll};
-    ghost use Rattle.dm_store.specs.Disk.{contents_in, SettlesFolder};
+    ghost use Rattle.dm_store.specs.Disk.{KeepsAll, contents_in, SettlesFolder};
 
     /// Makes the folder, if it isn't there, and brings its entry in the folder above it to the disk in either case.
     /// What is said of the files in it rests on that.

@@ -105,9 +105,8 @@ fn load_key<D: Disk, A: Allocator + Copy>(
 }
 
 impl<D: Folders, A: Allocator + Copy> StoreSet for Filed<D, A> {
-    ghost use Rattle.dm_store.specs.Saved.{ListsKeys, LoadsKey, SavesKey, RemovesKey};
+    ghost use Rattle.dm_store.specs.Saved.{ListsKeys, LoadsKey, SavesKey, RemovesKey, MayLackMemory};
     ghost use Rattle.dm_store.specs.Disk.{set_in};
-    ghost use Rattle.dm_store.specs.Saved.{MayLackMemory};
     ghost use Rattle.std.specs.Prelude.{Some, None};
     ghost use Rattle.std.specs.FinMap as map;
 

@@ -82,8 +82,7 @@ pub(crate) fn load_settled<D: Disk>(
 
 impl<D: Disk, A: Allocator + Copy> Store for Filed<D, A> {
     ghost use Rattle.dm_store.specs.Saved.{Loads, Replaces, MayLackMemory, SavesOpen, HeldAfterFault};
-    ghost use Rattle.dm_store.specs.Disk.{IsSettled, Content};
-    ghost use Rattle.dm_store.specs.Disk.{saved_under};
+    ghost use Rattle.dm_store.specs.Disk.{IsSettled, Content, saved_under};
 
     type Memory = D::Memory;
 

@@ -154,8 +154,7 @@ impl<S: Store> Store for Fuse<S> {
 }
 
 impl<S: StoreSet> StoreSet for Fuse<S> {
-    ghost use Rattle.dm_store.specs.Saved.{MayLackMemory};
-    ghost use Rattle.dm_store.specs.Saved.{ListsKeys, LoadsKey, SavesKey, RemovesKey};
+    ghost use Rattle.dm_store.specs.Saved.{MayLackMemory, ListsKeys, LoadsKey, SavesKey, RemovesKey};
     ghost use Rattle.dm_store.specs.Fused.{with_open_plans, Goes};
 
     type Memory = S::Memory;

@@ -1,19 +1,6 @@
 //! The names of the files of a set in a folder.
 
-ghost use Rattle.std.specs.Prelude.{
-  ◌≡◌,
-  ◌<◌,
-  ◌^◌,
-  ◌/◌,
-  ◌%◌,
-  ◌∷◌,
-  [],
-  ℕ,
-  Some,
-  IfOk,
-  IfSome,
-  false,
-};
+ghost use Rattle.std.specs.Prelude.{◌≡◌, ◌<◌, ◌^◌, ◌/◌, ◌%◌, ◌∷◌, [], ℕ, Some, IfOk, IfSome, false};
 ghost use Rattle.std.specs.Fmt.{digit_glyph};
 ghost use Rattle.std.specs.String.{string_bytes};
 ghost use Rattle.dm_store.specs.Disk.{key_name, key_path, path_in};
@@ -32,19 +19,6 @@ fn digit_of(byte: u8) -> Option<u16>
     }
 }
 
-// The byte whose two digits these are.
-fn byte_of(high: u8, low: u8) -> Option<u16>
-    ensures named { IfSome result (λ byte.
-        (byte < 256) × ((high ≡ digit_glyph false (byte / 16)) × (low ≡ digit_glyph false (byte % 16)))) }
-    ensures found { (byte : ℕ) → byte < 256 → high ≡ digit_glyph false (byte / 16)
-        → low ≡ digit_glyph false (byte % 16) → result ≡ Some byte }
-{
-    match (digit_of(high), digit_of(low)) {
-        (Some(high), Some(low)) => Some(high * 16 + low),
-        _ => None,
-    }
-}
-
 // The key whose file has this name.
 #[tactic(auto, unfolding(crate::specs::Disk::key_name))]
 pub(crate) fn key_of(name: &[u8]) -> Option<u16>
@@ -54,10 +28,9 @@ pub(crate) fn key_of(name: &[u8]) -> Option<u16>
     let [a, b, c, d] = name else {
         return None;
     };
-    match (byte_of(*a, *b), byte_of(*c, *d)) {
-        (Some(high), Some(low)) => Some(high * 256 + low),
-        _ => None,
-    }
+    let high = digit_of(*a)? * 16 + digit_of(*b)?;
+    let low = digit_of(*c)? * 16 + digit_of(*d)?;
+    Some(high * 256 + low)
 }
 
 // The lower-case hexadecimal digit of a value.
@@ -74,37 +47,8 @@ fn glyph_of(digit: u16) -> char
     })
 }
 
-// The path of the name of these letters in a folder.
-#[tactic(auto, using(std::proofs::lemmas::Str::encode_ascii))]
-fn path_with<A: Allocator>(
-    alloc: A,
-    folder: &str,
-    high: (char, char),
-    low: (char, char),
-) -> Result<String<A>, AllocError>
-    requires { (high.0 < 128) × ((high.1 < 128) × ((low.0 < 128) × (low.1 < 128))) }
-    ensures { IfOk result (λ path.
-        string_bytes path ≡ path_in folder.now (high.0 ∷ high.1 ∷ low.0 ∷ low.1 ∷ [])) }
-{
-    let mut path = format!(in alloc; "{folder}/")?;
-    path.push(high.0)?;
-    path.push(high.1)?;
-    path.push(low.0)?;
-    path.push(low.1)?;
-    Ok(path)
-}
-
-// The two digits of a byte.
-fn digits_of(byte: u16) -> (char, char)
-    requires { byte < 256 }
-    ensures high { (result.0 ≡ digit_glyph false (byte / 16)) × (result.0 < 128) }
-    ensures low { (result.1 ≡ digit_glyph false (byte % 16)) × (result.1 < 128) }
-{
-    (glyph_of(byte / 16), glyph_of(byte % 16))
-}
-
 // The path of a key's file.
-#[tactic(auto, unfolding(crate::specs::Disk::key_name))]
+#[tactic(auto, using(std::proofs::lemmas::Str::encode_ascii), unfolding(crate::specs::Disk::key_name))]
 pub(crate) fn path_of<A: Allocator>(
     alloc: A,
     folder: &str,
@@ -112,5 +56,10 @@ pub(crate) fn path_of<A: Allocator>(
 ) -> Result<String<A>, AllocError>
     ensures { IfOk result (λ path. string_bytes path ≡ key_path folder.now key) }
 {
-    path_with(alloc, folder, digits_of(key / 256), digits_of(key % 256))
+    let mut path = format!(in alloc; "{folder}/")?;
+    path.push(glyph_of(key / 256 / 16))?;
+    path.push(glyph_of(key / 256 % 16))?;
+    path.push(glyph_of(key % 256 / 16))?;
+    path.push(glyph_of(key % 256 % 16))?;
+    Ok(path)
 }

@@ -1,8 +1,7 @@
 //! A map from keys, with contracts over the finite map that it holds.
 
-ghost use Rattle.std.specs.Prelude.{◌≡◌, ◌↔◌, take, None, IsTrue, IfOk, OnOk, OnErr};
+ghost use Rattle.std.specs.Prelude.{◌≡◌, take, None, IfOk, OnOk, OnErr};
 ghost use Rattle.std.specs.Option.{option_copied};
-ghost use Rattle.std.specs.Ordering.{nat_cmp};
 ghost use Rattle.std.specs.FinMap as map;
 
 use std::alloc::{AllocError, Allocator, Global};
@@ -28,10 +27,6 @@ impl<V, A: Allocator + Copy> Model for KeyMap<V, A> {
 }
 
 impl<V, A: Allocator + Copy> KeyMap<V, A> {
-    ghost use Rattle.std.specs.Borrow.{sem};
-    ghost use Rattle.std.specs.Option.{option_copied_mut};
-    ghost use Rattle.dm_store.specs.Lending.{LendsValue};
-
     /// A map that holds nothing. It takes no memory.
     pub fn new(alloc: A) -> Self
         ensures { result ≡ map.empty }
@@ -48,26 +43,11 @@ impl<V, A: Allocator + Copy> KeyMap<V, A> {
         self.tree.len()
     }
 
-    /// Whether there is no key.
-    pub fn is_empty(&self) -> bool
-        ensures { IsTrue result ↔ (map.len self.now ≡ 0) }
-    {
-        self.len() == 0
-    }
-
     /// The value at a key.
     pub fn get(&self, key: u16) -> Option<&V>
         ensures { option_copied result ≡ map.get self.now key }
     {
         self.tree.get(&key)
-    }
-
-    /// The value at a key, lent to be changed.
-    pub fn get_mut(&mut self, key: u16) -> Option<&mut V>
-        ensures* writes_back { sem 𝓛 (LendsValue V.row A.row A.Allocator self.entry key result) }
-        ensures value { option_copied_mut result ≡ map.get self.old key }
-    {
-        self.tree.get_mut(&key)
     }
 
     /// The entries, by rising key.
@@ -84,7 +64,14 @@ impl<V, A: Allocator + Copy> KeyMap<V, A> {
     pub fn first_keys(&self, alloc: A, count: usize) -> Result<Vec<u16, A>, AllocError>
         ensures { IfOk result (λ keys. keys.items ≡ take count (map.keys self.now)) }
     {
-        first_keys(alloc, &self.tree, count)
+        let mut keys = Vec::new(alloc);
+        for (key, _) in &self.tree {
+            if keys.len() == count {
+                return Ok(keys);
+            }
+            keys.push(*key)?;
+        }
+        Ok(keys)
     }
 
     /// Puts a value at a key, and gives the one that was there. It takes memory only where the key is new.
@@ -109,23 +96,4 @@ impl<V, A: Allocator + Copy> KeyMap<V, A> {
     {
         self.tree.remove(&key)
     }
-}
-
-// The first `count` keys of a tree.
-fn first_keys<V, A: Allocator + Copy>(
-    alloc: A,
-    tree: &BTreeMap<u16, V, A>,
-    count: usize,
-) -> Result<Vec<u16, A>, AllocError>
-    ensures { IfOk result (λ keys.
-        keys.items ≡ take count (map.keys (map.from_entries {R = nat_cmp} tree.now.entries))) }
-{
-    let mut keys = Vec::new(alloc);
-    for (key, _) in tree {
-        if keys.len() == count {
-            return Ok(keys);
-        }
-        keys.push(*key)?;
-    }
-    Ok(keys)
 }

@@ -42,7 +42,7 @@ pub use disk::{Disk, DiskFault, Folders};
 pub use filed::{FileSet, FileStore, Filed};
 pub use fuse::{Fuse, FuseSet, FuseStore, Kept};
 pub use key_map::KeyMap;
-pub use mem_set::MemSet;
+pub use mem_set::{MemSet, SavedBytes};
 pub use mem_store::{MemStore, NextSave};
 pub use real_disk::RealDisk;
 pub use set::{RemoveFault, StoreSet};

@@ -1,6 +1,6 @@
 //! A set of stores in memory.
 
-ghost use Rattle.std.specs.Prelude.{◌≡◌, ◌+◌, ◌↔◌, true, option_map, IsErrOf, IsSome};
+ghost use Rattle.std.specs.Prelude.{◌≡◌, ◌+◌, ◌↔◌, false, option_map, IsErrOf, IsSome};
 ghost use Rattle.std.specs.FinMap as map;
 
 use crate::key_map::KeyMap;
@@ -11,9 +11,9 @@ use std::alloc::{AllocError, Allocator, Global};
 use std::marker::Model;
 use std::mem;
 
-// Saved bytes, which contracts see as their list.
+/// Saved bytes, which contracts see as their list.
 #[derive(Drop)]
-struct SavedBytes<A: Allocator> {
+pub struct SavedBytes<A: Allocator = Global> {
     bytes: Vec<u8, A>,
 }
 
@@ -26,13 +26,15 @@ impl<A: Allocator> Model for SavedBytes<A> {
 }
 
 impl<A: Allocator> SavedBytes<A> {
-    fn new(bytes: Vec<u8, A>) -> Self
+    /// These bytes.
+    pub fn new(bytes: Vec<u8, A>) -> Self
         ensures { result ≡ bytes.items }
     {
         SavedBytes { bytes }
     }
 
-    fn as_slice(&self) -> &[u8]
+    /// The bytes, lent.
+    pub fn as_slice(&self) -> &[u8]
         ensures { result.now ≡ self.now }
     {
         self.bytes.as_slice()
@@ -49,37 +51,22 @@ pub struct MemSet<A: Allocator + Copy = Global> {
 }
 
 impl<A: Allocator + Copy> Model for MemSet<A> {
-    ghost use Rattle.std.specs.Prelude.{true};
-    ghost use Rattle.dm_store.specs.Saved.{SavedSet};
+    ghost use Rattle.dm_store.specs.Saved.{SavedSet, in_memory};
     ghost use Rattle.dm_store.specs.Codes.{saved_set_code};
-    ghost use Rattle.dm_store.specs.Saved.{load_plan_of, save_plan_of};
 
     ghost Value = { SavedSet };
 
     ghost coded = { saved_set_code };
 
-    ghost view = { λ m. record {
-      content = m.held;
-      is_honest = true;
-      may_lack_memory = true;
-      load_plan = load_plan_of m.fails_loads;
-      save_plan = save_plan_of m.next_save;
-    } };
+    ghost view = { λ m. in_memory m.held m.fails_loads m.next_save };
 }
 
 impl<A: Allocator + Copy> MemSet<A> {
-    ghost use Rattle.dm_store.specs.Saved.{LoadsFine, SavesFine};
-    ghost use Rattle.dm_store.specs.Saved.{load_plan_of, save_plan_of};
+    ghost use Rattle.dm_store.specs.Saved.{in_memory, load_plan_of, save_plan_of};
 
     /// A set that holds nothing. It takes no memory.
     pub fn new(alloc: A) -> MemSet<A>
-        ensures { result ≡ record {
-          content = map.empty;
-          is_honest = true;
-          may_lack_memory = true;
-          load_plan = LoadsFine;
-          save_plan = SavesFine;
-        } }
+        ensures { result ≡ in_memory map.empty false NextSave.Fine }
     {
         MemSet {
             alloc,
@@ -116,9 +103,8 @@ impl<A: Allocator + Copy> MemSet<A> {
 }
 
 impl<A: Allocator + Copy> StoreSet for MemSet<A> {
-    ghost use Rattle.dm_store.specs.Saved.{LoadsOpen};
+    ghost use Rattle.dm_store.specs.Saved.{LoadsOpen, ListsKeys, LoadsKey, RemovesKey};
     ghost use Rattle.std.specs.Prelude.{◌≢◌, Err};
-    ghost use Rattle.dm_store.specs.Saved.{ListsKeys, LoadsKey, RemovesKey};
 
     type Memory = A;
 

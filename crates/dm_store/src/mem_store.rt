@@ -1,6 +1,6 @@
 //! A store in memory.
 
-ghost use Rattle.std.specs.Prelude.{◌≡◌, ◌+◌, ◌↔◌, true, None, Some, option_map, take, IfOk, IsErrOf, IsSome};
+ghost use Rattle.std.specs.Prelude.{◌≡◌, ◌+◌, ◌↔◌, false, None, Some, option_map, take, IfOk, IsErrOf, IsSome};
 
 use crate::store::{LoadFault, ReplaceFault, Store};
 use std::alloc::{AllocError, Allocator, Global};
@@ -29,37 +29,23 @@ pub struct MemStore<A: Allocator + Copy = Global> {
 }
 
 impl<A: Allocator + Copy> Model for MemStore<A> {
-    ghost use Rattle.std.specs.Prelude.{true, option_map};
-    ghost use Rattle.dm_store.specs.Saved.{Saved};
+    ghost use Rattle.std.specs.Prelude.{option_map};
+    ghost use Rattle.dm_store.specs.Saved.{Saved, in_memory};
     ghost use Rattle.dm_store.specs.Codes.{saved_code};
-    ghost use Rattle.dm_store.specs.Saved.{load_plan_of, save_plan_of};
 
     ghost Value = { Saved };
 
     ghost coded = { saved_code };
 
-    ghost view = { λ m. record {
-      content = option_map (λ bytes. bytes.items) m.held;
-      is_honest = true;
-      may_lack_memory = true;
-      load_plan = load_plan_of m.fails_loads;
-      save_plan = save_plan_of m.next_save;
-    } };
+    ghost view = { λ m. in_memory (option_map (λ bytes. bytes.items) m.held) m.fails_loads m.next_save };
 }
 
 impl<A: Allocator + Copy> MemStore<A> {
-    ghost use Rattle.dm_store.specs.Saved.{LoadsFine, SavesFine};
-    ghost use Rattle.dm_store.specs.Saved.{load_plan_of, save_plan_of};
+    ghost use Rattle.dm_store.specs.Saved.{in_memory, load_plan_of, save_plan_of};
 
     /// A store that holds nothing. It takes no memory.
     pub fn new(alloc: A) -> MemStore<A>
-        ensures { result ≡ record {
-          content = None;
-          is_honest = true;
-          may_lack_memory = true;
-          load_plan = LoadsFine;
-          save_plan = SavesFine;
-        } }
+        ensures { result ≡ in_memory None false NextSave.Fine }
     {
         MemStore {
             alloc,
@@ -71,13 +57,7 @@ impl<A: Allocator + Copy> MemStore<A> {
 
     /// A store that holds these bytes. It takes no memory.
     pub fn with(alloc: A, bytes: Vec<u8, A>) -> MemStore<A>
-        ensures { result ≡ record {
-          content = Some bytes.items;
-          is_honest = true;
-          may_lack_memory = true;
-          load_plan = LoadsFine;
-          save_plan = SavesFine;
-        } }
+        ensures { result ≡ in_memory (Some bytes.items) false NextSave.Fine }
     {
         MemStore {
             alloc,

@@ -19,8 +19,7 @@ pub enum RemoveFault {
 
 /// A place for one list of bytes under each key.
 pub trait StoreSet: Drop {
-    ghost use Rattle.dm_store.specs.Saved.{MayLackMemory};
-    ghost use Rattle.dm_store.specs.Saved.{SavedSet, ListsKeys, LoadsKey, SavesKey, RemovesKey};
+    ghost use Rattle.dm_store.specs.Saved.{MayLackMemory, SavedSet, ListsKeys, LoadsKey, SavesKey, RemovesKey};
 
     /// What the keys and the bytes that a load gives are allocated in.
     type Memory: Allocator;

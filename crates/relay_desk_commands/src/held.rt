@@ -9,17 +9,8 @@ ghost use Rattle.dm_assembly_desk.specs.Opening.{IsFirstFrom};
 ghost use Rattle.dm_assembly_desk.specs.declared.fault.MoveFault.{MoveFault};
 ghost use Rattle.relay_shared.specs.Telling.{Puts};
 ghost use Rattle.relay_desk_commands.specs.Desks.{desk_at};
-ghost use Rattle.relay_desk_commands.specs.Held.{
-  EndsHeld,
-  SeesJoint,
-  SeesNumber,
-  TellsAll,
-  TellsHeld,
-  TellsOne,
-  documents_in,
-  joint_line,
-  seen_line,
-};
+ghost use Rattle.relay_desk_commands.specs.Held.{EndsHeld, SeesJoint, SeesNumber, TellsAll, TellsHeld, TellsOne};
+ghost use Rattle.relay_desk_commands.specs.Held.{documents_in, joint_line, seen_line};
 ghost use Rattle.relay_desk_commands.specs.inner.Listing.{CutsList, HasCount, WritesList};
 
 use crate::file_id::id_of;

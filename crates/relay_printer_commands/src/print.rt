@@ -3,14 +3,8 @@
 ghost use Rattle.std.specs.Prelude.{OnOk, IfErr};
 ghost use Rattle.std.specs.Io.KnownBytes.{Appends};
 ghost use Rattle.relay_streams.specs.Streams.{AppendsPart, TakesPart};
-ghost use Rattle.relay_printer_commands.specs.Print.{
-  EndsPrint,
-  PrintsDocument,
-  PrintsLabels,
-  PrintsLineFirst,
-  TellsPrint,
-  images_of,
-};
+ghost use Rattle.relay_printer_commands.specs.Print.{EndsPrint, PrintsDocument, PrintsLabels, PrintsLineFirst};
+ghost use Rattle.relay_printer_commands.specs.Print.{TellsPrint, images_of};
 ghost use Rattle.relay_printer_commands.specs.Printers.{ledger_at};
 ghost use Rattle.relay_printer_commands.specs.inner.Images.{LosesImages};
 ghost use Rattle.relay_shared.specs.PrinterLines.{printed_line};

@@ -1,33 +1,13 @@
 //! The text of a ticket, in its two forms: twenty hexadecimal digits, those of its ten bytes; or the check form, 24
 //! digits in groups of four, joined by hyphens, those of the ten bytes and of two check words.
 
-ghost use Rattle.std.specs.Prelude.{
-  ◌≡◌,
-  ◌≢◌,
-  ◌+◌,
-  ◌++◌,
-  ◌*◌,
-  ◌/◌,
-  ◌<◌,
-  ◌↔◌,
-  ℕ,
-  List,
-  length,
-  slice_index,
-  IsTrue,
-  MatchOption,
-};
+ghost use Rattle.std.specs.Prelude.{◌≡◌, ◌≢◌, ◌+◌, ◌++◌, ◌*◌, ◌/◌, ◌<◌, ◌↔◌, ℕ, List, length, slice_index, IsTrue};
+ghost use Rattle.std.specs.Prelude.{MatchOption};
 ghost use Rattle.std.specs.List.{All};
 ghost use Rattle.dm_print_ledger.specs.Ledger.{AreOfTicket, ticket_bytes};
 ghost use Rattle.relay_shared.specs.TicketLines.{grouped};
-ghost use Rattle.relay_printer_commands.specs.Tickets.{
-  HasTicket,
-  IsBareText,
-  IsCheckText,
-  IsChecked,
-  IsGroupedText,
-  IsTextOf,
-};
+ghost use Rattle.relay_printer_commands.specs.Tickets.{HasTicket, IsBareText, IsCheckText, IsChecked, IsGroupedText};
+ghost use Rattle.relay_printer_commands.specs.Tickets.{IsTextOf};
 
 use dm_check_blocks::checks_of;
 use dm_print_ledger::Ticket;

@@ -1,14 +1,8 @@
 //! The lines of what a desk holds. They take no memory.
 
 ghost use Rattle.std.specs.Prelude.{◌≡◌, ◌<◌, ◌≤◌, ◌+◌, ◌++◌, length};
-ghost use Rattle.relay_shared.specs.HeldLines.{
-  held_line,
-  held_word,
-  missing_page,
-  missing_pages,
-  unsound_joint_line,
-  unsound_line,
-};
+ghost use Rattle.relay_shared.specs.HeldLines.{held_line, held_word, missing_page, missing_pages, unsound_joint_line};
+ghost use Rattle.relay_shared.specs.HeldLines.{unsound_line};
 ghost use Rattle.relay_shared.specs.Telling.{Puts};
 
 use crate::desk_lines::mask_digits;

@@ -1,13 +1,7 @@
 //! The lines that the commands of printers write. They take no memory.
 
 ghost use Rattle.std.specs.Prelude.{◌≡◌};
-ghost use Rattle.relay_shared.specs.PrinterLines.{
-  id_text,
-  left_line,
-  printed_line,
-  taken_line,
-  ticket_line,
-};
+ghost use Rattle.relay_shared.specs.PrinterLines.{id_text, left_line, printed_line, taken_line, ticket_line};
 ghost use Rattle.relay_shared.specs.Telling.{Puts};
 
 use dm_append_label::FileId;

@@ -66,8 +66,7 @@ impl<W: Write> Output<W> {
     ghost use Rattle.std.specs.Prelude.{◌≡◌, true, false, OnOk, OnErr};
     ghost use Rattle.std.specs.List.{flat_map};
     ghost use Rattle.std.specs.Io.KnownBytes.{Appends};
-    ghost use Rattle.relay_streams.specs.Streams.{refused_line};
-    ghost use Rattle.relay_streams.specs.Streams.{AppendsPart, StaysFailed};
+    ghost use Rattle.relay_streams.specs.Streams.{refused_line, AppendsPart, StaysFailed};
 
     /// The writer, to which no write has failed.
     pub fn new(writer: W) -> Self

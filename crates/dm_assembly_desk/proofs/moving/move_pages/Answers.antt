@@ -3,7 +3,7 @@ use Rattle.std.proofs.Common.{◌≡◌, ◌∙◌, ◌+◌, List, ℕ, take, So
 use Rattle.std.specs.Prelude.{IsTrue, option_map}
 use Rattle.std.specs.FinMap.{keys as map_keys, entries as map_entries}
 use Rattle.std.proofs.lemmas.Result.{err_from_is_err_and}
-use Rattle.dm_store.specs.Saved.{Saved, Replaces, SavedSet}
+use Rattle.dm_store.specs.Saved.{Saved, Replaces, SavedSet, MayLackMemory}
 use Rattle.dm_assembly_desk.specs.Opening.{Moves, early}
 use Rattle.dm_assembly_desk.specs.inner.Reading.{lacking, WritesAll}
 use Rattle.dm_assembly_desk.specs.declared.fault.MoveFault.{MoveFault}
@@ -63,7 +63,8 @@ returns-in_err-keys g c =
     ends_so c.from_residual-in_err-keys.result answered.0 _ answered.1 answered.2
     (early (no_keys (g.O.Store.state c.args.old.now) (g.S.StoreSet.state c.args.set.now) c.deref.result.now loaded c.in_ok-count.count c.in_ok-count.entries.now
     c.in_ok-count.ensures.found c.if-count-eq0.false c.in_err-keys.field-0.0
-    (λ e. c.in_err-keys.ensures.lists.device (ap Err e))) c.load.ensures.loads.same c.keys.ensures.lists.same)
+    (λ e. c.in_err-keys.ensures.lists.device (ap Err e))
+    (λ e. c.in_err-keys.ensures.lists.memory (ap Err e))) c.load.ensures.loads.same c.keys.ensures.lists.same)
 
 pub returns-in_err-written : goal.returns-in_err-written
 returns-in_err-written g c =
@@ -110,7 +111,9 @@ returns-in_err-replace g c =
     let answered = err_from_is_err_and c.from_residual-in_err-replace.result c.from_residual-in_err-replace.ensures.1 in
     ends_so c.from_residual-in_err-replace.result answered.0 _ answered.1 answered.2
     (ended old set c.deref.result.now loaded c.in_ok-count.count c.in_ok-count.entries.now reads c.if-count-eq0.false
-    ks known c.in_ok-written.written after written (Err c.in_err-replace.field-0.0) last replaced)
+    ks known c.in_ok-written.written after written (Err c.in_err-replace.field-0.0) last replaced
+    (subst (λ (s : Saved). MayLackMemory s (Err c.in_err-replace.field-0.0)) c.load.ensures.loads.same
+    c.in_err-replace.ensures.memory))
 
 pub returns : goal.returns
 returns g c =
@@ -134,3 +137,4 @@ returns g c =
     c.in_ok-replace.ensures.replaces in
     ended old set c.deref.result.now loaded c.in_ok-count.count c.in_ok-count.entries.now reads c.if-count-eq0.false
     ks known c.in_ok-written.written after written (Ok tt) last replaced
+    (subst (λ (s : Saved). MayLackMemory s (Ok tt)) c.load.ensures.loads.same c.in_ok-replace.ensures.memory)

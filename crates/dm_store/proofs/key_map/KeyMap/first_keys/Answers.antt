@@ -3,19 +3,19 @@ use Rattle.std.specs.Prelude.{[]}
 use Rattle.std.specs.Map.{keys_of}
 use Rattle.dm_store.proofs.SortedMaps.{keys_are}
 use Rattle.dm_store.proofs.FirstKeys.{one_more, all_taken, none_left}
-use Rattle.dm_store.proofs.key_map.first_keys.Goals as goal
+use Rattle.dm_store.proofs.key_map.KeyMap.first_keys.Goals as goal
 
 pub returns-then-len-count : goal.returns-then-len-count
 returns-then-len-count g c =
     let is : length c.loop-key.keys.items ≡ c.args.count = search rules in
     all_taken c.loop-key.keys.items _ (keys_of c.loop-key.key-iterator) c.args.count is c.loop-key.invariant.0
-    ∙ ap (λ (ks : List ℕ). take c.args.count ks) (sym (keys_are c.args.tree.now.entries c.loop-key.invariant.2))
+    ∙ ap (λ (ks : List ℕ). take c.args.count ks) (sym (keys_are c.args.self.now.tree.entries c.loop-key.invariant.2))
 
 pub returns : goal.returns
 returns g c =
     let done : keys_of c.loop-key.key-iterator ≡ [] = search rules in
     none_left c.loop-key.keys.items _ (c.args.count - length c.loop-key.keys.items) (rw done at c.loop-key.invariant.0)
-    ∙ ap (λ (ks : List ℕ). take c.args.count ks) (sym (keys_are c.args.tree.now.entries c.loop-key.invariant.2))
+    ∙ ap (λ (ks : List ℕ). take c.args.count ks) (sym (keys_are c.args.self.now.tree.entries c.loop-key.invariant.2))
 
 pub loop-key-preserved : goal.loop-key-preserved
 loop-key-preserved g c =
