@@ -70,8 +70,6 @@ unfoldable pub head_at : List ℕ → Result HeadView HeadFault
 head_at (word ∷ indicator ∷ a ∷ b ∷ rest) = if word == 233 then head_from indicator a b else Err head_faults.NotAppended
 head_at _ = Err head_faults.NotAppended
 
--- ---- Labels: which grid carries a page, and which grid is the label of a page in an encodation.
-
 -- The grid carries the page: it is that of a symbol whose data words are the page's head and then words that read as
 -- its bytes, and as no others.
 pub record Carries (page : PageView) (grid : GridView) : Type 0 where

@@ -87,8 +87,7 @@ pub record LabelOpens {A : Type 0} (grid : GridView) (result : Result (Opened A)
   pub near : (label : GridView) (page : PageView) → Carries page label → IsNear grid label → OpensNear page result
   pub short : IfOk result (λ opened. length opened.page.bytes ≤ MOST_PAGE_BYTES)
 
--- ---- Which fault of a label a fault of its symbol or of its page is.
-
+-- which fault of a label a fault of its symbol or of its page is
 abbrev pub symbol_fault : SymbolFault → LabelFault
 symbol_fault (symbol_faults.Border wrong) = faults.Border wrong
 symbol_fault (symbol_faults.Block block) = faults.Block block
@@ -104,8 +103,7 @@ page_fault (page_faults.Head fault) = head_fault fault
 page_fault (page_faults.Content fault) = faults.Content fault
 page_fault page_faults.Memory = faults.Memory
 
--- ---- The names of the faults of labels, as they are printed: each is that of its innermost fault.
-
+-- the names of the faults of labels, as they are printed: each is that of its innermost fault
 abbrev pub label_fault_name : LabelFault → List ℕ
 label_fault_name (Border wrong) = codes "Border"
 label_fault_name (Block block) = codes "Block"

@@ -75,9 +75,6 @@ Carries memory save id (Stays answer) old result new = (result ≡ answer) × (n
 Carries memory save id (Becomes held answer) old result new =
     (outcome : Outcome) × (result ≡ answer_by answer memory save outcome) × Ends id held outcome old new
 
--- ---- What the pages of one document bring to a desk: the page of a scanned label, or those of a file that is
--- imported.
-
 -- ---- the verdict, by what is held
 
 -- the pages of the document once these are held too
@@ -124,8 +121,6 @@ abbrev pub Adds : ℕ → Pages → DeskView → Result Imported AddFault → De
 Adds id pages old result new =
     Carries (Err adds.Memory) (Err adds.Save) id (add_verdict old.capacity old.held id pages) old result new
 
--- ---- What a desk does with a grid that is scanned: that of a label brings one page.
-
 -- the pages of a page's document, of which it alone is given
 abbrev pub lone : PageView → Pages
 lone p = slice_set (replicate p.n None) (p.m - 1) (Some p.bytes)
@@ -153,8 +148,6 @@ pub record AcceptsGrid (A : Type 0) (grid : GridView)
   pub label : LabelOpens grid opened
   pub scans : Scans opened old result new
 
--- ---- What a desk does with bytes that are handed in: the file of a document's pages, or no file.
-
 -- how an import names what became of its pages
 abbrev pub import_of : Result Imported AddFault → Result Imported ImportFault
 import_of (Ok reply) = Ok reply
@@ -179,8 +172,7 @@ pub record ImportsBytes (bytes : List ℕ) (old : DeskView) (result : Result Imp
   pub spelled : (id : ℕ) (pages : Pages) → Spells id bytes pages → Imports id pages old result new
   pub faulty : (fault : FileFault) → HasNoFile bytes fault → (result ≡ Err (import_fault fault)) × (new ≡ old)
 
--- ---- What a desk does to forget a document.
-
+-- what a desk does to forget a document
 abbrev pub forget_verdict : Documents → ℕ → Verdict (Result (Unit {0}) ForgetFault)
 forget_verdict held id =
     if is_none (map.get held id) then Stays (Err forgets.NotHeld) else Becomes (map.remove held id) (Ok tt)
@@ -189,8 +181,6 @@ forget_verdict held id =
 abbrev pub Forgets : ℕ → DeskView → Result (Unit {0}) ForgetFault → DeskView → Type 0
 Forgets id old result new =
     Carries (Err forgets.Memory) (Err forgets.Save) id (forget_verdict old.held id) old result new
-
--- ---- What a desk gives of a document: the document, or the file of the pages that are held.
 
 -- What is given is what the verdict says; memory for bytes may be lacking, and then `memory` is answered. `list` gives
 -- the bytes in what is given.

@@ -60,8 +60,6 @@ missing_mask (p ∷ ps) = 2 * missing_mask ps + (if is_none p then 1 else 0)
 abbrev pub lent_bytes : Option (Bor (List ℕ)) → Option (List ℕ)
 lent_bytes lent = option_copied lent
 
--- ---- The pages of a document that a desk holds, and those that it is given together.
-
 -- each page that is held, and of those that are not the page that is given
 abbrev pub union_of : Pages → Pages → Pages
 union_of [] given = given
@@ -192,8 +190,6 @@ pub record HoldsFiles (content : Contents) (held : Documents) : Type 0 where
   pub entries : AreEntries held
   pub files : (id : ℕ) → map.get content id ≡ option_map (file id) (map.get held id)
 
--- ---- What contracts see of a desk, and what holds of it between calls.
-
 -- its set, what it holds, for how many documents it has room, and whether a save failed
 pub record DeskView : Type 0 where
   pub saved : SavedSet
@@ -214,8 +210,7 @@ pub record IsInOrder (desk : DeskView) : Type 0 where
   pub entries : AreEntries desk.held
   pub saved : desk.is_failed ≡ false → IsTrue desk.saved.is_honest → HoldsFiles desk.saved.content desk.held
 
--- ---- The list of what a desk holds.
-
+-- the list of what a desk holds
 abbrev pub summary : ℕ × Pages → Held
 summary e = record { id = e.0; n = length e.1; mask = mask e.1 }
 

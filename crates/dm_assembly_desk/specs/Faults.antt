@@ -79,8 +79,6 @@ move_fault_name moving.Damaged = codes "Damaged"
 move_fault_name moving.Device = codes "Device"
 move_fault_name moving.Memory = codes "Memory"
 
--- ---- Which fault of a desk a fault of a label, of a load or of a file is.
-
 -- a move calls the fault of a load, and that of a save, by the same name
 abbrev pub load_fault : LoadFault → MoveFault
 load_fault loads.Device = moves.Device

@@ -132,8 +132,6 @@ Restarts refused old end =
     (end ≡ ending replies.Restarted (Running (stored_of old)) nothing)
     ⊎ (end ≡ ending refused (Down (stored_of old)) nothing)
 
--- ---- What prints, gives and takes come to, by the verdict on a ledger.
-
 -- What a verdict on a ledger comes to: it is saved and this leaves by it, or it is the answer.
 abbrev pub Comes : {A F : Type 0} → (F → Reply A) → Result LedgerView F → (Goods → Reply A → Type 0) →
     Course A LedgerView → Type 0
@@ -225,9 +223,7 @@ TakeComes number ticket ledger course =
     IsStored ledger × IsTrue (is_range ticket.range) × Comes TakeRefused (take_verdict ledger ticket) (λ goods reply.
     (goods ≡ record { labels = []; tickets = []; exports = []; moves = Took number ∷ [] }) × (reply ≡ Taken)) course
 
--- ---- What scans, forgets and imports come to, by what a desk holds, and what asks and exports are answered by what it
--- shows.
-
+-- a call that comes to this saves
 abbrev pub IsSaving : {A C : Type 0} → Course A C → Type 0
 IsSaving (Saves next goods reply) = Unit {0}
 IsSaving (Answers reply) = ⊥

@@ -33,8 +33,6 @@ HasAll Q (Running held) = Q held
 HasAll Q (Failed shown stored) = Q shown × Q stored
 HasAll Q (Down stored) = Q stored
 
--- ---- A relay: its printers and desks, and what left them.
-
 -- a desk has room for that many documents
 pub record Desk : Type 0 where
   pub room : ℕ

@@ -93,9 +93,6 @@ abbrev pub AreBetween : {A : Type 0} → List (Moment A) → Relay → Type 0
 AreBetween h relay = (number : ℕ) (desk : Desk) → slice_get relay.desks number ≡ Some desk →
     HasAll (IsBetween h number) desk.actor
 
--- ---- What is so of the replies of desks as long as each scan that may have saved is fair: they agree with what was
--- printed, and with what was scanned, imported and forgotten there.
-
 -- what was printed under an identification, by the labels that left
 abbrev pub docs : List Label → ℕ → Option CutDocument
 docs [] id = None

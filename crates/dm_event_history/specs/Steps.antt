@@ -49,8 +49,6 @@ is_same (DeskAt one) (DeskAt other) = one == other
 is_same (PrinterAt one) (DeskAt other) = false
 is_same (DeskAt one) (PrinterAt other) = false
 
--- ---- Which events may have saved, and which are to end before their replies.
-
 -- what is to happen to the call of an event; a restart, an ask and an export have no such thing
 abbrev pub stop_of : {A : Type 0} → Event A → Option Stop
 stop_of (Print printer document size scheme stop) = Some stop
@@ -99,8 +97,6 @@ IsStopping (InSave kept) = Unit {0}
 IsStopping (AfterLabels count) = Unit {0}
 IsStopping stops.None = ⊥
 IsStopping (SaveFault kept) = ⊥
-
--- ---- What one event does to a relay.
 
 -- ---- what is there
 
@@ -178,8 +174,6 @@ abbrev pub Step : {A : Type 0} → Relay → Event A → Reply A → Relay → T
 Step old event reply new =
     (IsNamed old event × Acts old event reply new)
     ⊎ ((¬ IsNamed old event) × (reply ≡ NoSuch) × (new ≡ old))
-
--- ---- Runs of a relay.
 
 -- an event, what it was answered, and the relay before it
 pub record Moment (A : Type 0) : Type 0 where

@@ -79,8 +79,6 @@ abbrev pub EachStepIsLegal : Type 0 → Type 0
 EachStepIsLegal A = (old new : Relay) (event : Event A) (reply : Reply A) → Step old event reply new →
     IsLegal old event reply
 
--- ---- What the replies of a history tell of its printers and desks, and why its events are refused.
-
 -- ---- who is down, and who has failed
 
 -- whether the one that answers so is down then, if it was before

@@ -132,8 +132,6 @@ pub record Shows {A : Type 0} (world : WorldView A) (relay : Relay) : Type 0 whe
   pub entries : (number : ℕ) (export : Export) → slice_get relay.exports number ≡ Some export →
       IsEntry export.id export.pages
 
--- ---- Which histories a world stands for: those that a relay has which the world shows.
-
 -- each range has numbers, all of them of identifications
 abbrev pub AreRanges : List Range → Type 0
 AreRanges ranges = All (λ range. IsTrue (is_range range)) ranges
@@ -160,8 +158,6 @@ abbrev pub GoesOnByAll : {A : Type 0} → WorldView A → List (Event A) → Lis
 GoesOnByAll {A} old events replies new = (ranges : List Range) (rooms : List ℕ) (h : List (Moment A)) →
     StandsFor ranges rooms old h →
     (moments : List (Moment A)) × AreMomentsOf events replies moments × StandsFor ranges rooms new (onto moments h)
-
--- ---- Runs in which each event is looked at first, and what is so of their answers: the headline.
 
 -- ---- the headline
 

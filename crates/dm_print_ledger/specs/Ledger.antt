@@ -42,8 +42,6 @@ abbrev pub is_free : List Range → ℕ → Bool
 is_free [] number = false
 is_free (range ∷ ranges) number = is_in range number || is_free ranges number
 
--- ---- The printers from which tickets were taken, each with the serial of the last.
-
 -- the serial of the last ticket taken from a printer
 abbrev pub last_taken : List Giver → ℕ → Option ℕ
 last_taken [] number = None
@@ -68,8 +66,6 @@ givers_from from (giver ∷ givers) = nat_le from giver.number && givers_from (g
 
 abbrev pub are_givers : List Giver → Bool
 are_givers givers = givers_from 0 givers
-
--- ---- What contracts see of a ledger, of a ticket, of a printer and of a job.
 
 -- a printer's number, the serial of its next ticket, its free numbers, and the printers from which it took tickets
 pub record LedgerView : Type 0 where
@@ -244,8 +240,6 @@ pub data Spells (bytes : List ℕ) : ShownView → Type 0 where
 -- bytes are read exactly where they are those of a sound ledger
 abbrev pub ReadsWhatIsSpelled : Type 0
 ReadsWhatIsSpelled = (bytes : List ℕ) (shown : ShownView) → (read_ledger bytes ≡ Ok shown) ↔ Spells bytes shown
-
--- ---- The ten bytes of a ticket.
 
 -- giver, serial, receiver, first and last number, in two bytes each
 unfoldable pub ticket_bytes : TicketView → List ℕ

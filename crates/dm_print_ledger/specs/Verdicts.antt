@@ -75,8 +75,6 @@ union_of (one ∷ ranges) range =
     if nat_lt (range.last + 1) one.first then range ∷ one ∷ ranges else
     union_of ranges (hull one range)
 
--- ---- What tests and changes of lists of ranges and of givers mean for each number and each giver.
-
 -- all numbers of the range are free
 abbrev pub AreFree : List Range → Range → Type 0
 AreFree ranges range = (number : ℕ) → is_in range number ≡ true → is_free ranges number ≡ true
@@ -129,8 +127,6 @@ abbrev pub GiversAreNoted : Type 0
 GiversAreNoted = (givers : List Giver) (last : Giver) → IsTrue (are_givers givers)
     → Notes givers last.number last.serial (givers_with givers last)
 
--- ---- What a store gives to who loads a ledger from it, and to a printer that is opened on it.
-
 -- what is read from what a store holds
 abbrev pub show_verdict : Option (List ℕ) → Result ShownView OpenFault
 show_verdict None = Err Absent
@@ -163,8 +159,6 @@ Opens saved number (Ok printer) =
     LoadsLedger saved (open_verdict saved.content number) (Ok printer.ledger)
     × (printer ≡ running saved printer.ledger) × (printer.ledger.number ≡ number)
 
--- ---- How a printer carries a verdict out: print, give and take alike.
-
 -- a printer's ledger is sound, and unless a save failed its store holds it
 pub record IsInOrder (printer : PrinterView) : Type 0 where
   pub sound : IsTrue (is_sound printer.ledger)
@@ -190,9 +184,6 @@ pub record Carries {X F : Type 0} (failed_before memory save : F) (verdict : Res
   pub refused : old.is_failed ≡ false → (fault : F) → verdict ≡ Err fault → (result ≡ Err fault) × (new ≡ old)
   pub saves : old.is_failed ≡ false → (next : LedgerView) → verdict ≡ Ok next
       → IsTrue (is_sound next) × Saves memory save next old result new
-
--- ---- What a print, a range given and a ticket taken make of a ledger, or its first refusal; and calls that carry it
--- out.
 
 -- ---- a print of a document that has parts, or has none
 
@@ -247,8 +238,6 @@ abbrev pub Takes : PrinterView → TicketView → Result (Unit {0}) TakeFault �
 Takes old ticket result new =
     Carries taking.Failed taking.Memory taking.Save (take_verdict old.ledger ticket) old result new
 
--- ---- What a printer does with a document, and to its store.
-
 -- ---- jobs
 
 -- the grid is the label of a page, of this size and in this encodation
@@ -300,8 +289,7 @@ pub record Prints (old : PrinterView) (size : Size) (scheme : Scheme) (document 
   pub made : IfOk result (IsMade old.ledger size scheme document cutting)
   pub lost : result ≡ Err printing.Save → (job : JobView) × IsMade old.ledger size scheme document cutting job
 
--- ---- The names of the faults of printers, as they are printed.
-
+-- the names of the faults of printers, as they are printed
 abbrev pub create_fault_name : CreateFault → List ℕ
 create_fault_name creating.Exists = codes "Exists"
 create_fault_name creating.Range = codes "Range"

@@ -102,8 +102,6 @@ pub record RemovesFile (old : DiskState) (name : List ℕ) {F : Type 0} (answer 
 abbrev pub draft_of : List ℕ → List ℕ
 draft_of name = name ++ codes ".new"
 
--- ---- The files of a set in a folder of a disk: the name of each key's file, and what the set holds.
-
 -- the path of a name in a folder
 abbrev pub path_in : List ℕ → List ℕ → List ℕ
 path_in folder name = folder ++ codes "/" ++ name
@@ -152,8 +150,7 @@ set_in disk folder = record {
   save_plan = SavesOpen;
 }
 
--- ---- What contracts see of a store in a file: its disk, and the name of its file; and the same of a set in a folder.
-
+-- what contracts see of a store in a file: its disk, and the name of its file; and the same of a set in a folder
 pub record Filed (D : Type 0) : Type 0 where
   pub disk : D
   pub path : List ℕ
@@ -167,8 +164,6 @@ saved_under disk path = record {
   load_plan = LoadsOpen;
   save_plan = SavesOpen;
 }
-
--- ---- What contracts see of the files of the system: nothing is claimed of what they hold.
 
 -- a disk that is not honest, so that no law speaks of what a reader finds or a stop leaves
 abbrev pub unclaimed : DiskState

@@ -105,8 +105,6 @@ Replaces old bytes answer new = Saves old (Some bytes) (outcome_of answer) new
 abbrev pub MayLackMemory : {X : Type 0} → SavedIn X → Result (Unit {0}) ReplaceFault → Type 0
 MayLackMemory saved answer = IsErrOf answer replacing.Memory → IsTrue saved.may_lack_memory
 
--- ---- What contracts see of a set of stores: a content for each key, and one honesty and the same plans for all keys.
-
 -- the saved bytes of each key that has any
 abbrev pub Contents : Type 0
 Contents = map.FinMap nat_cmp (List ℕ)
@@ -144,8 +142,7 @@ pub record RemovesKey
       → (answer ≡ Err removing.Device) × (old.save_plan ≡ SavesOpen)
   pub memory : IsErrOf answer removing.Memory → IsTrue old.may_lack_memory
 
--- ---- The plans that the settings of a store or a set in memory stand for.
-
+-- the plans that the settings of a store or a set in memory stand for
 abbrev pub load_plan_of : Bool → LoadPlan
 load_plan_of true = LoadsOpen
 load_plan_of false = LoadsFine

@@ -82,8 +82,6 @@ Does A (Held file id) old status new = EndsHeld (option_copied id) old status ne
 Does A (Copy file id page side scheme) old status new =
     EndsCopy (record { id = id; page = page; side = side; scheme = scheme }) old status new
 
--- ---- The files of a command: where they are, and when they are locked.
-
 -- The draft of a file is beside it, and so is the file that is locked: beside a ledger, or beside a desk's folder.
 pub record IsPlaced (place : Place) : Type 0 where
   pub draft : string_bytes place.draft ≡ draft_of (string_bytes place.file)

@@ -66,8 +66,7 @@ scheme_name C40 = codes "c40"
 scheme_name Text = codes "text"
 scheme_name Base256 = codes "base256"
 
--- ---- What `relay explain` says of a refusal: what the first entry of its name in a table says.
-
+-- what `relay explain` says of a refusal: what the first entry of its name in a table says
 abbrev pub explained : List Explanation → List ℕ → Option (List ℕ)
 explained [] name = None
 explained (entry ∷ rest) name = if bytes_eq entry.name.now name then Some entry.text.now else explained rest name

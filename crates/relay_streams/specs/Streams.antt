@@ -62,8 +62,7 @@ AppendsPart old new text = (part : List ℕ) × IsFirstPart part text × Appends
 abbrev pub StaysFailed : OutputView → Result (Unit {0}) WriteFault → OutputView → Type 0
 StaysFailed old result new = old.has_failed ≡ true → (result ≡ Err write_faults.Write) × (new ≡ old)
 
--- ---- The names of the faults of readers and writers, as they are printed.
-
+-- the names of the faults of readers and writers, as they are printed
 abbrev pub read_fault_name : ReadFault → List ℕ
 read_fault_name read_faults.Read = codes "Read"
 
@@ -73,8 +72,6 @@ input_fault_name input_faults.Memory = codes "Memory"
 
 abbrev pub write_fault_name : WriteFault → List ℕ
 write_fault_name write_faults.Write = codes "Write"
-
--- ---- The line by which a command refuses.
 
 -- `refused`, a space, the name of what is refused, and a line end
 abbrev pub refused_line : List ℕ → List ℕ

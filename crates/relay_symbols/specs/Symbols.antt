@@ -21,8 +21,6 @@ pub record ShowsGrid (bytes : List ℕ) (grid : GridView) : Type 0 where
   pub shape : HasShape shown
   pub inside : IsGridInside shown grid
 
--- ---- Labels between pages and images (ISO/IEC 16022:2006, 5.6).
-
 -- the bytes are the image of the label of this side of a page
 pub record DrawsLabel (n : ℕ) (page : PageView) (bytes : List ℕ) : Type 0 where
   pub size : Size

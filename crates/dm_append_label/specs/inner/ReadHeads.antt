@@ -18,8 +18,6 @@ abbrev pub ReadsHead : Result HeadView HeadFault → Result Head HeadFault → T
 ReadsHead read (Ok h) = (read ≡ Ok (view_of h)) × IsHead (view_of h)
 ReadsHead read (Err fault) = read ≡ Err fault
 
--- ---- The data words of a page's label.
-
 -- the head, the text and pads, that many as a symbol of the size has, which read as the page
 pub record IsDataOf (size : Size) (scheme : Scheme) (page : PageView) (words : List ℕ) : Type 0 where
   pub filled_is : words ≡ filled scheme (head_words (head_of page)) page.bytes (data_words size)

@@ -18,8 +18,6 @@ pub record IsDivided (checks count : ℕ) (old new : List ℕ) : Type 0 where
   pub values : (k : ℕ) → 1 ≤ k → k ≤ checks → value (slice_range new count (count + checks)) (power 2 k)
       ≡ value (slice_range old 0 (count + checks)) (power 2 k)
 
--- ---- The division of a message by the generator polynomial, which leaves the check words.
-
 -- these are the coefficients, after the leading 1, of a polynomial with the roots 2^1 .. 2^c, c being their number
 abbrev pub IsGenerator : List ℕ → Type 0
 IsGenerator generator = IsBlockWord (length generator) (1 ∷ generator)
@@ -41,8 +39,6 @@ pub record IsStep (checks at : ℕ) (old new : List ℕ) : Type 0 where
       → value (slice_range new (at + 1) end) (power 2 k) ≡ value (slice_range old at end) (power 2 k)
   pub size : length new ≡ length old
   pub bytes : All (λ word. word < 256) new
-
--- ---- What changes as a symbol is completed, and the windows in which its blocks are divided.
 
 -- only check words of block b may differ
 abbrev pub KeepsOtherWords : Size → ℕ → List ℕ → List ℕ → Type 0

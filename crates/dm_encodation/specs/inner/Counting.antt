@@ -65,8 +65,6 @@ IsSmall (counters.Ascii c) = c.words < 2 ^ 100
 IsSmall (counters.Run t c) = IsSmallRun c
 IsSmall (counters.Base256 n) = n < 2 ^ 100
 
--- ---- Values of a run that wait until they are three.
-
 -- the waiting values in order
 abbrev pub held_values : Held → List ℕ
 held_values Nothing = []
@@ -81,8 +79,6 @@ AreValues h = AllByRecursion (λ v. v < 40) (held_values h)
 abbrev pub Writes : List ℕ → Held → List ℕ → List ℕ → Held → Type 0
 Writes old before values new after = (rest : List ℕ)
     → new ++ pairs (held_values after ++ rest) ≡ old ++ pairs (held_values before ++ (values ++ rest))
-
--- ---- The pieces that the encoder takes from the front of a text in ASCII.
 
 -- the words of a piece
 abbrev pub piece_words : Piece → List ℕ

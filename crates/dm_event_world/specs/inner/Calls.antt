@@ -65,8 +65,6 @@ pub record IsMadeUnder {V X : Type 0} (planned : V → NextSave → V) (stop : S
   pub call : Call (planned old (next_save_of stop)) answer mid
   pub new_is : new ≡ planned mid Fine
 
--- ---- How an event at a printer or a desk of a world ends: as a call of what it shows.
-
 -- the reply tells that the call's own memory was refused
 abbrev pub lacks_memory : {A : Type 0} → Reply A → Bool
 lacks_memory (PrintRefused print_fault.Memory) = true
@@ -110,8 +108,6 @@ abbrev pub EndsEach : {A C S : Type 0} → (S → Actor C → Type 0) → (Actor
     S → Reply A → S → Type 0
 EndsEach {A} {C} {S} Shows Acts Lets old reply new =
     (shown : Actor C) → Shows old shown → EndsSo {A = A} Shows Acts Lets shown reply new
-
--- ---- Calls of printers as a world makes them.
 
 -- the store of a printer, and a printer that is down
 abbrev pub saved_of : {A : Type 0} → PrinterActor A → Saved

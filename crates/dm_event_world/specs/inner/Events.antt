@@ -16,8 +16,6 @@ use Rattle.dm_event_world.specs.Shows.{Shows, GoesOn, IsFairIn, IsLookedAt, Worl
 abbrev pub contents_code : Coded Contents
 contents_code = map.code {R = nat_cmp} coded_ℕ (coded_list coded_ℕ)
 
--- ---- Events of a world.
-
 -- the relay takes the event on, and the world shows what it is then
 pub record TakesOn {A : Type 0} (relay : Relay) (event : Event A) (reply : Reply A) (new : WorldView A) : Type 0 where
   pub next : Relay

@@ -24,8 +24,6 @@ pub record IsDrawnTo (s : Square) (w rows : ℕ) (pixels : List Bool) : Type 0 w
   pub drawn : (r c : ℕ) → r < w → c < w
       → get_or pixels (r * w + c) false ≡ (if nat_lt r (rows + 1) then pixel_with_quiet_zone s r c else false)
 
--- ---- The public fault that a narrower fault of a part is.
-
 -- of a byte
 abbrev pub byte_fault : ByteFault → PbmFault
 byte_fault byte_faults.Cut = pbm_faults.Cut
@@ -41,9 +39,6 @@ abbrev pub raster_fault : RasterFault → PbmFault
 raster_fault raster_faults.TooLarge = pbm_faults.TooLarge
 raster_fault raster_faults.Pixel = pbm_faults.Pixel
 raster_fault (raster_faults.Byte fault) = byte_fault fault
-
--- ---- What a call does to a source of bytes and to a taker of bytes, and to the memory that one of them has of its
--- failure.
 
 -- these bytes were taken, and no read has failed
 pub record Takes (old new : InputView) (bytes : List ℕ) : Type 0 where
@@ -79,8 +74,6 @@ pub record TakesUntil (old new : InputView) (bytes : List ℕ) (fault : PbmFault
 pub record Adds (old new : OutputView) (text : List ℕ) : Type 0 where
   pub appended : Appends old.contents new.contents text
   pub kept : new.has_failed ≡ old.has_failed
-
--- ---- How the reader walks through the signs of a header, one at a time.
 
 -- a number with one more digit; above the greatest side it stays
 abbrev pub with_digit : ℕ → ℕ → ℕ

@@ -17,8 +17,6 @@ abbrev pub word_from_places : Square → List ℕ → ℕ → ℕ
 word_from_places m places from =
     number_of (map (λ i. get_or m.modules (get_or places (from + i) 0) false) (range_with_len 0 8))
 
--- ---- Where a shape may stand on the mapping matrix (ISO/IEC 16022:2006, Annex F).
-
 -- what the shapes need of a side
 pub record IsSideSound (n : ℕ) : Type 0 where
   pub eight : 8 ≤ n
