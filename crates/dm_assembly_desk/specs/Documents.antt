@@ -7,7 +7,6 @@ use Rattle.std.specs.Str.{bytes_eq}
 use Rattle.std.specs.Int.{w16, to_be_bytes}
 use Rattle.std.specs.Ordering.{nat_cmp}
 use Rattle.std.specs.FinMap as map
-use Rattle.std.specs.FinMap as finite
 use Rattle.dm_append_label.specs.Labels.{id_words}
 use Rattle.dm_append_label.specs.declared.opening.TheConstants.{MOST_PAGE_BYTES}
 use Rattle.dm_assembly_desk.specs.declared.file.FileFault.{FileFault}
@@ -216,4 +215,4 @@ summary e = record { id = e.0; n = length e.1; mask = mask e.1 }
 
 -- one of each document, by rising identification
 abbrev pub summaries : Documents → List Held
-summaries held = each summary (finite.entries held)
+summaries held = each summary (map.entries held)

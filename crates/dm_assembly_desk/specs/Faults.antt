@@ -25,10 +25,6 @@ use Rattle.dm_store.specs.declared.store.LoadFault.TheVariants as loads
 use Rattle.dm_store.specs.declared.store.ReplaceFault.TheVariants as replaces
 use Rattle.dm_assembly_desk.specs.declared.file.FileFault.TheVariants as files
 use Rattle.dm_assembly_desk.specs.declared.adding.AddFault.TheVariants as adds
-use Rattle.dm_assembly_desk.specs.declared.fault.DeskFault.TheVariants as opens
-use Rattle.dm_assembly_desk.specs.declared.fault.MoveFault.TheVariants as moves
-use Rattle.dm_assembly_desk.specs.declared.fault.ScanFault.TheVariants as scans
-use Rattle.dm_assembly_desk.specs.declared.fault.ImportFault.TheVariants as imports
 
 abbrev pub desk_fault_name : DeskFault → List ℕ
 desk_fault_name opening.Capacity = codes "Capacity"
@@ -81,41 +77,41 @@ move_fault_name moving.Memory = codes "Memory"
 
 -- a move calls the fault of a load, and that of a save, by the same name
 abbrev pub load_fault : LoadFault → MoveFault
-load_fault loads.Device = moves.Device
-load_fault loads.Memory = moves.Memory
+load_fault loads.Device = moving.Device
+load_fault loads.Memory = moving.Memory
 
 abbrev pub save_fault : ReplaceFault → MoveFault
-save_fault replaces.Device = moves.Device
-save_fault replaces.Memory = moves.Memory
+save_fault replaces.Device = moving.Device
+save_fault replaces.Memory = moving.Memory
 
 -- memory that was refused for the label was refused for the scan
 abbrev pub scan_fault : LabelFault → ScanFault
-scan_fault labels.Memory = scans.Memory
-scan_fault fault = scans.Label fault
+scan_fault labels.Memory = scanning.Memory
+scan_fault fault = scanning.Label fault
 
 abbrev pub import_fault : FileFault → ImportFault
-import_fault files.NotPages = imports.NotPages
-import_fault files.Version = imports.Version
-import_fault files.Damaged = imports.Damaged
+import_fault files.NotPages = importing.NotPages
+import_fault files.Version = importing.Version
+import_fault files.Damaged = importing.Damaged
 
 -- a scan and an import call it by the same name why pages were not added
 abbrev pub scan_fault_of : AddFault → ScanFault
-scan_fault_of adds.Conflict = scans.Conflict
-scan_fault_of adds.Full = scans.Full
-scan_fault_of adds.Memory = scans.Memory
-scan_fault_of adds.Save = scans.Save
+scan_fault_of adds.Conflict = scanning.Conflict
+scan_fault_of adds.Full = scanning.Full
+scan_fault_of adds.Memory = scanning.Memory
+scan_fault_of adds.Save = scanning.Save
 
 abbrev pub import_fault_of : AddFault → ImportFault
-import_fault_of adds.Conflict = imports.Conflict
-import_fault_of adds.Full = imports.Full
-import_fault_of adds.Memory = imports.Memory
-import_fault_of adds.Save = imports.Save
+import_fault_of adds.Conflict = importing.Conflict
+import_fault_of adds.Full = importing.Full
+import_fault_of adds.Memory = importing.Memory
+import_fault_of adds.Save = importing.Save
 
 -- no desk is opened for the reason that a key's bytes are no file
 abbrev pub desk_fault_of : FileFault → DeskFault
-desk_fault_of files.NotPages = opens.NotPages
-desk_fault_of files.Version = opens.Version
-desk_fault_of files.Damaged = opens.Damaged
+desk_fault_of files.NotPages = opening.NotPages
+desk_fault_of files.Version = opening.Version
+desk_fault_of files.Damaged = opening.Damaged
 
 -- why pages were not added, by why their save was not done
 abbrev pub keep_fault : ReplaceFault → AddFault
