@@ -13,6 +13,6 @@ loop-before-preserved g c =
           c.next_label.new.self.labels
           c.loop-before.job.labels c.loop-before.labels.items c.push_reserved.new.self.items
           (c.args.labels.now.items ++ left_labels c.id-id.result c.count-count.result 1
-          (take c.args.most c.args.job.labels))
+          (take c.args.most c.args.job.now.labels))
           c.loop-before-test.true given c.push_reserved.ensures.items c.loop-before.invariant.out;
     }
