@@ -13,7 +13,6 @@ use Rattle.dm_encodation.specs.declared.mode.Mode.TheVariants.{Ascii, Upper, Run
 use Rattle.dm_encodation.specs.declared.fault.DecodeFault.{DecodeFault}
 use Rattle.dm_encodation.specs.Grammar
 use Rattle.dm_encodation.specs.Grammar.{values_below_128, Unfinished, values_of, Triple, IsTriple, triple_values, pair, Chars, IsMeaningless, IsFnc1, state_255, randomised, latch, IsLength, EndsOpen, Segment, Reads, IsUnsupported, StuckHere, Stuck}
-use Rattle.dm_encodation.specs.Grammar
 use Rattle.dm_encodation.proofs.AsciiStepCases.{AsciiStep, ascii_view}
 use Rattle.dm_encodation.specs.inner.Reading.{◌>>=◌, prepend, Stepped, no_pending, ascii_step, upper_step, byte_in, value_step, values_step, Valued, at_pair, pair_step, value_255, bytes_left, step, ended, finish, reading}
 
@@ -218,16 +217,16 @@ character_read t b lt = reads_as_true _ b (agree_below_at (λ b. reads_as (value
 pub tail_read : (t : Letters) (tail : List ℕ) → Unfinished tail →
     (s : Pending) × (values_step t no_pending tail ≡ Ok (s, []))
 unfolding value_step
-tail_read t tail Characters.Unfinished.nothing = (no_pending, refl)
-tail_read t tail (Characters.Unfinished.shift {s = zero} lt) = (_, refl)
-tail_read t tail (Characters.Unfinished.shift {s = suc zero} lt) = (_, refl)
-tail_read t tail (Characters.Unfinished.shift {s = suc (suc zero)} lt) = (_, refl)
-tail_read t tail (Characters.Unfinished.shift {s = suc (suc (suc k))} lt) = absurd (omega arith)
-tail_read t tail Characters.Unfinished.upper = (_, refl)
-tail_read t tail (Characters.Unfinished.upper_shift {s = zero} lt) = (_, refl)
-tail_read t tail (Characters.Unfinished.upper_shift {s = suc zero} lt) = (_, refl)
-tail_read t tail (Characters.Unfinished.upper_shift {s = suc (suc zero)} lt) = (_, refl)
-tail_read t tail (Characters.Unfinished.upper_shift {s = suc (suc (suc k))} lt) = absurd (omega arith)
+tail_read t tail Grammar.Unfinished.nothing = (no_pending, refl)
+tail_read t tail (Grammar.Unfinished.shift {s = zero} lt) = (_, refl)
+tail_read t tail (Grammar.Unfinished.shift {s = suc zero} lt) = (_, refl)
+tail_read t tail (Grammar.Unfinished.shift {s = suc (suc zero)} lt) = (_, refl)
+tail_read t tail (Grammar.Unfinished.shift {s = suc (suc (suc k))} lt) = absurd (omega arith)
+tail_read t tail Grammar.Unfinished.upper = (_, refl)
+tail_read t tail (Grammar.Unfinished.upper_shift {s = zero} lt) = (_, refl)
+tail_read t tail (Grammar.Unfinished.upper_shift {s = suc zero} lt) = (_, refl)
+tail_read t tail (Grammar.Unfinished.upper_shift {s = suc (suc zero)} lt) = (_, refl)
+tail_read t tail (Grammar.Unfinished.upper_shift {s = suc (suc (suc k))} lt) = absurd (omega arith)
 
 pub characters_read : (t : Letters) (bytes tail : List ℕ) (s : Pending) → AllByRecursion (λ b. b < 256) bytes →
     values_step t no_pending tail ≡ Ok (s, [])

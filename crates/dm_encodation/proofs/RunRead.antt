@@ -7,7 +7,6 @@ use Rattle.std.proofs.lemmas.List.{append-nil, length-drop, take_all, take-appen
 use Rattle.dm_encodation.specs.declared.letters.Letters.{Letters}
 use Rattle.dm_encodation.specs.Grammar
 use Rattle.dm_encodation.specs.Grammar.{Triple, IsTriple, triple_values, pair, Chars, values_below_128, values_of, pads, latch, EndsOpen, Segment, Reads}
-use Rattle.dm_encodation.specs.Grammar
 use Rattle.dm_encodation.specs.Written.{ascii, run_length, is_whole_run, pairs, words_after_run, run_and_rest, words_after_text}
 use Rattle.dm_encodation.proofs.Reread.{ascii_read, pads_read}
 use Rattle.dm_encodation.proofs.RunWords.{run_within, run_passes}
@@ -51,7 +50,7 @@ threes (a ∷ b ∷ c ∷ vs) n e fits =
 
 whole_chars : (t : Letters) (bytes : List ℕ) → AllByRecursion (λ b. b < 256) bytes →
     Chars t (flat_map (values_of t) bytes) bytes
-whole_chars t bytes fits = grind (arith, Characters.Unfinished.nothing, append-nil)
+whole_chars t bytes fits = grind (arith, Grammar.Unfinished.nothing, append-nil)
 
 -- a run that 254 ends, and then anything that is read
 pub closed_run_read : (t : Letters) (p : ℕ) (bytes more after : List ℕ) → AllByRecursion (λ b. b < 256) bytes →

@@ -15,7 +15,6 @@ use Rattle.dm_encodation.specs.declared.fault.DecodeFault.{DecodeFault}
 use Rattle.dm_encodation.specs.declared.fault.DecodeFault.TheVariants.{Unsupported, Reserved, Cut}
 use Rattle.dm_encodation.specs.Grammar
 use Rattle.dm_encodation.specs.Grammar.{Unfinished, Triple, IsTriple, triple_values, pair, Chars, IsMeaningless, IsFnc1, state_255, randomised, latch, IsLength, EndsOpen, Segment, Reads, IsUnsupported, BadPair, StuckHere, Stuck}
-use Rattle.dm_encodation.specs.Grammar
 use Rattle.dm_encodation.specs.inner.Reading.{◌>>=◌, prepend, Stepped, Valued, no_pending, value_step, ascii_step, upper_step, at_pair, pair_step, values_step, bytes_left, step, finish, reading}
 use Rattle.dm_encodation.proofs.AsciiStepCases.{AsciiStep, ascii_view}
 use Rattle.dm_encodation.proofs.ReadsToReading.{bind_ok, ok_is, reading_silent, complete_segment, length_read, run_read, chars_step, characters_read, pair_is, step_latch, value_255-state_255, values_joined, splits}
@@ -82,19 +81,19 @@ values_fail t s (x ∷ xs) v rest mid e ok err =
 tail_state : (t : Letters) (tail : List ℕ) → Unfinished tail →
     (s : Pending) × (values_step t no_pending tail ≡ Ok (s, [])) × (tail_of s ≡ tail)
 unfolding value_step
-tail_state t tail Characters.Unfinished.nothing = (no_pending, refl, refl)
-tail_state t tail (Characters.Unfinished.shift {s = zero} lt) = (record { upper = false; set = First }, refl, refl)
-tail_state t tail (Characters.Unfinished.shift {s = suc zero} lt) = (record { upper = false; set = Second }, refl, refl)
-tail_state t tail (Characters.Unfinished.shift {s = suc (suc zero)} lt) =
+tail_state t tail Grammar.Unfinished.nothing = (no_pending, refl, refl)
+tail_state t tail (Grammar.Unfinished.shift {s = zero} lt) = (record { upper = false; set = First }, refl, refl)
+tail_state t tail (Grammar.Unfinished.shift {s = suc zero} lt) = (record { upper = false; set = Second }, refl, refl)
+tail_state t tail (Grammar.Unfinished.shift {s = suc (suc zero)} lt) =
     (record { upper = false; set = Third }, refl, refl)
-tail_state t tail (Characters.Unfinished.shift {s = suc (suc (suc k))} lt) = absurd (omega arith)
-tail_state t tail Characters.Unfinished.upper = (record { upper = true; set = Basic }, refl, refl)
-tail_state t tail (Characters.Unfinished.upper_shift {s = zero} lt) = (record { upper = true; set = First }, refl, refl)
-tail_state t tail (Characters.Unfinished.upper_shift {s = suc zero} lt) =
+tail_state t tail (Grammar.Unfinished.shift {s = suc (suc (suc k))} lt) = absurd (omega arith)
+tail_state t tail Grammar.Unfinished.upper = (record { upper = true; set = Basic }, refl, refl)
+tail_state t tail (Grammar.Unfinished.upper_shift {s = zero} lt) = (record { upper = true; set = First }, refl, refl)
+tail_state t tail (Grammar.Unfinished.upper_shift {s = suc zero} lt) =
     (record { upper = true; set = Second }, refl, refl)
-tail_state t tail (Characters.Unfinished.upper_shift {s = suc (suc zero)} lt) =
+tail_state t tail (Grammar.Unfinished.upper_shift {s = suc (suc zero)} lt) =
     (record { upper = true; set = Third }, refl, refl)
-tail_state t tail (Characters.Unfinished.upper_shift {s = suc (suc (suc k))} lt) = absurd (omega arith)
+tail_state t tail (Grammar.Unfinished.upper_shift {s = suc (suc (suc k))} lt) = absurd (omega arith)
 
 -- what a value without a meaning does
 record Refused (t : Letters) (s : Pending) (front : List ℕ) (v : ℕ) (tail : List ℕ) : Type 0 where

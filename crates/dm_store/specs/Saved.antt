@@ -6,7 +6,7 @@ use Rattle.dm_store.specs.declared.store.LoadFault.{LoadFault}
 use Rattle.dm_store.specs.declared.store.ReplaceFault.{ReplaceFault}
 use Rattle.dm_store.specs.declared.set.RemoveFault.{RemoveFault}
 use Rattle.dm_store.specs.declared.mem_store.NextSave.{NextSave}
-use Rattle.dm_store.specs.declared.mem_store.NextSave.TheVariants.{Fine, FaultOld, FaultNew}
+use Rattle.dm_store.specs.declared.mem_store.NextSave.TheVariants as nexts
 use Rattle.dm_store.specs.declared.store.LoadFault.TheVariants as loading
 use Rattle.dm_store.specs.declared.store.ReplaceFault.TheVariants as replacing
 use Rattle.dm_store.specs.declared.set.RemoveFault.TheVariants as removing
@@ -148,9 +148,9 @@ load_plan_of true = LoadsOpen
 load_plan_of false = LoadsFine
 
 abbrev pub save_plan_of : NextSave → SavePlan
-save_plan_of Fine = SavesFine
-save_plan_of FaultOld = FaultOld
-save_plan_of FaultNew = FaultNew
+save_plan_of nexts.Fine = SavesFine
+save_plan_of nexts.FaultOld = FaultOld
+save_plan_of nexts.FaultNew = FaultNew
 
 -- what contracts see of a store or a set in memory that holds this, by its settings
 abbrev pub in_memory : {X : Type 0} → X → Bool → NextSave → SavedIn X
