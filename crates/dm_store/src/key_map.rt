@@ -65,7 +65,7 @@ impl<V, A: Allocator + Copy> KeyMap<V, A> {
         ensures { IfOk result (λ keys. keys.items ≡ take count (map.keys self.now)) }
     {
         let mut keys = Vec::new(alloc);
-        for (key, _) in &self.tree {
+        for (key, _) in self.iter() {
             if keys.len() == count {
                 return Ok(keys);
             }

@@ -1,7 +1,6 @@
-use Rattle.std.proofs.Common.{◌≡◌, ◌∙◌, ◌∷◌, ◌++◌, ◌-◌, ◌<◌, List, ℕ, length, take, sym, ap, rules, arith, length-append}
+use Rattle.std.proofs.Common.{◌≡◌, ◌∷◌, ◌++◌, ◌-◌, ◌<◌, List, ℕ, length, rules, arith, length-append}
 use Rattle.std.specs.Prelude.{[]}
 use Rattle.std.specs.Map.{keys_of}
-use Rattle.dm_store.proofs.SortedMaps.{keys_are}
 use Rattle.dm_store.proofs.FirstKeys.{one_more, all_taken, none_left}
 use Rattle.dm_store.proofs.key_map.KeyMap.first_keys.Goals as goal
 
@@ -9,13 +8,11 @@ pub returns-then-len-count : goal.returns-then-len-count
 returns-then-len-count g c =
     let is : length c.loop-key.keys.items ≡ c.args.count = search rules in
     all_taken c.loop-key.keys.items _ (keys_of c.loop-key.key-iterator) c.args.count is c.loop-key.invariant.0
-    ∙ ap (λ (ks : List ℕ). take c.args.count ks) (sym (keys_are c.args.self.now.tree.entries c.loop-key.invariant.2))
 
 pub returns : goal.returns
 returns g c =
     let done : keys_of c.loop-key.key-iterator ≡ [] = search rules in
     none_left c.loop-key.keys.items _ (c.args.count - length c.loop-key.keys.items) (rw done at c.loop-key.invariant.0)
-    ∙ ap (λ (ks : List ℕ). take c.args.count ks) (sym (keys_are c.args.self.now.tree.entries c.loop-key.invariant.2))
 
 pub loop-key-preserved : goal.loop-key-preserved
 loop-key-preserved g c =
@@ -23,9 +20,8 @@ loop-key-preserved g c =
     let is : keys_of c.loop-key.key-iterator ≡ e ∷ keys_of c.next.new.self = search rules in
     let pushed : c.push.new.self.items ≡ c.loop-key.keys.items ++ e ∷ [] = search rules in
     let lt : length c.loop-key.keys.items < c.args.count = omega (arith, c.loop-key.invariant.1) in
-    let more = one_more c.loop-key.keys.items _ (keys_of c.next.new.self) c.args.count e lt
-    (rw is at c.loop-key.invariant.0) in (
-      rw pushed more,
+    (
+      rw pushed (one_more c.loop-key.keys.items _ (keys_of c.next.new.self) c.args.count e lt
+      (rw is at c.loop-key.invariant.0)),
       rw pushed (omega (arith, lt, length-append c.loop-key.keys.items (e ∷ []))),
-      c.loop-key.invariant.2,
     )
