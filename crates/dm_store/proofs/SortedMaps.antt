@@ -72,9 +72,6 @@ module _ {X : Type 0} where
       sym (get-from_sorted nat_cmp es q s)) in
       ap entries is ∙ entries-from_sorted nat_cmp es s
 
-  -- the keys of entries in order are those of their map
-  pub keys_are : (es : List (ℕ × X)) → IsStrictlySortedBy nat_cmp (keys_of es) → keys (as_map es) ≡ keys_of es
-  keys_are es h = ap (λ (fs : List (ℕ × X)). keys_of fs) (entries_are es h)
 
   -- there are as many keys in the map as entries in order
   pub len_is : (es : List (ℕ × X)) → IsStrictlySortedBy nat_cmp (keys_of es) → len (as_map es) ≡ length es
