@@ -72,7 +72,6 @@ module _ {X : Type 0} where
       sym (get-from_sorted nat_cmp es q s)) in
       ap entries is ∙ entries-from_sorted nat_cmp es s
 
-
   -- there are as many keys in the map as entries in order
   pub len_is : (es : List (ℕ × X)) → IsStrictlySortedBy nat_cmp (keys_of es) → len (as_map es) ≡ length es
   len_is es h = len-entries (as_map es) ∙ ap (λ (fs : List (ℕ × X)). length fs) (entries_are es h)

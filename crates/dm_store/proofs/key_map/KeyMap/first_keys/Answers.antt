@@ -19,9 +19,8 @@ loop-key-preserved g c =
     let e : ℕ = c.in-Some.key.now in
     let is : keys_of c.loop-key.key-iterator ≡ e ∷ keys_of c.next.new.self = search rules in
     let pushed : c.push.new.self.items ≡ c.loop-key.keys.items ++ e ∷ [] = search rules in
-    let lt : length c.loop-key.keys.items < c.args.count = omega (arith, c.loop-key.invariant.1) in
-    (
+    let lt : length c.loop-key.keys.items < c.args.count = omega (arith, c.loop-key.invariant.1) in (
       rw pushed (one_more c.loop-key.keys.items _ (keys_of c.next.new.self) c.args.count e lt
-      (rw is at c.loop-key.invariant.0)),
+          (rw is at c.loop-key.invariant.0)),
       rw pushed (omega (arith, lt, length-append c.loop-key.keys.items (e ∷ []))),
     )
