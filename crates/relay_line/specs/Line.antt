@@ -1,6 +1,5 @@
--- What a command line gives, and what `relay explain` says.
-use Rattle.std.specs.Prelude.{◌≡◌, ℕ, ◌≤◌, ◌⊎◌, List, codes, Option, MatchOption, [], ◌∷◌, Some, None, if◌then◌else◌}
-use Rattle.std.specs.Str.{bytes_eq}
+-- What a command line gives.
+use Rattle.std.specs.Prelude.{◌≡◌, ℕ, ◌≤◌, ◌⊎◌, List, codes, Option, MatchOption}
 use Rattle.dm_encodation.specs.declared.scheme.Scheme.{Scheme}
 use Rattle.dm_encodation.specs.declared.scheme.Scheme.TheVariants.{Ascii, C40, Text, Base256}
 use Rattle.relay_line.specs.declared.command.Command.{Command}
@@ -9,7 +8,6 @@ use Rattle.relay_line.specs.declared.command.Labels.{Labels}
 use Rattle.relay_line.specs.declared.command.Labels.TheVariants.{OfSide, AtMost}
 use Rattle.relay_line.specs.declared.fault.LineFault.{LineFault}
 use Rattle.relay_line.specs.declared.fault.LineFault.TheVariants.{Line, Memory}
-use Rattle.relay_line.specs.declared.explain.Explanation.{Explanation}
 
 -- a side
 abbrev pub IsSideNumber : ℕ → Type 0
@@ -65,8 +63,3 @@ scheme_name Ascii = codes "ascii"
 scheme_name C40 = codes "c40"
 scheme_name Text = codes "text"
 scheme_name Base256 = codes "base256"
-
--- what `relay explain` says of a refusal: what the first entry of its name in a table says
-abbrev pub explained : List Explanation → List ℕ → Option (List ℕ)
-explained [] name = None
-explained (entry ∷ rest) name = if bytes_eq entry.name.now name then Some entry.text.now else explained rest name

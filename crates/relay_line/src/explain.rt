@@ -1,27 +1,39 @@
-//! What a refusal means.
+//! What a refusal means, by a table of texts: the first line of each is the name of a refusal.
 
-ghost use Rattle.std.specs.Prelude.{◌≡◌, option_map};
-ghost use Rattle.relay_line.specs.Line.{explained};
+ghost use Rattle.std.specs.Prelude.{◌≡◌, option_map, string_bytes, IfOk};
+ghost use Rattle.relay_line.specs.Explaining.{explained, first_line, names};
 
-/// What docs/REFUSALS.md says of a refusal.
-#[derive(Clone, Copy)]
-pub struct Explanation {
-    pub name: &'static str,
-    pub text: &'static str,
+use std::alloc::{AllocError, Global};
+
+// The first line of a text.
+fn first_line(text: &str) -> &str
+    ensures { result.now ≡ first_line text.now }
+{
+    match text.split_once('\n') {
+        Some((line, _)) => line,
+        None => text,
+    }
 }
 
 /// What a table says of the refusal of this name, if it has one.
-pub fn explanation_in(table: &[Explanation], name: &str) -> Option<&'static str>
+pub fn explanation_in(table: &[&'static str], name: &str) -> Option<&'static str>
     ensures { option_map (λ text. text.now) result ≡ explained table.now name.now }
 {
     match table {
         [] => None,
-        [first, rest @ ..] => {
-            if first.name == name {
-                Some(first.text)
-            } else {
-                explanation_in(rest, name)
-            }
-        }
+        [text, ..] if first_line(text) == name => Some(*text),
+        [_, rest @ ..] => explanation_in(rest, name),
     }
+}
+
+/// The names that a table has, a line each.
+pub fn names_in(alloc: Global, table: &[&str]) -> Result<String, AllocError>
+    ensures { IfOk result (λ listed. string_bytes listed ≡ names table.now) }
+{
+    let mut listed = String::new(alloc);
+    for text in table {
+        listed.push_str(first_line(text))?;
+        listed.push('\n')?;
+    }
+    Ok(listed)
 }

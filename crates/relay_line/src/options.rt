@@ -5,6 +5,7 @@ ghost use Rattle.dm_encodation.specs.declared.scheme.Scheme.{Scheme};
 ghost use Rattle.relay_line.specs.Line.{scheme_name};
 
 use crate::help;
+use crate::help::Page;
 use clap::builder::ValueParser;
 use clap::{Arg, ArgAction, ArgGroup, Command, value_parser};
 use dm_encodation::Scheme;
@@ -28,28 +29,25 @@ pub fn scheme_of(name: &str) -> Option<Scheme>
     }
 }
 
+// An option with a value.
+fn option<'a>(alloc: Global, name: &'a str, value: &'a str, text: &'a str) -> Arg<'a> {
+    Arg::new(alloc, name)
+        .long(name)
+        .value_name(value)
+        .help(text)
+}
+
 fn side<'a>(alloc: Global) -> Arg<'a> {
-    Arg::new(alloc, "side")
-        .long("side")
-        .value_name("SIDE")
-        .help(help::SIDE)
-        .value_parser(ValueParser::Signed(10, 132))
+    option(alloc, "side", "SIDE", help::SIDE).value_parser(ValueParser::Signed(10, 132))
 }
 
 // The most labels of a print.
 fn labels<'a>(alloc: Global) -> Arg<'a> {
-    Arg::new(alloc, "labels")
-        .long("labels")
-        .value_name("K")
-        .help(help::LABELS)
-        .value_parser(ValueParser::Signed(2, 16))
+    option(alloc, "labels", "K", help::LABELS).value_parser(ValueParser::Signed(2, 16))
 }
 
 fn scheme<'a>(alloc: Global) -> Arg<'a> {
-    Arg::new(alloc, "scheme")
-        .long("scheme")
-        .value_name("SCHEME")
-        .help(help::SCHEME)
+    option(alloc, "scheme", "SCHEME", help::SCHEME)
         .value_parser(SCHEMES.as_slice())
         .hide_possible_values(true)
         .default_value("ascii")
@@ -62,31 +60,20 @@ fn plain<'a>(alloc: Global) -> Arg<'a> {
         .action(ArgAction::SetTrue)
 }
 
-fn path<'a>(alloc: Global, text: &'a str) -> Arg<'a> {
-    Arg::new(alloc, "file")
-        .long("file")
-        .value_name("PATH")
-        .help(text)
-        .required(true)
-}
-
 // The file of a ledger.
 fn file<'a>(alloc: Global) -> Arg<'a> {
-    path(alloc, "the file that holds the ledger")
+    option(alloc, "file", "PATH", "the file that holds the ledger").required(true)
 }
 
 // The files of a desk.
 fn desk<'a>(alloc: Global) -> Arg<'a> {
-    path(alloc, "the desk; its files stand in the folder PATH.pages")
+    let text = "the desk; its files stand in the folder PATH.pages";
+    option(alloc, "file", "PATH", text).required(true)
 }
 
 // An option whose value is a number from 0 to 65,535.
 fn number_option<'a>(alloc: Global, name: &'a str, text: &'a str) -> Arg<'a> {
-    Arg::new(alloc, name)
-        .long(name)
-        .value_name("N")
-        .help(text)
-        .value_parser(value_parser!(u16))
+    option(alloc, name, "N", text).value_parser(value_parser!(u16))
 }
 
 // The printer's own number.
@@ -102,26 +89,24 @@ fn last<'a>(alloc: Global) -> Arg<'a> {
     number_option(alloc, "last", "the last identification, up to 64515").required(true)
 }
 
-fn words<'a>(alloc: Global) -> Result<Command<'a>, AllocError> {
-    let args = vec![in alloc; side(alloc).default_value("10"), scheme(alloc)]?;
-    Command::new(alloc, "words")
-        .about("Prints the words of a document's symbol, in decimal")
-        .override_usage("relay words [--side SIDE] [--scheme SCHEME] < DOCUMENT")
-        .after_help(help::WORDS)
-        .args(args)
+fn ticket<'a>(alloc: Global) -> Arg<'a> {
+    option(alloc, "ticket", "HEX", help::HEX).required(true)
 }
 
-fn draw<'a>(alloc: Global) -> Result<Command<'a>, AllocError> {
-    let args = vec![in alloc;
-        side(alloc).default_value("10"),
-        scheme(alloc),
-        plain(alloc),
-    ]?;
-    Command::new(alloc, "draw")
-        .about("Draws a document's symbol as a PBM image")
-        .override_usage("relay draw [--side SIDE] [--scheme SCHEME] [--plain] < DOCUMENT > IMAGE")
-        .after_help(help::DRAW)
-        .args(args)
+fn capacity<'a>(alloc: Global) -> Arg<'a> {
+    let text = "how many documents it may hold, 1 to 1024";
+    number_option(alloc, "capacity", text).default_value("64")
+}
+
+fn id<'a>(alloc: Global) -> Arg<'a> {
+    let text = "the identification: 4 hexadecimal digits";
+    option(alloc, "id", "IIII", text).required(true)
+}
+
+fn page<'a>(alloc: Global) -> Arg<'a> {
+    option(alloc, "page", "M", "the page, from 1 to 16")
+        .value_parser(ValueParser::Signed(1, 16))
+        .required(true)
 }
 
 // Files of images.
@@ -132,219 +117,25 @@ fn images<'a>(alloc: Global) -> Arg<'a> {
         .num_args(0..)
 }
 
-fn read<'a>(alloc: Global) -> Result<Command<'a>, AllocError> {
-    Command::new(alloc, "read")
-        .about("Prints what the symbols in PBM images carry")
-        .override_usage("relay read [IMAGES ..] < IMAGES")
-        .after_help(help::READ)
-        .arg(images(alloc))
-}
-
-fn ledger<'a>(alloc: Global) -> Result<Command<'a>, AllocError> {
-    let args = vec![in alloc;
-        file(alloc),
-        first(alloc),
-        last(alloc),
-        number(alloc).default_value("0"),
-    ]?;
-    Command::new(alloc, "ledger")
-        .about("Makes the ledger of a printer")
-        .override_usage("relay ledger --file PATH --first N --last N [--number N]")
-        .after_help(help::LEDGER)
-        .args(args)
-}
-
-fn plan<'a>(alloc: Global) -> Result<Command<'a>, AllocError> {
-    Command::new(alloc, "plan")
-        .about("Prints for each side how many labels a document takes")
-        .override_usage("relay plan [--scheme SCHEME] < DOCUMENT")
-        .after_help(help::PLAN)
-        .arg(scheme(alloc))
-}
-
-fn print<'a>(alloc: Global) -> Result<Command<'a>, AllocError> {
-    let args = vec![in alloc;
-        file(alloc),
-        side(alloc),
-        labels(alloc),
-        scheme(alloc),
-        number(alloc).default_value("0"),
-    ]?;
-    let form = ArgGroup::new(alloc, "form")
-        .arg("side")?
-        .arg("labels")?
-        .required(true);
-    Command::new(alloc, "print")
-        .about("Prints a document as labels that carry one identification")
-        .override_usage(help::PRINT_USAGE)
-        .after_help(help::PRINT)
-        .args(args)?
-        .group(form)
-}
-
-fn give<'a>(alloc: Global) -> Result<Command<'a>, AllocError> {
-    let to = number_option(alloc, "to", "the number of the other printer").required(true);
-    let number = number(alloc).required(true);
-    let args = vec![in alloc; file(alloc), number, to, first(alloc), last(alloc)]?;
-    Command::new(alloc, "give")
-        .about("Gives free identifications to another printer, by a ticket")
-        .override_usage("relay give --file PATH --number N --to N --first N --last N")
-        .after_help(help::GIVE)
-        .args(args)
-}
-
-fn ticket<'a>(alloc: Global) -> Arg<'a> {
-    Arg::new(alloc, "ticket")
-        .long("ticket")
-        .value_name("HEX")
-        .help(
-            "the 20 digits that `give` printed, or the form with\ncheck digits that `ticket` printed",
-        )
-        .required(true)
-}
-
-fn take<'a>(alloc: Global) -> Result<Command<'a>, AllocError> {
-    let args = vec![in alloc; file(alloc), number(alloc).required(true), ticket(alloc)]?;
-    Command::new(alloc, "take")
-        .about("Takes the identifications of a ticket")
-        .override_usage("relay take --file PATH --number N --ticket HEX")
-        .after_help(help::TAKE)
-        .args(args)
-}
-
-fn what_ticket<'a>(alloc: Global) -> Result<Command<'a>, AllocError> {
-    Command::new(alloc, "ticket")
-        .about("Prints what a ticket gives, and its form to copy by hand")
-        .override_usage("relay ticket --ticket HEX")
-        .after_help(help::TICKET)
-        .arg(ticket(alloc))
-}
-
-fn left<'a>(alloc: Global) -> Result<Command<'a>, AllocError> {
-    Command::new(alloc, "left")
-        .about("Prints what a ledger holds")
-        .override_usage("relay left --file PATH")
-        .after_help(help::LEFT)
-        .arg(file(alloc))
-}
-
-fn capacity<'a>(alloc: Global) -> Arg<'a> {
-    number_option(
-        alloc,
-        "capacity",
-        "how many documents it may hold, 1 to 1024",
-    )
-    .default_value("64")
-}
-
-fn id<'a>(alloc: Global) -> Arg<'a> {
-    Arg::new(alloc, "id")
-        .long("id")
-        .value_name("IIII")
-        .help("the identification: 4 hexadecimal digits")
-        .required(true)
-}
-
-fn page<'a>(alloc: Global) -> Arg<'a> {
-    Arg::new(alloc, "page")
-        .long("page")
-        .value_name("M")
-        .help("the page, from 1 to 16")
-        .value_parser(ValueParser::Signed(1, 16))
-        .required(true)
-}
-
-fn scan<'a>(alloc: Global) -> Result<Command<'a>, AllocError> {
-    let args = vec![in alloc; desk(alloc), capacity(alloc), images(alloc)]?;
-    Command::new(alloc, "scan")
-        .about("Gathers the pages of scanned labels at a desk")
-        .override_usage("relay scan --file PATH [--capacity N] [IMAGES ..] < IMAGES")
-        .after_help(help::SCAN)
-        .args(args)
-}
-
-fn deliver<'a>(alloc: Global) -> Result<Command<'a>, AllocError> {
-    let args = vec![in alloc; desk(alloc), id(alloc)]?;
-    Command::new(alloc, "deliver")
-        .about("Gives back a document when all its pages are held")
-        .override_usage("relay deliver --file PATH --id IIII > DOCUMENT")
-        .after_help(help::DELIVER)
-        .args(args)
-}
-
-fn forget<'a>(alloc: Global) -> Result<Command<'a>, AllocError> {
-    let args = vec![in alloc; desk(alloc), id(alloc)]?;
-    Command::new(alloc, "forget")
-        .about("Forgets a document")
-        .override_usage("relay forget --file PATH --id IIII")
-        .after_help(help::FORGET)
-        .args(args)
-}
-
-fn export<'a>(alloc: Global) -> Result<Command<'a>, AllocError> {
-    let args = vec![in alloc; desk(alloc), id(alloc)]?;
-    Command::new(alloc, "export")
-        .about("Writes the pages of a document for another desk")
-        .override_usage("relay export --file PATH --id IIII > PAGES")
-        .after_help(help::EXPORT)
-        .args(args)
-}
-
-fn import<'a>(alloc: Global) -> Result<Command<'a>, AllocError> {
-    let args = vec![in alloc; desk(alloc), capacity(alloc)]?;
-    Command::new(alloc, "import")
-        .about("Takes in the pages that another desk has exported")
-        .override_usage("relay import --file PATH [--capacity N] < PAGES")
-        .after_help(help::IMPORT)
-        .args(args)
-}
-
-fn held<'a>(alloc: Global) -> Result<Command<'a>, AllocError> {
-    let args = vec![in alloc; desk(alloc), id(alloc).required(false)]?;
-    Command::new(alloc, "held")
-        .about("Prints which pages a desk holds")
-        .override_usage("relay held --file PATH [--id IIII]")
-        .after_help(help::HELD)
-        .args(args)
-}
-
-fn copy<'a>(alloc: Global) -> Result<Command<'a>, AllocError> {
-    let args = vec![in alloc;
-        desk(alloc),
-        id(alloc),
-        page(alloc),
-        side(alloc).required(true),
-        scheme(alloc),
-    ]?;
-    Command::new(alloc, "copy")
-        .about("Draws again the label of a page that a desk holds")
-        .override_usage(help::COPY_USAGE)
-        .after_help(help::COPY)
-        .args(args)
-}
-
-fn world<'a>(alloc: Global) -> Command<'a> {
-    Command::new(alloc, "world")
-        .about("Plays printers and desks by a script, in memory")
-        .override_usage("relay world < SCRIPT")
-        .after_help(help::WORLD)
-}
-
-fn explain<'a>(alloc: Global) -> Result<Command<'a>, AllocError> {
-    let name = Arg::new(alloc, "name")
+// The name of a refusal.
+fn refusal<'a>(alloc: Global) -> Arg<'a> {
+    Arg::new(alloc, "name")
         .value_name("NAME")
-        .help("the name of a refusal; without one, prints all names");
-    Command::new(alloc, "explain")
-        .about("Prints what a refusal means, and what to do")
-        .override_usage("relay explain [NAME]")
-        .after_help(help::EXPLAIN)
-        .arg(name)
+        .help("the name of a refusal; without one, prints all names")
 }
 
-fn version<'a>(alloc: Global) -> Command<'a> {
-    Command::new(alloc, "version")
-        .about("Prints the version, and by which toolchain it was proved")
-        .override_usage("relay version")
+// A command of this name, with its help and its options.
+fn command<'a>(
+    alloc: Global,
+    name: &'a str,
+    page: Page,
+    options: Vec<Arg<'a>>,
+) -> Result<Command<'a>, AllocError> {
+    Command::new(alloc, name)
+        .about(page.about)
+        .override_usage(page.usage)
+        .after_help(page.more)
+        .args(options)
 }
 
 // Adds a command, if it could be made.
@@ -357,31 +148,66 @@ fn with<'a>(
 
 // The commands of symbols, added to the program.
 fn with_symbols<'a>(alloc: Global, program: Command<'a>) -> Result<Command<'a>, AllocError> {
-    let program = with(program, words(alloc))?;
-    let program = with(program, draw(alloc))?;
-    with(program, read(alloc))
+    let options = vec![in alloc; side(alloc).default_value("10"), scheme(alloc)]?;
+    let program = with(program, command(alloc, "words", help::WORDS, options))?;
+    let options = vec![in alloc;
+        side(alloc).default_value("10"),
+        scheme(alloc),
+        plain(alloc),
+    ]?;
+    let program = with(program, command(alloc, "draw", help::DRAW, options))?;
+    let options = vec![in alloc; images(alloc)]?;
+    with(program, command(alloc, "read", help::READ, options))
+}
+
+// The command that prints, by a side or by a number of labels.
+fn print<'a>(alloc: Global) -> Result<Command<'a>, AllocError> {
+    let form = ArgGroup::new(alloc, "form")
+        .arg("side")?
+        .arg("labels")?
+        .required(true);
+    let own = number(alloc).default_value("0");
+    let options = vec![in alloc; file(alloc), side(alloc), labels(alloc), scheme(alloc), own]?;
+    command(alloc, "print", help::PRINT, options)?.group(form)
 }
 
 // The commands of printers, added to those of symbols.
 fn with_printers<'a>(alloc: Global, program: Command<'a>) -> Result<Command<'a>, AllocError> {
-    let program = with(program, ledger(alloc))?;
-    let program = with(program, plan(alloc))?;
+    let own = number(alloc).default_value("0");
+    let options = vec![in alloc; file(alloc), first(alloc), last(alloc), own]?;
+    let program = with(program, command(alloc, "ledger", help::LEDGER, options))?;
+    let options = vec![in alloc; scheme(alloc)]?;
+    let program = with(program, command(alloc, "plan", help::PLAN, options))?;
     let program = with(program, print(alloc))?;
-    let program = with(program, give(alloc))?;
-    let program = with(program, what_ticket(alloc))?;
-    let program = with(program, take(alloc))?;
-    with(program, left(alloc))
+    let own = number(alloc).required(true);
+    let to = number_option(alloc, "to", "the number of the other printer").required(true);
+    let options = vec![in alloc; file(alloc), own, to, first(alloc), last(alloc)]?;
+    let program = with(program, command(alloc, "give", help::GIVE, options))?;
+    let options = vec![in alloc; ticket(alloc)]?;
+    let program = with(program, command(alloc, "ticket", help::TICKET, options))?;
+    let options = vec![in alloc; file(alloc), number(alloc).required(true), ticket(alloc)]?;
+    let program = with(program, command(alloc, "take", help::TAKE, options))?;
+    let options = vec![in alloc; file(alloc)]?;
+    with(program, command(alloc, "left", help::LEFT, options))
 }
 
 // The commands of desks, added to those of symbols and printers.
 fn with_desks<'a>(alloc: Global, program: Command<'a>) -> Result<Command<'a>, AllocError> {
-    let program = with(program, scan(alloc))?;
-    let program = with(program, deliver(alloc))?;
-    let program = with(program, forget(alloc))?;
-    let program = with(program, export(alloc))?;
-    let program = with(program, import(alloc))?;
-    let program = with(program, held(alloc))?;
-    with(program, copy(alloc))
+    let options = vec![in alloc; desk(alloc), capacity(alloc), images(alloc)]?;
+    let program = with(program, command(alloc, "scan", help::SCAN, options))?;
+    let options = vec![in alloc; desk(alloc), id(alloc)]?;
+    let program = with(program, command(alloc, "deliver", help::DELIVER, options))?;
+    let options = vec![in alloc; desk(alloc), id(alloc)]?;
+    let program = with(program, command(alloc, "forget", help::FORGET, options))?;
+    let options = vec![in alloc; desk(alloc), id(alloc)]?;
+    let program = with(program, command(alloc, "export", help::EXPORT, options))?;
+    let options = vec![in alloc; desk(alloc), capacity(alloc)]?;
+    let program = with(program, command(alloc, "import", help::IMPORT, options))?;
+    let options = vec![in alloc; desk(alloc), id(alloc).required(false)]?;
+    let program = with(program, command(alloc, "held", help::HELD, options))?;
+    let side = side(alloc).required(true);
+    let options = vec![in alloc; desk(alloc), id(alloc), page(alloc), side, scheme(alloc)]?;
+    with(program, command(alloc, "copy", help::COPY, options))
 }
 
 /// The whole program.
@@ -389,14 +215,18 @@ fn with_desks<'a>(alloc: Global, program: Command<'a>) -> Result<Command<'a>, Al
 /// # Errors
 /// Where the allocator refuses its memory.
 pub fn relay<'a>(alloc: Global) -> Result<Command<'a>, AllocError> {
-    let program = Command::new(alloc, "relay")
+    let program = command(alloc, "relay", help::PROGRAM, Vec::new(alloc))?
         .bin_name("relay")?
-        .about("Relays documents printed as Data Matrix labels")
-        .override_usage("relay [COMMAND] [OPTIONS]")
-        .after_help(help::PROGRAM)
         .disable_help_subcommand(true);
     let program = with_symbols(alloc, program)?;
     let program = with_printers(alloc, program)?;
-    let program = with_desks(alloc, program)?.subcommand(world(alloc))?;
-    with(program, explain(alloc))?.subcommand(version(alloc))
+    let program = with_desks(alloc, program)?;
+    let options = Vec::new(alloc);
+    let program = with(program, command(alloc, "world", help::WORLD, options))?;
+    let options = vec![in alloc; refusal(alloc)]?;
+    let program = with(program, command(alloc, "explain", help::EXPLAIN, options))?;
+    let version = Command::new(alloc, "version")
+        .about("Prints the version, and by which toolchain it was proved")
+        .override_usage("relay version");
+    program.subcommand(version)
 }

@@ -1,11 +1,11 @@
 //! From words to a command.
 
-ghost use Rattle.std.specs.Prelude.{◌≡◌, ◌≤◌, ◌⊎◌, codes, option_map, slice_get, IfOk, IfErr, IfSome};
-ghost use Rattle.relay_line.specs.Line.{HasNumbersInRange, HasStatus, IsNamed, IsOfForm, command_name};
+ghost use Rattle.std.specs.Prelude.{◌≡◌, ◌≤◌, ◌⊎◌, option_map, slice_get, IfOk, IfErr, IfSome};
+ghost use Rattle.relay_line.specs.Line.{HasNumbersInRange, HasStatus, IsNamed, IsOfForm, IsSideNumber, command_name};
 
 use crate::command::{Command, Labels};
-use crate::explain::explanation_in;
-use crate::explanations::{EXPLANATIONS, REFUSALS};
+use crate::explain::{explanation_in, names_in};
+use crate::explanations::EXPLANATIONS;
 use crate::fault::LineFault;
 use crate::options::{relay, scheme_of};
 use clap::error::ErrorKind;
@@ -14,18 +14,22 @@ use dm_encodation::Scheme;
 use std::alloc::{AllocError, Global};
 use std::convert::AsStr;
 
-const LEAST_SIDE: u16 = 10;
-
-const GREATEST_SIDE: u16 = 132;
-
-const LEAST_LABELS: u16 = 2;
-
-const MOST_LABELS: u16 = 16;
-
 // The program's version, and the toolchain by which it was proved.
 const VERSION: &str = "relay 0.9\nrattle-kit-13f logic dac8208d650f15bf\n";
 
 const NO_REFUSAL: &str = "error: no refusal has this name; `relay explain` lists them\n";
+
+const UNKNOWN: &str = "error: this command is unknown\n";
+
+// What a line that is not taken shows.
+fn shown(text: Result<String, AllocError>, status: u8) -> LineFault
+    ensures { (status ≡ 0) ⊎ (status ≡ 2) → HasStatus result }
+{
+    match text {
+        Ok(text) => LineFault::Line { text, status },
+        Err(_) => LineFault::Memory,
+    }
+}
 
 // The parser's text and status.
 fn fault_of(alloc: Global, error: &Error) -> LineFault
@@ -35,19 +39,19 @@ fn fault_of(alloc: Global, error: &Error) -> LineFault
         return LineFault::Memory;
     }
     let status = if error.use_stderr() { 2 } else { 0 };
-    match error.to_string(alloc) {
-        Ok(text) => LineFault::Line { text, status },
-        Err(_) => LineFault::Memory,
-    }
+    shown(error.to_string(alloc), status)
 }
 
-// The fault of a command that the parser knows and the table of commands doesn't. No line has it.
-fn unknown(alloc: Global) -> LineFault
+// What the refusal of a name means, or the names of all.
+fn explanation_of(alloc: Global, name: Option<&str>) -> LineFault
     ensures { HasStatus result }
 {
-    match String::from_str(alloc, "error: this command is unknown\n") {
-        Ok(text) => LineFault::Line { text, status: 2 },
-        Err(_) => LineFault::Memory,
+    let Some(name) = name else {
+        return shown(names_in(alloc, &EXPLANATIONS), 0);
+    };
+    match explanation_in(&EXPLANATIONS, name) {
+        Some(text) => shown(String::from_str(alloc, text), 0),
+        None => shown(String::from_str(alloc, NO_REFUSAL), 2),
     }
 }
 
@@ -56,39 +60,33 @@ fn encodation_of(options: &ArgMatches<'_>) -> Option<Scheme> {
     options.get_str("scheme").and_then(|name| scheme_of(name))
 }
 
-// The side.
-fn side_of(options: &ArgMatches<'_>) -> Option<u16>
-    ensures { IfSome result (λ side. (10 ≤ side) × (side ≤ 132)) }
+// The number of an option.
+fn number_in(options: &ArgMatches<'_>, name: &str, least: u16, most: u16) -> Option<u16>
+    ensures { IfSome result (λ number. (least ≤ number) × (number ≤ most)) }
 {
     options
-        .get_one::<u16>("side")
-        .filter(|side| (LEAST_SIDE..=GREATEST_SIDE).contains(side))
+        .get_one::<u16>(name)
+        .filter(|number| (least..=most).contains(number))
+}
+
+fn side_of(options: &ArgMatches<'_>) -> Option<u16>
+    ensures { IfSome result IsSideNumber }
+{
+    number_in(options, "side", 10, 132)
 }
 
 // Which labels a print has.
 fn labels_of(options: &ArgMatches<'_>) -> Option<Labels>
     ensures { IfSome result IsOfForm }
 {
-    let most = options
-        .get_one::<u16>("labels")
-        .filter(|most| (LEAST_LABELS..=MOST_LABELS).contains(most));
-    match most {
+    match number_in(options, "labels", 2, 16) {
         Some(most) => Some(Labels::AtMost(most)),
         None => Some(Labels::OfSide(side_of(options)?)),
     }
 }
 
-// The page.
-fn page_of(options: &ArgMatches<'_>) -> Option<u16>
-    ensures { IfSome result (λ page. (1 ≤ page) × (page ≤ 16)) }
-{
-    options
-        .get_one::<u16>("page")
-        .filter(|page| (1..=MOST_LABELS).contains(page))
-}
-
-// The commands that name no file.
-fn stream_command_of<'a>(name: &str, options: &ArgMatches<'a>) -> Option<Command<'a>>
+// The command of a name, with the options that the parser found.
+fn command_of<'a>(name: &str, options: &ArgMatches<'a>) -> Option<Command<'a>>
     ensures ranges { IfSome result HasNumbersInRange }
     ensures named { IfSome result (λ command. name.now ≡ command_name command) }
 {
@@ -110,72 +108,12 @@ fn stream_command_of<'a>(name: &str, options: &ArgMatches<'a>) -> Option<Command
             ticket: options.get_str("ticket")?,
         }),
         "world" => Some(Command::World),
-        _ => None,
+        _ => printer_command_of(name, options.get_str("file")?, options),
     }
 }
 
-// The commands of printers that save.
-fn printer_command_of<'a>(name: &str, options: &ArgMatches<'a>) -> Option<Command<'a>>
-    ensures ranges { IfSome result HasNumbersInRange }
-    ensures named { IfSome result (λ command. name.now ≡ command_name command) }
-{
-    let file = options.get_str("file")?;
-    let number = options.get_one::<u16>("number")?;
-    match name {
-        "ledger" => Some(Command::Ledger {
-            file,
-            number,
-            first: options.get_one::<u16>("first")?,
-            last: options.get_one::<u16>("last")?,
-        }),
-        "print" => Some(Command::Print {
-            file,
-            number,
-            labels: labels_of(options)?,
-            scheme: encodation_of(options)?,
-        }),
-        "give" => Some(Command::Give {
-            file,
-            number,
-            to: options.get_one::<u16>("to")?,
-            first: options.get_one::<u16>("first")?,
-            last: options.get_one::<u16>("last")?,
-        }),
-        "take" => Some(Command::Take {
-            file,
-            number,
-            ticket: options.get_str("ticket")?,
-        }),
-        _ => None,
-    }
-}
-
-// The commands that name a file by a document's identification, or by nothing else but a desk's capacity.
-fn file_command_of<'a>(name: &str, options: &ArgMatches<'a>) -> Option<Command<'a>>
-    ensures ranges { IfSome result HasNumbersInRange }
-    ensures named { IfSome result (λ command. name.now ≡ command_name command) }
-{
-    let file = options.get_str("file")?;
-    match name {
-        "left" => Some(Command::Left { file }),
-        "scan" => Some(Command::Scan {
-            file,
-            capacity: options.get_one::<u16>("capacity")?,
-        }),
-        "import" => Some(Command::Import {
-            file,
-            capacity: options.get_one::<u16>("capacity")?,
-        }),
-        "held" => Some(Command::Held {
-            file,
-            id: options.get_str("id"),
-        }),
-        _ => document_command_of(name, file, options),
-    }
-}
-
-// The commands on one document of a desk.
-fn document_command_of<'a>(
+// The commands that name a file: those of printers, and then those of desks.
+fn printer_command_of<'a>(
     name: &str,
     file: &'a str,
     options: &ArgMatches<'a>,
@@ -183,48 +121,59 @@ fn document_command_of<'a>(
     ensures ranges { IfSome result HasNumbersInRange }
     ensures named { IfSome result (λ command. name.now ≡ command_name command) }
 {
-    let id = options.get_str("id")?;
-    match name {
-        "deliver" => Some(Command::Deliver { file, id }),
-        "forget" => Some(Command::Forget { file, id }),
-        "export" => Some(Command::Export { file, id }),
-        "copy" => Some(Command::Copy {
+    match (name, options.get_one::<u16>("number")) {
+        ("ledger", Some(number)) => Some(Command::Ledger {
             file,
-            id,
-            page: page_of(options)?,
-            side: side_of(options)?,
+            number,
+            first: options.get_one::<u16>("first")?,
+            last: options.get_one::<u16>("last")?,
+        }),
+        ("print", Some(number)) => Some(Command::Print {
+            file,
+            number,
+            labels: labels_of(options)?,
             scheme: encodation_of(options)?,
         }),
-        _ => None,
+        ("give", Some(number)) => Some(Command::Give {
+            file,
+            number,
+            to: options.get_one::<u16>("to")?,
+            first: options.get_one::<u16>("first")?,
+            last: options.get_one::<u16>("last")?,
+        }),
+        ("take", Some(number)) => Some(Command::Take {
+            file,
+            number,
+            ticket: options.get_str("ticket")?,
+        }),
+        ("left", _) => Some(Command::Left { file }),
+        _ => desk_command_of(name, file, options),
     }
 }
 
-// The command of a name, with the options that the parser found.
-fn given_command<'a>(name: &str, matches: &ArgMatches<'a>) -> Option<Command<'a>>
+fn desk_command_of<'a>(name: &str, file: &'a str, options: &ArgMatches<'a>) -> Option<Command<'a>>
     ensures ranges { IfSome result HasNumbersInRange }
     ensures named { IfSome result (λ command. name.now ≡ command_name command) }
 {
-    let (_, options) = matches.subcommand()?;
-    match name {
-        "words" | "draw" | "read" | "plan" | "ticket" | "world" => stream_command_of(name, options),
-        "ledger" | "print" | "give" | "take" => printer_command_of(name, options),
-        _ => file_command_of(name, options),
-    }
-}
-
-// What is shown where the program is asked of itself, and the exit status.
-fn shown_for(name: &str, matches: &ArgMatches<'_>) -> Option<(&'static str, u8)>
-    ensures { IfSome result (λ (_, status). (status ≡ 0) ⊎ (status ≡ 2)) }
-{
-    let (_, options) = matches.subcommand()?;
-    match name {
-        "version" => Some((VERSION, 0)),
-        "explain" => Some(match options.get_str("name") {
-            None => (REFUSALS, 0),
-            Some(refusal) => match explanation_in(&EXPLANATIONS, refusal) {
-                Some(text) => (text, 0),
-                None => (NO_REFUSAL, 2),
-            },
+    match (name, options.get_str("id")) {
+        ("scan", _) => Some(Command::Scan {
+            file,
+            capacity: options.get_one::<u16>("capacity")?,
+        }),
+        ("import", _) => Some(Command::Import {
+            file,
+            capacity: options.get_one::<u16>("capacity")?,
+        }),
+        ("held", id) => Some(Command::Held { file, id }),
+        ("deliver", Some(id)) => Some(Command::Deliver { file, id }),
+        ("forget", Some(id)) => Some(Command::Forget { file, id }),
+        ("export", Some(id)) => Some(Command::Export { file, id }),
+        ("copy", Some(id)) => Some(Command::Copy {
+            file,
+            id,
+            page: number_in(options, "page", 1, 16)?,
+            side: side_of(options)?,
+            scheme: encodation_of(options)?,
         }),
         _ => None,
     }
@@ -245,16 +194,16 @@ pub fn command_line<'a, S: AsStr>(alloc: Global, words: &'a [S]) -> Result<Comma
         Err(error) => return Err(fault_of(alloc, &error)),
     };
     let Some(name) = words.get(1) else {
-        let (side, scheme) = (LEAST_SIDE, Scheme::Ascii);
+        let (side, scheme) = (10, Scheme::Ascii);
         return Ok(Command::Words { side, scheme });
     };
-    if let Some((text, status)) = shown_for(name.as_str(), &matches) {
-        let text = String::from_str(alloc, text)?;
-        return Err(LineFault::Line { text, status });
-    }
-    match given_command(name.as_str(), &matches) {
-        Some(command) => Ok(command),
-        None => Err(unknown(alloc)),
+    // Of a line that names no command, as `relay --`. Each name that the parser takes has a command.
+    let unknown = || shown(String::from_str(alloc, UNKNOWN), 2);
+    match (name.as_str(), matches.subcommand()) {
+        ("version", Some(_)) => Err(shown(String::from_str(alloc, VERSION), 0)),
+        ("explain", Some((_, options))) => Err(explanation_of(alloc, options.get_str("name"))),
+        (name, Some((_, options))) => command_of(name, options).ok_or_else(unknown),
+        (_, None) => Err(unknown()),
     }
 }
 

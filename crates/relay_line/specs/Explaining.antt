@@ -1,0 +1,18 @@
+-- What `relay explain` says, by a table of texts. The first line of each is the name of a refusal.
+use Rattle.std.specs.Borrow.{Bor}
+use Rattle.std.specs.Prelude.{ℕ, List, [], ◌∷◌, ◌++◌, ◌==◌, Option, Some, None, if◌then◌else◌, flat_map}
+use Rattle.std.specs.List.{before_first}
+use Rattle.std.specs.Str.{bytes_eq}
+
+-- the bytes before the first line end
+abbrev pub first_line : List ℕ → List ℕ
+first_line text = before_first (λ byte. byte == 10) text
+
+-- of a refusal: the first text that begins with a line of its name
+abbrev pub explained : List (Bor (List ℕ)) → List ℕ → Option (List ℕ)
+explained [] name = None
+explained (text ∷ rest) name = if bytes_eq (first_line text.now) name then Some text.now else explained rest name
+
+-- the names, a line each
+abbrev pub names : List (Bor (List ℕ)) → List ℕ
+names table = flat_map (λ text. first_line text.now ++ 10 ∷ []) table
