@@ -103,9 +103,9 @@ fn print_under<A: Allocator + Copy>(
 }
 
 // Lets this many labels of a job out, or all, if it has fewer. There is room for all.
-fn let_out<A: Allocator + Copy>(labels: &mut Vec<LeftLabel<A>, A>, job: &mut Job<A>, most: u8)
-    requires room { vec_len labels.old + length job.old.labels ≤ vec_capacity labels.old }
-    ensures { labels.new.items ≡ labels.old.items ++ left_labels job.old.id job.old.count 1 (take most job.old.labels) }
+fn let_out<A: Allocator + Copy>(labels: &mut Vec<LeftLabel<A>, A>, mut job: Job<A>, most: u8)
+    requires room { vec_len labels.old + length job.labels ≤ vec_capacity labels.old }
+    ensures { labels.new.items ≡ labels.old.items ++ left_labels job.id job.count 1 (take most job.labels) }
 {
     let id = job.id();
     let count = job.count();
@@ -125,13 +125,13 @@ fn let_out<A: Allocator + Copy>(labels: &mut Vec<LeftLabel<A>, A>, job: &mut Job
 // What is answered to a print, whose labels leave, as many as do under the stop.
 fn tell_print<A: Allocator + Copy>(
     labels: &mut Vec<LeftLabel<A>, A>,
-    outcome: &mut Result<Job<A>, PrintFault>,
+    outcome: Result<Job<A>, PrintFault>,
     stop: Stop,
 ) -> Reply<A>
-    requires few { IfOk outcome.old (λ job. length job.labels ≤ MOST_LABELS) }
+    requires few { IfOk outcome (λ job. length job.labels ≤ MOST_LABELS) }
     requires room { vec_len labels.old + MOST_LABELS ≤ vec_capacity labels.old }
-    ensures told { result ≡ print_reply (length labels.old.items) outcome.old }
-    ensures left { labels.new.items ≡ labels.old.items ++ job_labels (most_labels stop) outcome.old }
+    ensures told { result ≡ print_reply (length labels.old.items) outcome }
+    ensures left { labels.new.items ≡ labels.old.items ++ job_labels (most_labels stop) outcome }
 {
     match outcome {
         Ok(job) => {
@@ -141,7 +141,7 @@ fn tell_print<A: Allocator + Copy>(
             let_out(labels, job, most_labels(stop));
             Reply::Printed { id, first, count }
         }
-        Err(fault) => Reply::PrintRefused(*fault),
+        Err(fault) => Reply::PrintRefused(fault),
     }
 }
 
@@ -170,8 +170,8 @@ pub(crate) fn print<A: Allocator + Copy>(
         take_down(alloc, actor);
         return Reply::Stopped;
     }
-    let mut outcome = print_under(printer, document, size, scheme, stop);
-    let reply = tell_print(labels, &mut outcome, stop);
+    let outcome = print_under(printer, document, size, scheme, stop);
+    let reply = tell_print(labels, outcome, stop);
     end(alloc, actor, stop, reply)
 }
 

@@ -1,12 +1,10 @@
 //! The labels of one print.
 
-ghost use Rattle.std.specs.Prelude.{◌≡◌, ◌∷◌, [], ◌≤◌, MatchOption, IfOk, IsTrue, is_some, length};
-ghost use Rattle.std.specs.List.{filter_map, list_all};
+ghost use Rattle.std.specs.Prelude.{◌≡◌, ◌∷◌, [], ◌≤◌, MatchOption, IfOk, length};
 ghost use Rattle.dm_append_label.specs.Labels.{Fits, PartsFit, parts_from};
 ghost use Rattle.dm_print_ledger.specs.Verdicts.{AreLabels, IsJobOf, IsLabelOf};
 
-use arrayvec::{ArrayVec, IntoIter};
-use dm_append_label::{FileId, MOST_LABELS, Page, SealFault, seal_with};
+use dm_append_label::{FileId, Page, SealFault, seal_with};
 use dm_check_blocks::Size;
 use dm_encodation::Scheme;
 use dm_finder_frame::Grid;
@@ -20,23 +18,28 @@ use std::marker::Model;
 pub struct Job<A: Allocator = Global> {
     id: FileId,
     count: u8,
-    /// The first page's first. None is `None`, which is there for the vector's blank places alone.
-    labels: IntoIter<Option<Grid<A>>, MOST_LABELS>,
+    /// The last page's first, so that a label is taken without moving the others.
+    labels: Vec<Grid<A>, A>,
 }
 
 impl<A: Allocator> Model for Job<A> {
-    ghost use Rattle.std.specs.Prelude.{IsTrue, is_some};
-    ghost use Rattle.std.specs.List.{filter_map, list_all};
+    ghost use Rattle.std.specs.Prelude.{reverse};
     ghost use Rattle.dm_print_ledger.specs.Ledger.{JobView};
 
     ghost Value = { JobView };
 
-    ghost view = { λ j. record { id = j.id; count = j.count; labels = filter_map (λ label. label) j.labels } };
-
-    ghost invariant = { λ j. IsTrue (list_all is_some j.labels) };
+    ghost view = { λ j. record { id = j.id; count = j.count; labels = reverse j.labels.items } };
 }
 
 impl<A: Allocator> Job<A> {
+    // A job of these labels, the first page's first.
+    fn new(id: FileId, count: u8, mut labels: Vec<Grid<A>, A>) -> Job<A>
+        ensures { result ≡ record { id = id; count = count; labels = labels.items } }
+    {
+        labels.reverse();
+        Job { id, count, labels }
+    }
+
     /// The identification that all its labels carry.
     pub fn id(&self) -> FileId
         ensures { result ≡ self.now.id }
@@ -56,10 +59,7 @@ impl<A: Allocator> Job<A> {
         ensures { MatchOption result ((self.old.labels ≡ []) × (self.new ≡ self.old))
             (λ grid. self.old ≡ record self.new { labels = grid ∷ self.new.labels }) }
     {
-        let Some(label) = self.labels.next() else {
-            return None;
-        };
-        label
+        self.labels.pop()
     }
 }
 
@@ -106,22 +106,21 @@ fn labels_by<A: Allocator + Copy>(
     id: FileId,
     layout: &Layout<A>,
     scheme: Scheme,
-) -> Result<ArrayVec<Option<Grid<A>>, MOST_LABELS>, AllocError>
+) -> Result<Vec<Grid<A>, A>, AllocError>
     requires fit { PartsFit layout.now scheme document.now 0 ends.now }
     requires least { 2 ≤ length ends.now }
     requires most { length ends.now ≤ 16 }
-    ensures whole { IfOk result (λ labels. IsTrue (list_all is_some labels.items)) }
-    ensures made { IfOk result (λ labels. AreLabels layout.now scheme id (length ends.now) 1
-        (parts_from document.now 0 ends.now) (filter_map (λ label. label) labels.items)) }
+    ensures { IfOk result (λ labels. AreLabels layout.now scheme id (length ends.now) 1
+        (parts_from document.now 0 ends.now) labels.items) }
 {
     let n = ends.len() as u8;
-    let mut labels = ArrayVec::new();
+    let mut labels = Vec::with_capacity(alloc, ends.len())?;
     let mut from = 0;
     let mut m = 1u8;
     for end in ends {
         let part = &document[from..*end];
         let number = PageNumber { id, m, n };
-        labels.push(Some(make_label(alloc, part, number, layout, scheme)?));
+        labels.push(make_label(alloc, part, number, layout, scheme)?)?;
         from = *end;
         m += 1;
     }
@@ -144,9 +143,5 @@ pub(crate) fn make_job<A: Allocator + Copy>(
 {
     let layout = Layout::of_size(alloc, size)?;
     let labels = labels_by(alloc, document, ends, id, &layout, scheme)?;
-    Ok(Job {
-        id,
-        count: ends.len() as u8,
-        labels: labels.into_iter(),
-    })
+    Ok(Job::new(id, ends.len() as u8, labels))
 }

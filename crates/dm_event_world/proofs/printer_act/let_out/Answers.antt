@@ -1,5 +1,4 @@
-use Rattle.std.proofs.Common.{◌≡◌, ◌-◌, ◌++◌, [], take, ap, rules, arith}
-use Rattle.std.proofs.lemmas.List.{append-nil}
+use Rattle.std.proofs.Common.{◌++◌, take, ap, rules}
 use Rattle.dm_print_ledger.specs.Ledger.{JobView}
 use Rattle.dm_event_world.specs.inner.Calls.{left_labels}
 use Rattle.dm_event_world.proofs.LabelsOut.{one_more}
@@ -14,13 +13,6 @@ loop-before-preserved g c =
           c.next_label.new.self.labels
           c.loop-before.job.labels c.loop-before.labels.items c.push_reserved.new.self.items
           (c.args.labels.now.items ++ left_labels c.id-id.result c.count-count.result 1
-          (take c.args.most c.args.job.now.labels))
+          (take c.args.most c.args.job.labels))
           c.loop-before-test.true given c.push_reserved.ensures.items c.loop-before.invariant.out;
     }
-
-pub returns : goal.returns
-returns g c =
-    let done : c.args.most - c.loop-before.before ≡ 0 = omega arith in
-    let out : c.loop-before.labels.items ++ [] ≡ c.args.labels.now.items ++ left_labels c.id-id.result
-    c.count-count.result 1 (take c.args.most c.args.job.now.labels) = rw done at c.loop-before.invariant.out in
-    grind (arith, append-nil c.loop-before.labels.items, out)

@@ -1,5 +1,3 @@
-use Rattle.std.specs.Prelude.{IsTrue, is_some}
-use Rattle.std.specs.List.{filter_map, list_all}
 use Rattle.std.proofs.Common.{◌≡◌, ◌≤◌, ◌+◌, ◌++◌, List, drop, length}
 use Rattle.dm_finder_frame.specs.Frame.{GridView}
 use Rattle.dm_append_label.specs.Labels.{PartsFit, parts_from}
@@ -12,13 +10,10 @@ invariant-loop-end g l = record {
   least : 2 ≤ length l.ends;
   most : length l.ends ≤ 16;
   n_is : l.n ≡ length l.ends;
-  count : length l.labels.items ≡ l.end-index;
-  whole : IsTrue (list_all is_some l.labels.items);
   rest : PartsFit l.layout l.scheme l.document l.from (drop l.end-index l.ends);
   -- whatever completes the labels of the rest completes all
   so_far : (tail : List GridView) →
       AreLabels l.layout l.scheme l.id (length l.ends) l.m
       (parts_from l.document l.from (drop l.end-index l.ends)) tail →
-      AreLabels l.layout l.scheme l.id (length l.ends) 1 (parts_from l.document 0 l.ends)
-      (filter_map (λ label. label) l.labels.items ++ tail);
+      AreLabels l.layout l.scheme l.id (length l.ends) 1 (parts_from l.document 0 l.ends) (l.labels.items ++ tail);
 }
