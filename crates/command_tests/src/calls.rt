@@ -1,8 +1,10 @@
-//! Each command on what it is called on, and how it ends.
+//! Each command over the disk of a machine, and how it ends.
 
+use crate::left_files::{Files, PAGES, SET, STORE, files_on, keep};
+use crate::machine::{Machine, MachineDisk};
 use dm_encodation::Scheme;
 use dm_print_ledger::Range;
-use dm_store::{MemSet, MemStore, StoreSet};
+use dm_store::{FileSet, FileStore, Store};
 use relay_desk_commands::{
     CopyOptions, copy_command, deliver_command, export_command, forget_command, held_command,
     import_command, scan_command,
@@ -12,46 +14,105 @@ use relay_printer_commands::{
     ledger_command, left_command, plan_command, print_auto_command, print_command, take_command,
     ticket_command,
 };
-use relay_shared::{Ended, EndedDesk, Streams};
+use relay_shared::Streams;
 use relay_symbol_commands::{Form, draw_command, read_command, words_command};
 use relay_world_command::world_command;
-use std::alloc::{Allocator, Global};
+use std::alloc::{AllocError, Allocator, Global};
 use std::io::{Read, Write};
+use std::test::Fail;
+use test_helpers::MemDisk;
 
-/// The commands, each with these options: symbols of side 10, labels of side 12, the printer 0, the identification
-/// 0101.
-#[derive(Clone, Copy, PartialEq, Eq)]
+/// The commands, each with the options below.
+#[derive(Clone, Copy, Debug)]
 pub enum Call {
     Words,
-    Draw,
-    DrawPlain,
+    /// Whether the image is plain.
+    Draw(bool),
     Read,
     Plan,
     Ticket,
+    World,
     Ledger,
     Print,
     PrintAuto,
     Give,
     Take,
     Left,
-    Scan,
+    /// What it reads.
+    Scan(&'static [u8]),
     Deliver,
-    Forget,
-    Export,
-    Import,
-    Held,
-    HeldOne,
+    /// An identification.
+    Forget(&'static str),
+    Export(&'static str),
+    /// What it reads.
+    Import(&'static [u8]),
+    /// An identification, or none for all.
+    Held(Option<&'static str>),
     Copy,
-    World,
+    /// What a desk of an older version has saved: a file of two documents.
+    Joint,
 }
 
-// A ledger of printer 0 with the identifications 0 to 9.
-const LEDGER: &[u8] = b"DMLG\x02\0\0\0\0\x01\0\0\0\x09\0\xff\xf5";
+const FORM: Form = Form {
+    side: 10,
+    scheme: Scheme::Ascii,
+};
 
-// The file of page 2 of `1234`, and that of both pages.
+const LEDGER: LedgerOptions = LedgerOptions {
+    number: 0,
+    range: Range { first: 0, last: 9 },
+};
+
+const PRINT: PrintOptions = PrintOptions {
+    number: 0,
+    side: 12,
+    scheme: Scheme::Ascii,
+};
+
+const PRINT_AUTO: AutoOptions = AutoOptions {
+    number: 0,
+    most_labels: 2,
+    scheme: Scheme::Ascii,
+};
+
+const GIVE: GiveOptions = GiveOptions {
+    number: 0,
+    to: 1,
+    range: Range { first: 5, last: 9 },
+};
+
+// Two identifications of printer 1, for printer 0.
+const TICKET: &str = "00010000000000140015";
+
+const TAKE: TakeOptions<'static> = TakeOptions {
+    number: 0,
+    text: TICKET,
+};
+
+const ID: &str = "0101";
+
+const COPY: CopyOptions<'static> = CopyOptions {
+    id: ID,
+    page: 2,
+    side: 12,
+    scheme: Scheme::Ascii,
+};
+
+const CAPACITY: u16 = 4;
+
+// The file of printer 0 with the identifications 0 to 9.
+const NEW_LEDGER: &[u8] = b"DMLG\x02\0\0\0\0\x01\0\0\0\x09\0\xff\xf5";
+
+// The file of page 2 of `1234`.
 const PAGE_2: &[u8] = b"DMPG\x02\x01\x01\x02\0\x02\0\x0234";
 
-const BOTH: &[u8] = b"DMPG\x02\x01\x01\x02\0\x03\0\x0212\0\x0234";
+/// The file of both pages of `1234`, and that of a page of another document.
+pub const BOTH: &[u8] = b"DMPG\x02\x01\x01\x02\0\x03\0\x0212\0\x0234";
+
+pub const OTHER: &[u8] = b"DMPG\x02\x01\x03\x02\0\x01\0\x0212";
+
+// Page 2 of 0101, and page 1 of 0103.
+const JOINT: &[u8] = b"DMPG\x01\0\x02\x01\x01\x02\0\x02\0\x0234\x01\x03\x02\0\x01\0\x0212";
 
 /// The images of the two labels of `1234`, as `print` writes them.
 pub const LABELS: &[u8] =
@@ -66,270 +127,222 @@ const SCRIPT: &[u8] =
     b"range 0 9\ndesks 1 4\nprint 0 12 ascii 31323334 -\nscan 0 0 - -\nscan 0 1 - -\n\
     ask 0 0101\n";
 
-/// All of them.
+/// The calls that are made alone, over the file that each asks for.
 pub const CALLS: [Call; 21] = [
     Call::Words,
-    Call::Draw,
-    Call::DrawPlain,
+    Call::Draw(false),
+    Call::Draw(true),
     Call::Read,
     Call::Plan,
     Call::Ticket,
+    Call::World,
     Call::Ledger,
     Call::Print,
     Call::PrintAuto,
     Call::Give,
     Call::Take,
     Call::Left,
-    Call::Scan,
+    Call::Scan(LABEL),
     Call::Deliver,
-    Call::Forget,
-    Call::Export,
-    Call::Import,
-    Call::Held,
-    Call::HeldOne,
+    Call::Forget(ID),
+    Call::Export(ID),
+    Call::Import(BOTH),
+    Call::Held(None),
+    Call::Held(Some(ID)),
     Call::Copy,
-    Call::World,
 ];
 
 impl Call {
-    /// What its store holds before, or no bytes for nothing.
-    pub fn ledger(self) -> &'static [u8] {
-        match self {
-            Call::Print | Call::PrintAuto | Call::Give | Call::Take | Call::Left => LEDGER,
-            _ => b"",
-        }
-    }
-
-    /// What the key 0 of its set holds before, or no bytes for nothing.
-    pub fn file(self) -> &'static [u8] {
-        match self {
-            Call::Scan | Call::Import | Call::Held | Call::HeldOne => PAGE_2,
-            Call::Deliver | Call::Forget | Call::Export | Call::Copy => BOTH,
-            _ => b"",
-        }
-    }
-
     /// Its input.
     pub fn input(self) -> &'static [u8] {
         match self {
-            Call::Words | Call::Draw | Call::DrawPlain => b"123456",
-            Call::Read | Call::Scan => LABEL,
+            Call::Words | Call::Draw(_) => b"123456",
+            Call::Read => LABEL,
             Call::Plan | Call::Print | Call::PrintAuto => b"1234",
-            Call::Import => BOTH,
             Call::World => SCRIPT,
+            Call::Scan(bytes) | Call::Import(bytes) => bytes,
             _ => b"",
         }
     }
 
-    /// Whether its refusals go to the standard error, since its output is not of lines.
+    // A disk with the file that it is made over alone.
+    fn disk(self, alloc: Global) -> Result<MemDisk, Fail> {
+        let mut disk = MemDisk::new(alloc);
+        match self {
+            Call::Print | Call::PrintAuto | Call::Give | Call::Take | Call::Left => {
+                keep(&mut disk, STORE, NEW_LEDGER)?;
+            }
+            Call::Scan(_) | Call::Import(_) | Call::Held(_) => keep(&mut disk, PAGES, PAGE_2)?,
+            Call::Deliver | Call::Forget(_) | Call::Export(_) | Call::Copy => {
+                keep(&mut disk, PAGES, BOTH)?;
+            }
+            _ => {}
+        }
+        Ok(disk)
+    }
+
+    /// Whether its lines go to the standard error, since its output is not of lines.
     pub fn writes_no_lines(self) -> bool {
         matches!(
             self,
-            Call::Draw
-                | Call::DrawPlain
+            Call::Draw(_)
                 | Call::Print
                 | Call::PrintAuto
                 | Call::Deliver
-                | Call::Export
+                | Call::Export(_)
                 | Call::Copy
         )
     }
 }
 
-/// What a command has done: its status, what it wrote, and its store and its set.
-#[derive(Drop)]
-pub struct CallEnd<W: Write + Drop> {
-    pub status: u8,
-    pub writer: W,
-    pub errors: Vec<u8>,
-    pub store: MemStore,
-    pub set: MemSet,
-}
-
-// The files of a desk in memory, or a ledger.
-type Files = EndedDesk<MemStore, MemSet>;
-
-// The commands that name no file.
-fn symbol_call<A: Allocator + Copy, R: Read, W: Write>(
+// A call on a printer or a desk.
+fn filed<A: Allocator + Copy, R: Read, W: Write, E: Write>(
     memory: A,
-    streams: &mut Streams<R, W, Vec<u8>>,
+    store: FileStore<MachineDisk<'_>>,
+    set: FileSet<MachineDisk<'_>>,
+    streams: &mut Streams<R, W, E>,
     call: Call,
 ) -> u8 {
-    let form = Form {
-        side: 10,
-        scheme: Scheme::Ascii,
-    };
     match call {
-        Call::Words => words_command(memory, streams, form),
-        Call::Read => read_command(memory, streams),
-        Call::Plan => plan_command(memory, streams, Scheme::Ascii),
-        Call::Ticket => ticket_command(streams, "00010000000000140015"),
-        Call::World => world_command(memory, streams),
-        _ => draw_command(memory, streams, form, call == Call::DrawPlain),
-    }
-}
-
-// A print with a side, or one that chooses it.
-fn print_call<A: Allocator + Copy, R: Read, W: Write>(
-    memory: A,
-    store: MemStore,
-    streams: &mut Streams<R, W, Vec<u8>>,
-    is_auto: bool,
-) -> Ended<MemStore> {
-    if is_auto {
-        let options = AutoOptions {
-            number: 0,
-            most_labels: 2,
-            scheme: Scheme::Ascii,
-        };
-        return print_auto_command(memory, store, streams, options);
-    }
-    let options = PrintOptions {
-        number: 0,
-        side: 12,
-        scheme: Scheme::Ascii,
-    };
-    print_command(memory, store, streams, options)
-}
-
-// The commands of printers.
-fn printer_call<A: Allocator + Copy, R: Read, W: Write>(
-    memory: A,
-    store: MemStore,
-    streams: &mut Streams<R, W, Vec<u8>>,
-    call: Call,
-) -> Ended<MemStore> {
-    match call {
-        Call::Ledger => {
-            let range = Range { first: 0, last: 9 };
-            ledger_command(memory, store, streams, LedgerOptions { number: 0, range })
+        Call::Ledger => ledger_command(memory, store, streams, LEDGER).status,
+        Call::Print => print_command(memory, store, streams, PRINT).status,
+        Call::PrintAuto => print_auto_command(memory, store, streams, PRINT_AUTO).status,
+        Call::Give => give_command(memory, store, streams, GIVE).status,
+        Call::Take => take_command(memory, store, streams, TAKE).status,
+        Call::Left => left_command(store, streams).status,
+        Call::Scan(_) => scan_command(memory, store, set, streams, CAPACITY).status,
+        Call::Deliver => deliver_command(memory, store, set, streams, ID).status,
+        Call::Forget(id) => forget_command(memory, store, set, streams, id).status,
+        Call::Export(id) => export_command(memory, store, set, streams, id).status,
+        Call::Import(_) => import_command(memory, store, set, streams, CAPACITY).status,
+        Call::Held(id) => held_command(store, set, streams, id).status,
+        Call::Copy => copy_command(memory, store, set, streams, COPY).status,
+        _ => {
+            let mut store = store;
+            u8::from(store.replace(JOINT).is_err())
         }
-        Call::Give => {
-            let options = GiveOptions {
-                number: 0,
-                to: 1,
-                range: Range { first: 5, last: 9 },
-            };
-            give_command(memory, store, streams, options)
-        }
-        Call::Take => {
-            let options = TakeOptions {
-                number: 0,
-                text: "00010000000000140015",
-            };
-            take_command(memory, store, streams, options)
-        }
-        Call::Left => left_command(store, streams),
-        _ => print_call(memory, store, streams, call == Call::PrintAuto),
     }
 }
 
-// The commands of desks.
-fn desk_call<A: Allocator + Copy, R: Read, W: Write>(
-    memory: A,
-    store: MemStore,
-    set: MemSet,
-    streams: &mut Streams<R, W, Vec<u8>>,
-    call: Call,
-) -> Files {
-    match call {
-        Call::Scan => scan_command(memory, store, set, streams, 4),
-        Call::Deliver => deliver_command(memory, store, set, streams, "0101"),
-        Call::Forget => forget_command(memory, store, set, streams, "0101"),
-        Call::Export => export_command(memory, store, set, streams, "0101"),
-        Call::Held => held_command(store, set, streams, None),
-        Call::HeldOne => held_command(store, set, streams, Some("0101")),
-        Call::Copy => {
-            let options = CopyOptions {
-                id: "0101",
-                page: 2,
-                side: 12,
-                scheme: Scheme::Ascii,
-            };
-            copy_command(memory, store, set, streams, options)
-        }
-        _ => import_command(memory, store, set, streams, 4),
-    }
-}
-
-// The store of these bytes, or one that holds nothing.
-fn store_of(alloc: Global, bytes: &[u8]) -> MemStore {
-    match bytes.to_vec(alloc) {
-        Ok(copy) if !copy.is_empty() => MemStore::with(alloc, copy),
-        _ => MemStore::new(alloc),
-    }
-}
-
-// The set that holds these bytes at the key 0, or nothing.
-fn set_of(alloc: Global, bytes: &[u8]) -> MemSet {
-    let mut set = MemSet::new(alloc);
-    if !bytes.is_empty() {
-        let _ = set.replace(0, bytes);
-    }
-    set
-}
-
-// Does a command over a store, a set and streams.
-fn called<A: Allocator + Copy, R: Read, W: Write>(
-    memory: A,
-    store: MemStore,
-    set: MemSet,
-    streams: &mut Streams<R, W, Vec<u8>>,
-    call: Call,
-) -> Files {
-    match call {
-        Call::Words
-        | Call::Draw
-        | Call::DrawPlain
-        | Call::Read
-        | Call::Plan
-        | Call::Ticket
-        | Call::World => {
-            let status = symbol_call(memory, streams, call);
-            EndedDesk { status, store, set }
-        }
-        Call::Ledger | Call::Print | Call::PrintAuto | Call::Give | Call::Take | Call::Left => {
-            let Ended { status, store } = printer_call(memory, store, streams, call);
-            EndedDesk { status, store, set }
-        }
-        _ => desk_call(memory, store, set, streams, call),
-    }
-}
-
-/// Does a command over these streams and this memory. What it saves and its errors are in the other memory.
-pub fn done<A: Allocator + Copy, R: Read + Drop, W: Write + Drop>(
+// Does a command over the disk of a machine, this memory and these streams.
+fn status_of<A: Allocator + Copy, R: Read, W: Write, E: Write>(
     memory: A,
     alloc: Global,
+    machine: &Machine,
+    streams: &mut Streams<R, W, E>,
     call: Call,
-    reader: R,
-    writer: W,
-) -> CallEnd<W> {
-    let mut streams = Streams::new(reader, writer, Vec::new(alloc));
-    let store = store_of(alloc, call.ledger());
-    let set = set_of(alloc, call.file());
-    let ended = called(memory, store, set, &mut streams, call);
-    let Streams { output, errors, .. } = streams;
-    CallEnd {
-        status: ended.status,
-        writer: output.into_writer(),
-        errors: errors.into_writer(),
-        store: ended.store,
-        set: ended.set,
+) -> Result<u8, AllocError> {
+    let status = match call {
+        Call::Words => words_command(memory, streams, FORM),
+        Call::Draw(is_plain) => draw_command(memory, streams, FORM, is_plain),
+        Call::Read => read_command(memory, streams),
+        Call::Plan => plan_command(memory, streams, Scheme::Ascii),
+        Call::Ticket => ticket_command(streams, TICKET),
+        Call::World => world_command(memory, streams),
+        _ => {
+            let path = String::from_str(alloc, STORE)?;
+            let store = FileStore::new(alloc, machine.disk(), path);
+            let folder = String::from_str(alloc, SET)?;
+            let set = FileSet::new(alloc, machine.disk(), folder);
+            filed(memory, store, set, streams, call)
+        }
+    };
+    Ok(status)
+}
+
+/// How a call ended: its status, the rest of its input, what it wrote, whether the machine does no call more, the files
+/// before it and after it, and their disk.
+#[derive(Drop)]
+pub struct CallEnd<R: Read + Drop, W: Write + Drop, E: Write + Drop> {
+    pub status: u8,
+    pub reader: R,
+    pub writer: W,
+    pub errors: E,
+    pub has_stopped: bool,
+    pub old: Files,
+    pub files: Files,
+    pub disk: MemDisk,
+}
+
+/// How it ended over a whole input, and outputs that do not fail.
+pub type Whole = CallEnd<&'static [u8], Vec<u8>, Vec<u8>>;
+
+impl<R: Read + Drop> CallEnd<R, Vec<u8>, Vec<u8>> {
+    /// The lines that it wrote, and what else.
+    pub fn told(&self, call: Call) -> (&[u8], &[u8]) {
+        if call.writes_no_lines() {
+            (self.errors.as_slice(), self.writer.as_slice())
+        } else {
+            (self.writer.as_slice(), self.errors.as_slice())
+        }
+    }
+
+    /// Whether it wrote nothing but its lines; a scan may note which image a line is of.
+    pub fn tells_no_more(&self, call: Call) -> bool {
+        let (_, others) = self.told(call);
+        others.is_empty() || matches!(call, Call::Scan(_)) && others.starts_with(b"relay: image ")
+    }
+
+    /// Whether it was refused before it did anything, by this line.
+    pub fn is_refused(&self, call: Call, line: &[u8]) -> bool {
+        let (lines, _) = self.told(call);
+        self.status == 1 && lines == line && self.tells_no_more(call) && self.files == self.old
     }
 }
 
-/// Does a command over all the memory and the streams that it asks for.
-pub fn done_whole(alloc: Global, call: Call) -> CallEnd<Vec<u8>> {
-    done(alloc, alloc, call, call.input(), Vec::new(alloc))
+/// Streams of a reader, with outputs in memory.
+pub fn streams_of<R: Read>(alloc: Global, reader: R) -> Streams<R, Vec<u8>, Vec<u8>> {
+    Streams::new(reader, Vec::new(alloc), Vec::new(alloc))
 }
 
-/// Whether two commands ended with the same saved bytes.
-pub fn saved_alike<V: Write + Drop, W: Write + Drop>(one: &CallEnd<V>, other: &CallEnd<W>) -> bool {
-    one.store.content() == other.store.content() && one.set.content(0) == other.set.content(0)
+/// Makes a call over a machine, streams and this memory. What the machine and the streams have is in the other memory.
+pub fn made_over<A: Allocator + Copy, R: Read + Drop, W: Write + Drop, E: Write + Drop>(
+    memory: A,
+    alloc: Global,
+    machine: Machine,
+    streams: Streams<R, W, E>,
+    call: Call,
+) -> Result<CallEnd<R, W, E>, Fail> {
+    let mut streams = streams;
+    let status = status_of(memory, alloc, &machine, &mut streams, call)?;
+    let has_stopped = machine.has_stopped();
+    let (mut disk, old) = machine.into_disk();
+    let files = files_on(alloc, &mut disk)?;
+    let Streams {
+        input,
+        output,
+        errors,
+        ..
+    } = streams;
+    Ok(CallEnd {
+        status,
+        reader: input.into_reader(),
+        writer: output.into_writer(),
+        errors: errors.into_writer(),
+        has_stopped,
+        old,
+        files,
+        disk,
+    })
 }
 
-/// Whether what is saved is what was there before.
-pub fn saves_nothing<W: Write + Drop>(ended: &CallEnd<W>, call: Call) -> bool {
-    ended.store.content().unwrap_or(b"") == call.ledger()
-        && ended.set.content(0).unwrap_or(b"") == call.file()
+/// Makes a call over a machine and its whole input.
+pub fn made(alloc: Global, machine: Machine, call: Call) -> Result<Whole, Fail> {
+    made_over(alloc, alloc, machine, streams_of(alloc, call.input()), call)
+}
+
+/// Makes a call alone, over streams and this memory.
+pub fn alone<A: Allocator + Copy, R: Read + Drop, W: Write + Drop, E: Write + Drop>(
+    memory: A,
+    alloc: Global,
+    streams: Streams<R, W, E>,
+    call: Call,
+) -> Result<CallEnd<R, W, E>, Fail> {
+    let machine = Machine::whole(alloc, call.disk(alloc)?)?;
+    made_over(memory, alloc, machine, streams, call)
+}
+
+/// Makes a call alone, over its whole input.
+pub fn alone_whole(alloc: Global, call: Call) -> Result<Whole, Fail> {
+    alone(alloc, alloc, streams_of(alloc, call.input()), call)
 }

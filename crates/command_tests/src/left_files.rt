@@ -2,31 +2,35 @@
 
 use dm_store::Disk;
 use std::alloc::{AllocError, Global};
+use std::test::Fail;
 use test_helpers::MemDisk;
 
-/// The bytes of a file, or none where no file is.
-pub type Content = Option<Vec<u8>>;
+/// The file of a ledger, or the joint file of a desk.
+pub const STORE: &str = "store";
 
-/// The files that the commands save to here, each before its draft.
-pub const NAMES: [&str; 8] = [
-    "ledger",
-    "ledger.new",
-    "desk",
-    "desk.new",
-    "desk.pages/0000",
-    "desk.pages/0000.new",
-    "desk.pages/0002",
-    "desk.pages/0002.new",
+/// The folder of a desk's files, and the first of them.
+pub const SET: &str = "pages";
+
+pub const PAGES: &str = "pages/0000";
+
+// The files that the commands save to here, each before its draft.
+const NAMES: [&str; 6] = [
+    STORE,
+    "store.new",
+    PAGES,
+    "pages/0000.new",
+    "pages/0002",
+    "pages/0002.new",
 ];
 
 // More bytes than a file has.
 const MOST_BYTES: usize = 999;
 
+// The bytes of a file, or none where no file is.
+type Content = Option<Vec<u8>>;
+
 /// The contents of these files, in their order.
-#[derive(Drop)]
-pub struct Files {
-    contents: Vec<Content>,
-}
+pub type Files = Vec<Content>;
 
 // A copy of a content.
 fn copy_of(alloc: Global, content: Option<&[u8]>) -> Result<Content, AllocError> {
@@ -36,58 +40,29 @@ fn copy_of(alloc: Global, content: Option<&[u8]>) -> Result<Content, AllocError>
     }
 }
 
-// The content, lent.
-fn lent(content: &Content) -> Option<&[u8]> {
-    match content {
-        Some(bytes) => Some(bytes.as_slice()),
-        None => None,
+// The content at a place, lent.
+fn content_at(contents: &[Content], place: usize) -> Option<&[u8]> {
+    match contents.get(place) {
+        Some(Some(bytes)) => Some(bytes.as_slice()),
+        _ => None,
     }
 }
 
-impl Files {
-    /// No file.
-    pub fn none(alloc: Global) -> Files {
-        Files {
-            contents: Vec::new(alloc),
-        }
+/// What a reader finds on a disk.
+pub fn files_on(alloc: Global, disk: &mut MemDisk) -> Result<Files, Fail> {
+    let mut files = Vec::new(alloc);
+    for name in NAMES {
+        files.push(disk.read(name, MOST_BYTES)?)?;
     }
+    Ok(files)
+}
 
-    /// What a reader finds on a disk.
-    pub fn found_on(alloc: Global, disk: &mut MemDisk) -> Result<Files, AllocError> {
-        let mut contents = Vec::new(alloc);
-        for name in NAMES {
-            let content = match disk.read(name, MOST_BYTES) {
-                Ok(content) => content,
-                Err(_) => return Err(AllocError),
-            };
-            contents.push(content)?;
-        }
-        Ok(Files { contents })
-    }
-
-    /// A disk that has these files, and keeps them whenever the machine stops.
-    pub fn on_a_disk(&self, alloc: Global) -> Result<MemDisk, AllocError> {
-        let mut disk = MemDisk::new(alloc);
-        for (name, content) in NAMES.iter().zip(self.contents.iter()) {
-            if let Some(bytes) = content {
-                if disk.write(*name, bytes.as_slice()).is_err()
-                    || disk.sync(*name).is_err()
-                    || disk.sync_entry(*name).is_err()
-                {
-                    return Err(AllocError);
-                }
-            }
-        }
-        Ok(disk)
-    }
-
-    // The content under the name at a place.
-    fn content(&self, place: usize) -> Option<&[u8]> {
-        match self.contents.get(place) {
-            Some(content) => lent(content),
-            None => None,
-        }
-    }
+/// Puts a file on a disk, which keeps it whenever the machine stops.
+pub fn keep(disk: &mut MemDisk, name: &str, bytes: &[u8]) -> Result<(), Fail> {
+    disk.write(name, bytes)?;
+    disk.sync(name)?;
+    disk.sync_entry(name)?;
+    Ok(())
 }
 
 // Adds a content that a stop may leave under a name, if it isn't among those that were added.
@@ -98,7 +73,7 @@ fn add(
     name: &str,
     content: Option<&[u8]>,
 ) -> Result<(), AllocError> {
-    if disk.may_leave(name, content) && !left.iter().any(|one| lent(one) == content) {
+    if disk.may_leave(name, content) && !left.iter().any(|one| one.as_deref() == content) {
         left.push(copy_of(alloc, content)?)?;
     }
     Ok(())
@@ -110,7 +85,7 @@ fn left_at(
     alloc: Global,
     disk: &MemDisk,
     old: &Files,
-    found: &Files,
+    new: &Files,
     place: usize,
 ) -> Result<Vec<Content>, AllocError> {
     let mut left = Vec::new(alloc);
@@ -120,11 +95,11 @@ fn left_at(
     let file = place & !1;
     add(alloc, &mut left, disk, *name, None)?;
     for content in [
-        old.content(place),
-        found.content(place),
-        old.content(file),
-        found.content(file),
-        found.content(file | 1),
+        content_at(old, place),
+        content_at(new, place),
+        content_at(old, file),
+        content_at(new, file),
+        content_at(new, file | 1),
     ] {
         add(alloc, &mut left, disk, *name, content)?;
         if let Some(bytes) = content {
@@ -142,12 +117,11 @@ pub struct LeftFiles {
 }
 
 impl LeftFiles {
-    /// What a stop may leave on a disk, where a reader has found the old files before.
-    pub fn of(alloc: Global, disk: &mut MemDisk, old: &Files) -> Result<LeftFiles, AllocError> {
-        let found = Files::found_on(alloc, disk)?;
+    /// What a stop may leave on a disk where a reader found the one files before it and finds the others now.
+    pub fn on(alloc: Global, disk: &MemDisk, old: &Files, new: &Files) -> Result<LeftFiles, Fail> {
         let mut contents = Vec::new(alloc);
         for place in 0..NAMES.len() {
-            contents.push(left_at(alloc, disk, old, &found, place)?)?;
+            contents.push(left_at(alloc, disk, old, new, place)?)?;
         }
         Ok(LeftFiles { contents })
     }
@@ -166,22 +140,20 @@ impl LeftFiles {
         files.max(drafts)
     }
 
-    /// The files that are left in one of these ways.
-    pub fn way(&self, alloc: Global, number: usize) -> Result<Files, AllocError> {
-        let mut files = Vec::new(alloc);
+    /// A disk with the files that are left in one of these ways, which keeps them whenever the machine stops.
+    pub fn way(&self, alloc: Global, number: usize) -> Result<MemDisk, Fail> {
+        let mut disk = MemDisk::new(alloc);
         let mut rest = number;
-        for (place, contents) in self.contents.iter().enumerate() {
+        for ((place, contents), name) in self.contents.iter().enumerate().zip(NAMES.iter()) {
             let count = contents.len().max(1);
             let at = if place % 2 == 0 { rest } else { number };
-            let content = match contents.get(at % count) {
-                Some(content) => copy_of(alloc, lent(content))?,
-                None => None,
-            };
-            files.push(content)?;
+            if let Some(bytes) = content_at(contents, at % count) {
+                keep(&mut disk, *name, bytes)?;
+            }
             if place % 2 == 0 {
                 rest /= count;
             }
         }
-        Ok(Files { contents: files })
+        Ok(disk)
     }
 }

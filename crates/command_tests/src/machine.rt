@@ -1,26 +1,33 @@
 //! A machine with a disk in memory, which all stores of a command share, and which stops after a number of calls.
 
+use crate::left_files::{Files, STORE, files_on};
 use dm_store::{Disk, DiskFault, Folders, Kept, LoadFault};
 use std::alloc::Global;
 use std::cell::RefCell;
+use std::test::Fail;
 use test_helpers::{MemDisk, StoppingDisk};
 
-/// The disk of a machine that stops.
+/// More calls of its disk than a command makes.
+pub const MOST_CALLS: u32 = 40;
+
+/// The disk of a machine that stops, and the files that were on it at first.
 #[derive(Drop)]
 pub struct Machine {
     disk: RefCell<StoppingDisk>,
+    old: Files,
 }
 
 impl Machine {
     /// A machine that stops at the call of its disk after the first `passes`.
-    pub fn new(alloc: Global, disk: MemDisk, passes: u32, kept: Kept) -> Machine {
-        Machine {
-            disk: RefCell::new(StoppingDisk::new(alloc, disk, passes, kept)),
-        }
+    pub fn new(alloc: Global, disk: MemDisk, passes: u32, kept: Kept) -> Result<Machine, Fail> {
+        let mut disk = disk;
+        let old = files_on(alloc, &mut disk)?;
+        let disk = RefCell::new(StoppingDisk::new(alloc, disk, passes, kept));
+        Ok(Machine { disk, old })
     }
 
     /// A machine that does not stop.
-    pub fn whole(alloc: Global, disk: MemDisk) -> Machine {
+    pub fn whole(alloc: Global, disk: MemDisk) -> Result<Machine, Fail> {
         Machine::new(alloc, disk, u32::MAX, Kept::Old)
     }
 
@@ -29,9 +36,14 @@ impl Machine {
         MachineDisk { disk: &self.disk }
     }
 
-    /// The disk, as the stop left it.
-    pub fn into_disk(self) -> MemDisk {
-        self.disk.into_inner().into_inner()
+    /// Whether it has stopped, or stops at this call.
+    pub fn has_stopped(&self) -> bool {
+        self.disk().read(STORE, 0).is_err()
+    }
+
+    /// The disk, as the stop left it, and the files that were on it at first.
+    pub fn into_disk(self) -> (MemDisk, Files) {
+        (self.disk.into_inner().into_inner(), self.old)
     }
 }
 

@@ -1,115 +1,178 @@
 //! Each command over readers and writers that fail, or are interrupted, after each number of bytes.
 
-use crate::calls::{CALLS, Call, CallEnd, done, done_whole, saved_alike, saves_nothing};
-use std::alloc::Global;
-use std::io::Write;
-use std::process::Abort;
-use test_helpers::{FailingReader, FailingWriter, InterruptedReader, InterruptedWriter};
+use crate::calls::{
+    BOTH, CALLS, Call, CallEnd, LABEL, LABELS, Whole, alone, alone_whole, made, made_over,
+    streams_of,
+};
+use crate::machine::{MOST_CALLS, Machine};
+use dm_store::Kept;
+use relay_shared::Streams;
+use std::io::{Read, Write};
+use std::test::Fail;
+use test_helpers::{FailingReader, FailingWriter, InterruptedReader, InterruptedWriter, MemDisk};
 
 // Whether a command ended as it does over whole streams.
-fn is_whole<W: Write + Drop>(ended: &CallEnd<W>, taken: &[u8], whole: &CallEnd<Vec<u8>>) -> bool {
+fn is_whole<R: Read + Drop, W: Write + Drop>(
+    ended: &CallEnd<R, W, Vec<u8>>,
+    taken: &[u8],
+    whole: &Whole,
+) -> bool {
     ended.status == 0
         && taken == whole.writer.as_slice()
         && ended.errors == whole.errors
-        && saved_alike(ended, whole)
+        && ended.files == whole.files
 }
 
-// A read that is interrupted is made again: nothing tells of it.
+// A read that is interrupted is made again: nothing tells of it. Of a reader that fails, before the end of a label or a
+// document, the one line names the fault, and nothing is saved.
 #[test]
-fn an_interrupted_reader_changes_nothing(rt: HostRuntime) {
+fn readers_are_interrupted_and_fail(rt: HostRuntime) -> Result<(), Fail> {
     let alloc = rt.alloc();
     for call in CALLS {
-        let whole = done_whole(alloc, call);
-        assert!(rt; whole.status == 0 && !whole.writer.is_empty());
-        for passes in 0..call.input().len().saturating_add(1) {
-            let reader = InterruptedReader::new(call.input(), passes);
-            let ended = done(alloc, alloc, call, reader, Vec::new(alloc));
-            assert!(rt;
-                is_whole(&ended, ended.writer.as_slice(), &whole),
-                "{passes}"
-            );
+        let whole = alone_whole(alloc, call)?;
+        assert!(rt; whole.status == 0 && !whole.writer.is_empty(), "{call:?}");
+        let input = call.input();
+        for passes in 0..input.len().saturating_add(1) {
+            let streams = streams_of(alloc, InterruptedReader::new(input, passes));
+            let ended = alone(alloc, alloc, streams, call)?;
+            let taken = ended.writer.as_slice();
+            assert!(rt; is_whole(&ended, taken, &whole), "{call:?} {passes}");
+        }
+        for passes in 0..input.len() {
+            let streams = streams_of(alloc, FailingReader::new(input, passes));
+            let ended = alone(alloc, alloc, streams, call)?;
+            let is_refused = ended.is_refused(call, b"refused Read\n");
+            assert!(rt; is_refused, "{call:?} {passes}");
         }
     }
+    Ok(())
+}
+
+// Whether the bytes that a failing writer took went out and no other, though it takes bytes again, what the whole
+// command saves is saved, and the command has told, at last, that its output failed, where it tells of that at all.
+fn has_prefix<R: Read + Drop>(
+    ended: &CallEnd<R, FailingWriter, Vec<u8>>,
+    whole: &Whole,
+    call: Call,
+    passes: usize,
+) -> bool {
+    let told: &[u8] = if call.writes_no_lines() {
+        b"refused Write\n"
+    } else {
+        b""
+    };
+    ended.status == 1
+        && ended.files == whole.files
+        && whole.writer.get(..passes) == Some(ended.writer.taken())
+        && ended.errors.strip_prefix(whole.errors.as_slice()) == Some(told)
 }
 
 // A write that is interrupted is made again, too.
 #[test]
-fn an_interrupted_writer_changes_nothing(rt: HostRuntime) {
+fn writers_are_interrupted_and_fail(rt: HostRuntime) -> Result<(), Fail> {
     let alloc = rt.alloc();
     for call in CALLS {
-        let whole = done_whole(alloc, call);
+        let whole = alone_whole(alloc, call)?;
         for passes in 0..whole.writer.len() {
             let writer = InterruptedWriter::new(Vec::new(alloc), passes);
-            let ended = done(alloc, alloc, call, call.input(), writer);
-            assert!(rt; is_whole(&ended, ended.writer.taken(), &whole), "{passes}");
+            let streams = Streams::new(call.input(), writer, Vec::new(alloc));
+            let ended = alone(alloc, alloc, streams, call)?;
+            let taken = ended.writer.taken();
+            assert!(rt; is_whole(&ended, taken, &whole), "{call:?} {passes}");
+            let writer = FailingWriter::new(Vec::new(alloc), passes);
+            let streams = Streams::new(call.input(), writer, Vec::new(alloc));
+            let ended = alone(alloc, alloc, streams, call)?;
+            let is_cut = has_prefix(&ended, &whole, call, passes);
+            assert!(rt; is_cut, "{call:?} {passes}");
         }
     }
+    Ok(())
 }
 
-// A reader that fails after a number of bytes, before the end of a label or a document: the one line names the fault,
-// and nothing is saved.
+// Where the line of a print can't be written no label goes out, nothing follows what is out of the line, and the
+// identification stays used.
 #[test]
-fn a_reader_that_fails_is_named(rt: HostRuntime) {
+fn prints_no_label_without_its_line(rt: HostRuntime) -> Result<(), Fail> {
     let alloc = rt.alloc();
-    for call in CALLS {
-        for passes in 0..call.input().len() {
-            let reader = FailingReader::new(call.input(), passes);
-            let ended = done(alloc, alloc, call, reader, Vec::new(alloc));
-            let (line, other) = if call.writes_no_lines() {
-                (ended.errors.as_slice(), ended.writer.as_slice())
-            } else {
-                (ended.writer.as_slice(), ended.errors.as_slice())
-            };
-            assert!(rt;
-                ended.status == 1 && saves_nothing(&ended, call),
-                "{passes}"
-            );
-            assert!(rt;
-                line == b"refused Read\n".as_slice() && other.is_empty(),
-                "{passes}"
-            );
+    for call in [Call::Print, Call::PrintAuto] {
+        let whole = alone_whole(alloc, call)?;
+        for passes in 0..whole.errors.len() {
+            let errors = FailingWriter::new(Vec::new(alloc), passes);
+            let streams = Streams::new(call.input(), Vec::new(alloc), errors);
+            let ended = alone(alloc, alloc, streams, call)?;
+            assert!(rt; ended.status == 1 && ended.writer.is_empty(), "{passes}");
+            assert!(rt; ended.files == whole.files, "{passes}");
+            let line = whole.errors.get(..passes);
+            assert!(rt; line == Some(ended.errors.taken()), "{passes}");
         }
     }
+    Ok(())
 }
 
-// Whether a command has told, at last, that its output failed, where it tells of that at all.
-fn tells_of_the_output(call: Call, errors: &[u8], whole: &[u8]) -> bool {
-    let rest = errors.strip_prefix(whole);
-    if call.writes_no_lines() {
-        rest == Some(b"refused Write\n".as_slice())
-    } else {
-        rest == Some(b"".as_slice())
-    }
-}
-
-// A writer that fails after a number of bytes: these went out and no other, though it takes bytes again, and what the
-// whole command saves is saved.
-fn fails_to_write(
-    rt: &impl Abort,
-    alloc: Global,
-    call: Call,
-    whole: &CallEnd<Vec<u8>>,
-    passes: usize,
-) {
-    let writer = FailingWriter::new(Vec::new(alloc), passes);
-    let ended = done(alloc, alloc, call, call.input(), writer);
-    assert!(rt; ended.status == 1 && saved_alike(&ended, whole), "{passes}");
-    assert!(rt;
-        whole.writer.get(..passes) == Some(ended.writer.taken()),
-        "{passes}"
-    );
-    assert!(rt;
-        tells_of_the_output(call, &ended.errors, &whole.errors),
-        "{passes}"
-    );
-}
-
+// A scan whose input fails within the second image has saved the page of the first, and its last line names the fault.
+// After a line that could not be written, or a save that failed, it reads no byte more.
 #[test]
-fn a_writer_that_fails_has_a_prefix(rt: HostRuntime) {
-    for call in CALLS {
-        let whole = done_whole(rt.alloc(), call);
-        for passes in 0..whole.writer.len() {
-            fails_to_write(&rt, rt.alloc(), call, &whole, passes);
+fn a_scan_ends_at_the_first_fault(rt: HostRuntime) -> Result<(), Fail> {
+    let alloc = rt.alloc();
+    let call = Call::Scan(LABELS);
+    let empty = Machine::whole(alloc, MemDisk::new(alloc))?;
+    let first = made(alloc, empty, Call::Scan(LABEL))?;
+    assert!(rt; first.writer.as_slice() == b"0101 1/2 new\n".as_slice());
+    for passes in LABEL.len()..LABELS.len() {
+        let machine = Machine::whole(alloc, MemDisk::new(alloc))?;
+        let streams = streams_of(alloc, FailingReader::new(LABELS, passes));
+        let ended = made_over(alloc, alloc, machine, streams, call)?;
+        assert!(rt; ended.status == 1 && ended.files == first.files, "{passes}");
+        let line = ended.writer.strip_prefix(first.writer.as_slice());
+        assert!(rt; line == Some(b"refused Read\n".as_slice()), "{passes}");
+    }
+    for passes in 0..first.writer.len() {
+        let machine = Machine::whole(alloc, MemDisk::new(alloc))?;
+        let writer = FailingWriter::new(Vec::new(alloc), passes);
+        let streams = Streams::new(LABELS, writer, Vec::new(alloc));
+        let ended = made_over(alloc, alloc, machine, streams, call)?;
+        let is_unread = ended.reader.len() == LABEL.len();
+        assert!(rt; ended.status == 1 && is_unread, "{passes}");
+    }
+    for kept in [Kept::Old, Kept::New] {
+        for passes in 0..MOST_CALLS {
+            let machine = Machine::new(alloc, MemDisk::new(alloc), passes, kept)?;
+            let ended = made(alloc, machine, call)?;
+            let read = match ended.writer.as_slice() {
+                b"refused Device\n" => 0,
+                b"refused Save\n" => LABEL.len(),
+                b"0101 1/2 new\nrefused Save\n" | b"0101 1/2 new\n0101 2/2 complete\n" => {
+                    LABELS.len()
+                }
+                _ => usize::MAX,
+            };
+            let is_unread = Some(ended.reader) == LABELS.get(read..);
+            assert!(rt; is_unread, "{passes} {kept:?}");
         }
     }
+    Ok(())
+}
+
+// A text that is no identification, and an import whose input fails, are refused before any file is looked at: of a
+// disk that does one call this is left.
+#[test]
+fn some_refusals_come_before_any_file(rt: HostRuntime) -> Result<(), Fail> {
+    let alloc = rt.alloc();
+    for text in ["", "0001", "ff01", "01fg"] {
+        for call in [Call::Forget(text), Call::Export(text)] {
+            let machine = Machine::new(alloc, MemDisk::new(alloc), 1, Kept::Old)?;
+            let ended = made(alloc, machine, call)?;
+            let is_refused = ended.is_refused(call, b"refused FileId\n");
+            assert!(rt; is_refused && !ended.has_stopped, "{text}");
+        }
+    }
+    for passes in 0..BOTH.len() {
+        let machine = Machine::new(alloc, MemDisk::new(alloc), 1, Kept::Old)?;
+        let call = Call::Import(BOTH);
+        let streams = streams_of(alloc, FailingReader::new(BOTH, passes));
+        let ended = made_over(alloc, alloc, machine, streams, call)?;
+        let is_refused = ended.is_refused(call, b"refused Read\n");
+        assert!(rt; is_refused && !ended.has_stopped, "{passes}");
+    }
+    Ok(())
 }

@@ -10,7 +10,7 @@ use Rattle.dm_event_history.specs.Worked.{first_ticket, range}
 use Rattle.dm_print_ledger.specs.declared.fault.TakeFault.TheVariants as take_fault
 use Rattle.dm_event_history.specs.Relay.{Relay}
 use Rattle.dm_event_history.specs.Steps.{Said, Tells, said}
-use Rattle.dm_event_history.specs.Laws.{IsOfMemory}
+use Rattle.dm_event_history.specs.Told.{IsOfMemory}
 use Rattle.dm_event_history.specs.Worked.{AreNone, one_printer, print, two_printers}
 use Rattle.dm_event_history.proofs.OneStep.{only_memory}
 use Rattle.dm_event_history.proofs.WorkedRuns.{after_is, before_is, moved_is}

@@ -6,7 +6,7 @@ use Rattle.dm_event_history.specs.declared.reply.Reply.{Reply}
 use Rattle.dm_event_history.specs.declared.stop.Stop.{Stop}
 use Rattle.dm_event_history.specs.Relay.{Actor, Goods}
 use Rattle.dm_event_history.specs.Calls.{Calls, Course, Ending, Faults, Looks, MayLackFirst, Restarts, AskTells, ExportTells, ExportsHeld}
-use Rattle.dm_event_history.specs.Laws.{IsOfMemory}
+use Rattle.dm_event_history.specs.Told.{IsOfMemory}
 use Rattle.dm_event_history.proofs.OneCourse.{IsDetermined}
 
 abbrev pub SameEnding : {A C : Type 0} → Ending A C → Ending A C → Type 0

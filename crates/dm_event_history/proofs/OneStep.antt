@@ -9,7 +9,7 @@ use Rattle.dm_event_history.specs.declared.reply.Reply.{Reply}
 use Rattle.dm_event_history.specs.Relay.{Actor, Relay, Label}
 use Rattle.dm_event_history.specs.Calls.{Calls, Ending, MayLackFirst, PrintComes, print_faults, AskTells, ScanComes, scan_faults}
 use Rattle.dm_event_history.specs.Steps.{Acts, DeskGoes, PrinterGoes}
-use Rattle.dm_event_history.specs.Laws.{IsOfMemory, NothingIsOpenButMemory}
+use Rattle.dm_event_history.specs.Told.{IsOfMemory, NothingIsOpenButMemory}
 use Rattle.dm_event_history.proofs.OneCourse.{print_determined, give_determined, take_determined, scan_determined, forget_determined, import_determined}
 use Rattle.dm_event_history.proofs.OneEnding.{IsOne, calls_one, may_lack_one, restarts_one, looks_one, ask_one, export_one}
 

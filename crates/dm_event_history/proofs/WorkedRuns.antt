@@ -28,9 +28,10 @@ use Rattle.dm_event_history.specs.Relay.{Running, Down, Desk, Goods, Label, Rela
 use Rattle.dm_event_history.specs.Calls.{Answers, Calls, Course, LacksMemory, Saves, cut_off, ending, ends, GiveComes, PrintComes, TakeComes, take_faults, ScanComes, scan_faults, verdict_course, page_reply}
 use Rattle.std.proofs.lemmas.Option.{slice_get_within}
 use Rattle.dm_event_history.specs.declared.reply.Reply.{Reply}
+use Rattle.dm_store.specs.declared.fuse.Kept.TheVariants.{Old}
 use Rattle.dm_event_history.specs.declared.stop.Stop.TheVariants as stops
 use Rattle.dm_event_history.specs.Steps.{HasModules, PrinterGoes, Step, Tells}
-use Rattle.dm_event_history.specs.Worked.{AreRuns, gathered, moved, one_printer, scan, stopped_after, stopped_before, two_printers}
+use Rattle.dm_event_history.specs.Worked.{AreRuns, gathered, moved, one_printer, scan, stopped, two_printers}
 use Rattle.dm_event_history.proofs.WorkedLabels.{first_are, first_are_1, first_are_5, first_page, first_words, first_words_1, first_words_5, opened_page, opens, second_are, second_are_1, second_are_5, second_page, second_words, second_words_1, second_words_5}
 use Rattle.dm_event_history.proofs.WorkedSteps.{both_labels, desk_goes, label, ledger, printer_goes, saves_print}
 
@@ -79,7 +80,7 @@ still_down = with_printer cut_short 0 (Down used_once) nothing
 abbrev up_again : Relay
 up_again = with_printer still_down 0 (Running used_once) nothing
 
-pub after_is : (A : Type 0) → Tells one_printer (stopped_after {A = A} 1)
+pub after_is : (A : Type 0) → Tells one_printer (stopped {A = A} (stops.AfterLabels 0) 1)
 after_is A =
     step_to cut_short (omega arith)
     (printer_goes one_printer 0 _ (Running fresh) (ending Stopped (Down used_once) (cut_off 0 labels_0)) refl
@@ -101,7 +102,7 @@ down_before = with_printer cut_before 0 (Down fresh) nothing
 abbrev up_as_before : Relay
 up_as_before = with_printer down_before 0 (Running fresh) nothing
 
-pub before_is : (A : Type 0) → Tells one_printer (stopped_before {A = A} 0)
+pub before_is : (A : Type 0) → Tells one_printer (stopped {A = A} (stops.InSave Old) 0)
 before_is A =
     step_to cut_before (omega arith)
     (printer_goes one_printer 0 _ (Running fresh) (ending Stopped (Down fresh) nothing) refl

@@ -1,7 +1,6 @@
 pub mod Relay
 pub mod Calls
 pub mod Steps
-pub mod Laws
 pub mod Worked
 pub mod Headline
 pub mod Safe

@@ -1,4 +1,5 @@
--- When replies may be given, and what they tell: who is down, who has failed, and why events are refused.
+-- When replies may be given, and what they tell: who is down, who has failed, why events are refused, and that only
+-- memory is open.
 use Rattle.std.specs.Prelude.{◌≡◌, ◌≢◌, ◌+◌, ◌==◌, ◌&&◌, ◌||◌, not, ℕ, Bool, true, false, if◌then◌else◌, Some, List, [], ◌∷◌, slice_get, ◌↔◌, ◌⊎◌, IsSomeAnd}
 use Rattle.std.specs.Option.{option_map_or}
 use Rattle.dm_check_blocks.specs.declared.size.Size.{Size}
@@ -12,7 +13,7 @@ use Rattle.dm_print_ledger.specs.Ledger.{free_count, size_of, LedgerView, Ticket
 use Rattle.dm_event_history.specs.declared.event.Event.{Event}
 use Rattle.dm_event_history.specs.declared.event.Event.TheVariants.{Print, Scan, Give, Take, RestartPrinter, RestartDesk}
 use Rattle.dm_event_history.specs.declared.reply.Reply.{Reply}
-use Rattle.dm_event_history.specs.declared.reply.Reply.TheVariants.{PrintRefused, Scanned, ScanRefused, ForgetRefused, GiveRefused, TakeRefused, ImportRefused, Restarted, PrinterRefused, DeskRefused, Stopped, Down, NoSuch, Memory, Printed, Forgotten, Given, Taken, Imported}
+use Rattle.dm_event_history.specs.declared.reply.Reply.TheVariants.{PrintRefused, Scanned, ScanRefused, AskRefused, ForgetRefused, GiveRefused, TakeRefused, ExportRefused, ImportRefused, Restarted, PrinterRefused, DeskRefused, Stopped, Down, NoSuch, Memory, Printed, Forgotten, Given, Taken, Imported}
 use Rattle.dm_event_history.specs.declared.stop.Stop.{Stop}
 use Rattle.dm_event_history.specs.Steps.{DeskAt, Named, PrinterAt, actor_of, is_same, may_save, stop_of, IsStopping, IsRun, Moment, Step, IsNamed}
 use Rattle.dm_event_history.specs.Relay.{Actor, stored_of, Running, Failed, Desk, Label, Relay, Took, start}
@@ -22,9 +23,13 @@ use Rattle.dm_assembly_desk.specs.declared.reply.Kind.TheVariants.{New, Again, C
 use Rattle.dm_print_ledger.specs.declared.fault.PrintFault.TheVariants as print_fault
 use Rattle.dm_print_ledger.specs.declared.fault.GiveFault.TheVariants as give_fault
 use Rattle.dm_print_ledger.specs.declared.fault.TakeFault.TheVariants as take_fault
+use Rattle.dm_print_ledger.specs.declared.fault.OpenFault.TheVariants as open_fault
 use Rattle.dm_assembly_desk.specs.declared.fault.ScanFault.TheVariants as scan_fault
+use Rattle.dm_assembly_desk.specs.declared.fault.AskFault.TheVariants as ask_fault
 use Rattle.dm_assembly_desk.specs.declared.fault.ForgetFault.TheVariants as forget_fault
+use Rattle.dm_assembly_desk.specs.declared.fault.ExportFault.TheVariants as export_fault
 use Rattle.dm_assembly_desk.specs.declared.fault.ImportFault.TheVariants as import_fault
+use Rattle.dm_assembly_desk.specs.declared.fault.DeskFault.TheVariants as desk_fault
 use Rattle.dm_event_history.specs.declared.stop.Stop.TheVariants as stops
 use Rattle.dm_event_history.specs.Relay as actors
 use Rattle.dm_event_history.specs.declared.reply.Reply.TheVariants as replies
@@ -229,3 +234,26 @@ EachExhaustedIsSo A = (ranges : List Range) (rooms : List ℕ) (moment : Moment 
     slice_get ranges printer ≡ Some range → moment.reply ≡ PrintRefused print_fault.Exhausted →
     (stock moment.before printer ≡ 0) × (size_of range + sum_saved gains earlier moment.before printer
     ≡ sum_saved loses earlier moment.before printer)
+
+-- ---- what is open
+
+-- the reply tells that memory was refused
+abbrev pub IsOfMemory : {A : Type 0} → Reply A → Type 0
+IsOfMemory Memory = Unit {0}
+IsOfMemory (PrintRefused print_fault.Memory) = Unit {0}
+IsOfMemory (GiveRefused give_fault.Memory) = Unit {0}
+IsOfMemory (TakeRefused take_fault.Memory) = Unit {0}
+IsOfMemory (PrinterRefused open_fault.Memory) = Unit {0}
+IsOfMemory (ScanRefused scan_fault.Memory) = Unit {0}
+IsOfMemory (ForgetRefused forget_fault.Memory) = Unit {0}
+IsOfMemory (ImportRefused import_fault.Memory) = Unit {0}
+IsOfMemory (AskRefused ask_fault.Memory) = Unit {0}
+IsOfMemory (ExportRefused export_fault.Memory) = Unit {0}
+IsOfMemory (DeskRefused desk_fault.Memory) = Unit {0}
+IsOfMemory reply = ⊥
+
+-- Nothing is open but memory: two steps from one relay by one event end alike, or one of them was refused memory.
+abbrev pub NothingIsOpenButMemory : Type 0 → Type 0
+NothingIsOpenButMemory A = (old one other : Relay) (event : Event A) (reply answer : Reply A) →
+    Step old event reply one → Step old event answer other →
+    ((reply ≡ answer) × (one ≡ other)) ⊎ (IsOfMemory reply ⊎ IsOfMemory answer)

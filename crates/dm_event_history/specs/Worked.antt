@@ -54,18 +54,10 @@ gathered A =
     said (Ask 0 0) (Document digits) ∷
     said (Ask 1 0) (AskRefused ask_fault.NotHeld) ∷ []
 
--- a print is stopped after its save: its number is used
-abbrev pub stopped_after : {A : Type 0} → ℕ → List (Said A)
-stopped_after id =
-    said (print 0 (AfterLabels 0)) Stopped ∷
-    said (print 0 None) Down ∷
-    said (RestartPrinter 0) Restarted ∷
-    said (print 0 None) (Printed id 0 2) ∷ []
-
--- in its save, and the old content is stored: it is not
-abbrev pub stopped_before : {A : Type 0} → ℕ → List (Said A)
-stopped_before id =
-    said (print 0 (InSave Old)) Stopped ∷
+-- a print is stopped, and after a restart the next one uses this number
+abbrev pub stopped : {A : Type 0} → Stop → ℕ → List (Said A)
+stopped stop id =
+    said (print 0 stop) Stopped ∷
     said (print 0 None) Down ∷
     said (RestartPrinter 0) Restarted ∷
     said (print 0 None) (Printed id 0 2) ∷ []
@@ -90,12 +82,12 @@ taken_twice A =
 -- these are runs
 pub record AreRuns (A : Type 0) : Type 0 where
   pub gathered_is : Tells one_printer (gathered A)
-  pub after_is : Tells one_printer (stopped_after {A = A} 1)
-  pub before_is : Tells one_printer (stopped_before {A = A} 0)
+  pub after_is : Tells one_printer (stopped {A = A} (AfterLabels 0) 1)
+  pub before_is : Tells one_printer (stopped {A = A} (InSave Old) 0)
   pub moved_is : Tells two_printers (moved A)
 
--- and these are none
+-- and these are none: a number is used by a save that was done, and by no other
 pub record AreNone (A : Type 0) : Type 0 where
-  pub not_used : ¬ Tells one_printer (stopped_after {A = A} 0)
-  pub used : ¬ Tells one_printer (stopped_before {A = A} 1)
+  pub not_used : ¬ Tells one_printer (stopped {A = A} (AfterLabels 0) 0)
+  pub used : ¬ Tells one_printer (stopped {A = A} (InSave Old) 1)
   pub taken : ¬ Tells two_printers (taken_twice A)

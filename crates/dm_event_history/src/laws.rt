@@ -2,8 +2,7 @@
 //! nothing, or call a law below.
 
 ghost use Rattle.dm_event_history.specs.Headline.{EachCleanDeskGives, EachStepKeepsClean, EachStepPrints, EachRunIsSound, EachRunIsTrue, EachRunKeepsNumbers, EachStepIsSound, EachStepKeepsNumbers};
-ghost use Rattle.dm_event_history.specs.Laws.{NothingIsOpenButMemory};
-ghost use Rattle.dm_event_history.specs.Told.{EachStepIsLegal, EachExhaustedIsSo, EachFailedFailed, EachRunIsAsTold, EachRunTakesOnce, EachStepIsRefusedSo};
+ghost use Rattle.dm_event_history.specs.Told.{EachExhaustedIsSo, EachFailedFailed, EachRunIsAsTold, EachRunTakesOnce, EachStepIsLegal, EachStepIsRefusedSo, NothingIsOpenButMemory};
 ghost use Rattle.dm_event_history.specs.Safe.{EachFairDeskIsBetween, EachFairReplyIsSafe};
 ghost use Rattle.dm_event_history.specs.Worked.{AreNone, AreRuns};
 

@@ -11,7 +11,7 @@ use Rattle.dm_event_history.specs.Relay.{Relay}
 use Rattle.dm_event_history.specs.Steps.{Moment, onto, HasModules}
 use Rattle.dm_event_history.proofs.Headline.{each_run_is_true}
 use Rattle.dm_event_world.specs.declared.actor.LeftLabel.{LeftLabel}
-use Rattle.dm_event_world.specs.Shows.{Shows, left_label, GoesOn, GoesOnByAll, StandsFor, AreWithin, IsFairIn, IsLookedAt, WorldView, AreAnswers, IsWatched, MayBeLookedAt, first_of}
+use Rattle.dm_event_world.specs.Shows.{Shows, left_label, GoesOn, GoesOnByAll, HearsAll, StandsFor, AreWithin, IsFairIn, IsLookedAt, WorldView, AreAnswers, IsWatched, MayBeLookedAt, first_of}
 use Rattle.dm_event_world.specs.inner.Events.{Answers, AnswersAll}
 use Rattle.dm_event_world.proofs.Mapped.{get_map, get_map_from}
 use Rattle.dm_event_world.specs.declared.answers.Answer.{Answer}
@@ -70,6 +70,20 @@ answers_more old mid new (e ∷ events) (r ∷ all) event answer runs steps =
     (runs.0, runs.1, answers_more runs.0 mid new events all event answer runs.2 steps)
 answers_more old mid new [] (r ∷ all) event answer runs steps = absurd runs
 answers_more old mid new (e ∷ events) [] event answer runs steps = absurd runs
+
+-- the world answers these events, and a listener hears the answers
+abbrev pub Told : {A L : Type 0} → (L → Answer A → L → Type 0) → WorldView A → List (Event A) → WorldView A → L → L →
+    Type 0
+Told {A} hears old events new first last =
+    (answers : List (Answer A)) × AnswersAll old events answers new × HearsAll hears first answers last
+
+pub hears_more : {A L : Type 0} (hears : L → Answer A → L → Type 0) (first now later : L) (all : List (Answer A))
+    (answer : Answer A) → HearsAll hears first all now → hears now answer later →
+    HearsAll hears first (all ++ answer ∷ []) later
+hears_more {A} {L} hears first now later [] answer heard last =
+    (later, subst (λ (l : L). hears l answer later) heard last, refl)
+hears_more hears first now later (a ∷ all) answer heard last =
+    (heard.0, heard.1, hears_more hears heard.0 now later all answer heard.2 last)
 
 -- what a scan names is there in a world exactly if it is in the relay that the world shows
 modules_here : {A : Type 0} (world : WorldView A) (relay : Relay) (number : ℕ) (flips : List (ℕ × ℕ)) → Shows world relay →

@@ -1,4 +1,2 @@
-pub mod FaultNames
 pub mod Shows
-pub mod Openings
 pub mod inner

@@ -1,5 +1,5 @@
 -- Worlds of printers and desks as contracts see them, which relay one shows, and what holds of their runs.
-use Rattle.std.specs.Prelude.{◌≡◌, ◌<◌, ℕ, Some, List, length, slice_get, All, ◌≤◌, Bool, true, false, map, ◌∷◌, IsTrue, ◌↔◌, []}
+use Rattle.std.specs.Prelude.{◌≡◌, ◌<◌, ℕ, Some, List, length, slice_get, All, ◌≤◌, Bool, true, false, map, ◌∷◌, IsTrue, ◌↔◌, [], codes}
 use Rattle.std.specs.FinMap as finite
 use Rattle.dm_check_blocks.specs.Sizes.{side}
 use Rattle.dm_finder_frame.specs.Frame.{GridView, flipped}
@@ -22,6 +22,8 @@ use Rattle.dm_event_history.specs.Headline.{AreDisjoint, AreTrueMoments, IsFairE
 use Rattle.dm_event_history.specs.Steps.{AreMomentsOf, IsRun, Moment, onto}
 use Rattle.dm_event_world.specs.declared.answers.Answer.{Answer}
 use Rattle.dm_event_world.specs.declared.answers.Answer.TheVariants.{Given, NotGiven}
+use Rattle.dm_event_world.specs.declared.fault.WorldFault.{WorldFault}
+use Rattle.dm_event_world.specs.declared.fault.WorldFault.TheVariants as faults
 use Rattle.dm_event_world.specs.declared.actor.PrinterActor.TheVariants as printer_actors
 use Rattle.dm_event_world.specs.declared.actor.DeskState.TheVariants as desk_states
 use Rattle.dm_event_history.specs.Steps as relays
@@ -183,6 +185,12 @@ AreAnswers (event ∷ events) (NotGiven ∷ answers) later end =
     MayBeLookedAt (first_of later end) event × AreAnswers events answers later end
 AreAnswers events answers moments end = ⊥
 
+-- these answers were heard, one after another
+abbrev pub HearsAll : {A L : Type 0} → (L → Answer A → L → Type 0) → L → List (Answer A) → L → Type 0
+HearsAll hears first [] last = last ≡ first
+HearsAll {A} {L} hears first (answer ∷ answers) last =
+    (next : L) × hears first answer next × HearsAll hears next answers last
+
 -- The headline. The events had these answers in a run of a relay whose printers began with these ranges, and whose desks
 -- have room for that many documents. No identification was printed twice; whatever document a clean desk gave for an
 -- identification is the one document printed under it; and all desks were clean as long as each scan that may have
@@ -198,3 +206,20 @@ pub record IsWatched {A : Type 0} (ranges : List Range) (rooms : List ℕ) (even
   pub answered : AreAnswers events answers moments end
   pub once : PrintsOnce end
   pub true_moments : AreTrueMoments end.labels (onto moments [])
+
+-- ---- why no world begins
+
+-- the first of these that applies, and memory where none does
+abbrev pub HasWorldFault : List Range → List ℕ → WorldFault → Type 0
+HasWorldFault ranges capacities faults.Range = ¬ AreRanges ranges
+HasWorldFault ranges capacities faults.Overlap = AreRanges ranges × (¬ AreDisjoint ranges)
+HasWorldFault ranges capacities faults.Capacity =
+    AreRanges ranges × AreDisjoint ranges × (¬ All IsCapacity capacities)
+HasWorldFault ranges capacities faults.Memory = AreRanges ranges × AreDisjoint ranges × All IsCapacity capacities
+
+-- the names of these faults, as they are printed
+abbrev pub world_fault_name : WorldFault → List ℕ
+world_fault_name faults.Range = codes "Range"
+world_fault_name faults.Overlap = codes "Overlap"
+world_fault_name faults.Capacity = codes "Capacity"
+world_fault_name faults.Memory = codes "Memory"

@@ -22,7 +22,7 @@ pub enum WorldFault {
 }
 
 impl WorldFault {
-    ghost use Rattle.dm_event_world.specs.FaultNames.{world_fault_name};
+    ghost use Rattle.dm_event_world.specs.Shows.{world_fault_name};
 
     /// The variant's name.
     pub fn name(self) -> &'static str

@@ -29,6 +29,6 @@ mod world;
 pub use answers::Answer;
 pub use dm_event_history::{Bytes, Event, Flips, Kept, Reply, Stop};
 pub use fault::WorldFault;
-pub use running::{run, watch};
+pub use running::{Listener, run, watch};
 pub use steps::is_honest;
 pub use world::World;

@@ -1,8 +1,8 @@
 //! Events of a world, one after another.
 
-ghost use Rattle.std.specs.Prelude.{◌≡◌, IfOk, IfErr, OnErr};
-ghost use Rattle.dm_event_world.specs.Openings.{HasWorldFault};
-ghost use Rattle.dm_event_world.specs.Shows.{GoesOnByAll, IsWatched};
+ghost use Rattle.std.specs.Prelude.{◌≡◌, List, IfOk, IfErr, OnOk, OnErr};
+ghost use Rattle.dm_event_world.specs.Shows.{GoesOnByAll, HearsAll, IsWatched, HasWorldFault};
+ghost use Rattle.dm_event_world.specs.declared.answers.Answer.{Answer};
 ghost use Rattle.dm_event_world.specs.inner.Events.{Answers, AnswersAll};
 
 use crate::answers::Answer;
@@ -43,43 +43,55 @@ fn answer_one<A: Allocator + Copy>(world: &mut World<A>, event: &Event<A>) -> An
     Answer::Given { is_honest, reply }
 }
 
-// Several events, each looked at first, with the answer to each.
-fn answer_all<A: Allocator + Copy>(
-    alloc: A,
-    world: &mut World<A>,
-    events: &[Event<A>],
-) -> Result<Vec<Answer<A>, A>, AllocError>
-    ensures { IfOk result (λ answers. AnswersAll world.old events.now answers.items world.new) }
-{
-    let mut answers = Vec::with_capacity(alloc, events.len())?;
-    for event in events {
-        answers.push_reserved(answer_one(world, event));
-    }
-    Ok(answers)
+/// What hears the answers of a world, each as it comes.
+pub trait Listener<A: Allocator + Copy> {
+    ghost use Rattle.dm_event_world.specs.declared.answers.Answer.{Answer};
+
+    /// What hearing an answer makes of it.
+    ghost hears: { Self → Answer A → Self → Type 0 };
+
+    /// Hears the next answer.
+    fn hear(&mut self, answer: &Answer<A>)
+        ensures { hears self.old answer.now self.new };
 }
 
-/// A world of new printers, one for each range, and of empty desks, one for each capacity, and the answer to each of
-/// several events, which come one after another. Each is looked at before it is given to the world.
+// Several events, each looked at first; the answer to each is heard before the next event comes.
+fn answer_all<A: Allocator + Copy, L: Listener<A>>(
+    world: &mut World<A>,
+    events: &[Event<A>],
+    listener: &mut L,
+)
+    ensures { (answers : List (Answer A)) × AnswersAll world.old events.now answers world.new
+        × HearsAll L.hears listener.old answers listener.new }
+{
+    for event in events {
+        listener.hear(&answer_one(world, event));
+    }
+}
+
+/// A world of new printers, one for each range, and of empty desks, one for each capacity, to which several events come,
+/// one after another. Each is looked at before it is given to the world, and the listener hears each answer.
 ///
 /// # Errors
-/// As for [`World::new`]; and `Memory` where memory for the answers is refused.
-pub fn watch<A: Allocator + Copy>(
+/// As for [`World::new`].
+pub fn watch<A: Allocator + Copy, L: Listener<A>>(
     alloc: A,
     ranges: &[Range],
     capacities: &[u16],
     events: &[Event<A>],
-) -> Result<Vec<Answer<A>, A>, WorldFault>
+    listener: &mut L,
+) -> Result<(), WorldFault>
     // Whatever document a clean desk gave for an identification is the one document that was printed under it, and no
     // identification was printed twice.
-    ensures headline { IfOk result (λ answers. IsWatched ranges.now capacities.now events.now answers.items) }
+    ensures headline { OnOk result ((answers : List (Answer A))
+        × IsWatched ranges.now capacities.now events.now answers × HearsAll L.hears listener.old answers listener.new) }
     ensures refused { IfErr result (HasWorldFault ranges.now capacities.now) }
+    ensures silent { OnErr result (listener.new ≡ listener.old) }
 {
     let mut world = match World::new(alloc, ranges, capacities) {
         Ok(world) => world,
         Err(fault) => return Err(fault),
     };
-    match answer_all(alloc, &mut world, events) {
-        Ok(answers) => Ok(answers),
-        Err(AllocError) => Err(WorldFault::Memory),
-    }
+    answer_all(&mut world, events, listener);
+    Ok(())
 }

@@ -1,8 +1,7 @@
 //! Worlds of printers and desks.
 
 ghost use Rattle.std.specs.Prelude.{◌≡◌, [], IfOk, IfErr, length, option_map, slice_get};
-ghost use Rattle.dm_event_world.specs.Openings.{HasWorldFault};
-ghost use Rattle.dm_event_world.specs.Shows.{StandsFor, label_name};
+ghost use Rattle.dm_event_world.specs.Shows.{StandsFor, label_name, HasWorldFault};
 
 use crate::actor::{DeskActor, LeftExport, LeftLabel, PrinterActor};
 use crate::desk_opening::{are_capacities, open_desks};

@@ -3,4 +3,5 @@
 mod calls;
 mod spoiled;
 mod table;
-mod tickets;
+
+pub use table::number;

@@ -6,23 +6,18 @@ use Rattle.relay_line.specs.declared.command.Command.{Command}
 use Rattle.relay_line.specs.declared.command.Command.TheVariants.{Words, Draw, Read, Plan, Ticket, Ledger, Print, Give, Take, Left, Scan, Deliver, Forget, Export, Import, Held, Copy, World}
 use Rattle.relay_line.specs.declared.command.Labels.TheVariants.{OfSide, AtMost}
 use Rattle.relay_streams.specs.Streams.{TakesPart}
-use Rattle.relay_shared.specs.Surroundings.{LeavesErrors, StreamsView}
-use Rattle.relay_shared.specs.declared.document.TheConstants.{DOCUMENT_BYTES}
+use Rattle.relay_shared.specs.Command.{LeavesErrors, StreamsView}
+use Rattle.relay_shared.specs.declared.command.TheConstants.{DOCUMENT_BYTES}
 use Rattle.relay_desk_commands.specs.declared.import.TheConstants.{IMPORT_BYTES}
 use Rattle.relay_world_command.specs.declared.world.TheConstants.{INPUT_BYTES}
-use Rattle.relay_symbol_commands.specs.Words.{EndsWords}
-use Rattle.relay_desk_commands.specs.Desks.{OnDesk, EndsDeliver, EndsExport, EndsForget, EndsImport}
-use Rattle.relay_symbol_commands.specs.Draw.{EndsDraw}
+use Rattle.relay_symbol_commands.specs.DocumentSymbol.{EndsWords, EndsDraw}
+use Rattle.relay_desk_commands.specs.Desks.{OnDesk, EndsDeliver, EndsExport, EndsForget, EndsImport, EndsScan}
 use Rattle.relay_symbol_commands.specs.Read.{EndsRead}
-use Rattle.relay_printer_commands.specs.Left.{EndsLeft}
-use Rattle.relay_printer_commands.specs.Plan.{EndsPlan}
-use Rattle.relay_printer_commands.specs.Print.{EndsPrint}
-use Rattle.relay_printer_commands.specs.PrintAuto.{EndsPrintAuto}
-use Rattle.relay_printer_commands.specs.Printers.{OnLedger, EndsLedger, EndsGive, EndsTake, ledger_at}
+use Rattle.relay_printer_commands.specs.Printers.{EndsLeft, OnLedger, EndsLedger, EndsGive, EndsTake, ledger_at}
+use Rattle.relay_printer_commands.specs.Print.{EndsPlan, EndsPrint, EndsPrintAuto}
 use Rattle.relay_printer_commands.specs.Tickets.{EndsTicket}
 use Rattle.relay_desk_commands.specs.Copy.{EndsCopy}
 use Rattle.relay_desk_commands.specs.Held.{EndsHeld}
-use Rattle.relay_desk_commands.specs.Scan.{EndsScan}
 use Rattle.relay_world_command.specs.World.{EndsWorld}
 use Rattle.dm_store.specs.Disk.{draft_of}
 use Rattle.relay.specs.declared.place.Access.{Access}
@@ -38,13 +33,10 @@ ReadsPart most old new = TakesPart old.input.remaining new.input.remaining most
 abbrev pub OnStreams : (StreamsView → ℕ → StreamsView → Type 0) → OnDesk → ℕ → OnDesk → Type 0
 OnStreams Ends old status new = Ends old.streams status new.streams × (new.files ≡ old.files)
 
--- what a command sees that works on a ledger: the store at its path is that of the ledger, and not of a joint file
-abbrev pub on_ledger : OnDesk → OnLedger
-on_ledger at = ledger_at at.files.joint at.streams
-
--- what a command of a printer does
+-- what a command of a printer does: the store at its path is that of the ledger, and not of a joint file
 abbrev pub OnFile : (OnLedger → ℕ → OnLedger → Type 0) → OnDesk → ℕ → OnDesk → Type 0
-OnFile Ends old status new = Ends (on_ledger old) status (on_ledger new) × (new.files.set ≡ old.files.set)
+OnFile Ends old status new = Ends (ledger_at old.files.joint old.streams) status (ledger_at new.files.joint new.streams)
+    × (new.files.set ≡ old.files.set)
 
 -- What a command does over the store at the path that it names and the set beside it; `A` is what it allocates in.
 abbrev pub Does : Type 0 → Command → OnDesk → ℕ → OnDesk → Type 0

@@ -7,8 +7,8 @@ ghost use Rattle.relay.specs.Commands.{Does};
 use dm_print_ledger::Range;
 use dm_store::{Store, StoreSet};
 use relay_desk_commands::{
-    CopyOptions, Notes, copy_command, deliver_command, export_command, forget_command,
-    held_command, import_command, scan_with_notes,
+    CopyOptions, copy_command, deliver_command, export_command, forget_command, held_command,
+    import_command, scan_command,
 };
 use relay_line::{Command, Labels};
 use relay_printer_commands::{
@@ -32,22 +32,12 @@ fn beside<S: Store, T: StoreSet>(ended: Ended<S>, set: T) -> EndedDesk<S, T>
     EndedDesk { status, store, set }
 }
 
-/// Does a command over the store at the path that it names and the set beside it, and its streams. `notes` learns which
-/// image of a `scan` was refused.
-pub fn do_command<
-    A: Allocator + Copy,
-    S: Store,
-    T: StoreSet,
-    R: Read,
-    W: Write,
-    E: Write,
-    N: Notes,
->(
+/// Does a command over the store at the path that it names and the set beside it, and its streams.
+pub fn do_command<A: Allocator + Copy, S: Store, T: StoreSet, R: Read, W: Write, E: Write>(
     alloc: A,
     store: S,
     set: T,
     streams: &mut Streams<R, W, E>,
-    notes: &mut N,
     command: Command,
 ) -> EndedDesk<S, T>
     ensures { Does A command.entry (desk_at (S.state store) (T.state set) streams.old) result.status
@@ -134,9 +124,7 @@ pub fn do_command<
             beside(take_command(alloc, store, streams, options), set)
         }
         Command::Left { .. } => beside(left_command(store, streams), set),
-        Command::Scan { capacity, .. } => {
-            scan_with_notes(alloc, store, set, streams, notes, capacity)
-        }
+        Command::Scan { capacity, .. } => scan_command(alloc, store, set, streams, capacity),
         Command::Deliver { id, .. } => deliver_command(alloc, store, set, streams, id),
         Command::Forget { id, .. } => forget_command(alloc, store, set, streams, id),
         Command::Export { id, .. } => export_command(alloc, store, set, streams, id),

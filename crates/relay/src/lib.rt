@@ -32,8 +32,8 @@ mod program;
 pub use commands::do_command;
 pub use program::run;
 pub use relay_desk_commands::{
-    CopyOptions, IMPORT_BYTES, NoNotes, Notes, copy_command, deliver_command, export_command,
-    forget_command, held_command, import_command, scan_command, scan_with_notes,
+    CopyOptions, IMPORT_BYTES, copy_command, deliver_command, export_command, forget_command,
+    held_command, import_command, scan_command,
 };
 pub use relay_line::{Command, LineFault, command_line};
 pub use relay_printer_commands::{

@@ -2,6 +2,7 @@
 
 ghost use Rattle.std.specs.Prelude.{◌≡◌, true, OnErr, IsErr};
 
+use crate::notes::note;
 use std::alloc::{Allocator, Global};
 use std::io;
 use std::io::{Error, ErrorKind, Write};
@@ -67,17 +68,16 @@ impl<W: Write, A: Allocator> Write for LineBuffer<W, A> {
 /// Writes text to the standard error. What isn't UTF-8 is refused.
 #[derive(Drop)]
 pub(crate) struct ErrorWriter<'a, E> {
-    to: &'a E,
+    pub(crate) to: &'a E,
+    /// The file of the images, if one was named, until it is noted: before the first note of one of them.
+    pub(crate) source: Option<&'a str>,
 }
 
-impl<'a, E> ErrorWriter<'a, E> {
-    pub(crate) fn new(to: &'a E) -> Self {
-        ErrorWriter { to }
-    }
-}
-
-impl<E: Eprint> Write for ErrorWriter<'_, E> {
+impl<E: AllocGlobal + Eprint> Write for ErrorWriter<'_, E> {
     fn write(&mut self, buf: &[u8]) -> io::Result<usize> {
+        if let Some(source) = self.source.take() {
+            note(self.to, source, "has images that are refused");
+        }
         let Ok(text) = str::from_utf8(buf) else {
             return Err(Error::from(ErrorKind::InvalidData));
         };

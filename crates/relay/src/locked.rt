@@ -88,7 +88,7 @@ fn has_second_name<R: Files>(rt: &R, place: &Place, file: &Metadata) -> bool {
 #[derive(Drop)]
 pub(crate) struct Gate<'a, R> {
     rt: &'a R,
-    place: &'a Place,
+    pub(crate) place: &'a Place,
     // What came of the first load: the lock, if the command takes one, or why it can't have its files.
     entered: OnceCell<Result<Option<Lock>, Reason>>,
     has_saved: Cell<bool>,
@@ -207,14 +207,8 @@ impl<'a, R: AllocGlobal + Files<File = File>> Gate<'a, R> {
 /// before each call that makes, renames or removes.
 #[derive(Drop)]
 pub(crate) struct Locked<'a, R, D> {
-    gate: &'a Gate<'a, R>,
-    within: D,
-}
-
-impl<'a, R, D> Locked<'a, R, D> {
-    pub(crate) fn new(gate: &'a Gate<'a, R>, within: D) -> Locked<'a, R, D> {
-        Locked { gate, within }
-    }
+    pub(crate) gate: &'a Gate<'a, R>,
+    pub(crate) within: D,
 }
 
 impl<R: AllocGlobal + Files<File = File>, D: Disk> Disk for Locked<'_, R, D> {

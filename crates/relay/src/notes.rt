@@ -3,10 +3,8 @@
 
 use crate::locked::Reason;
 use crate::place::Place;
-use dm_append_label::FileId;
 use dm_assembly_desk::{JointFile, MOST_JOINT_FILE_BYTES, MoveFault, held_at};
 use dm_store::{FileSet, FileStore, LoadFault, RealDisk, Store};
-use relay_desk_commands::Notes;
 use std::alloc::{AllocError, Global};
 use std::io::Read;
 use std::rt::Files;
@@ -25,39 +23,6 @@ fn line_of(alloc: Global, name: &str, why: &str) -> Result<String, AllocError> {
 pub(crate) fn note<R: AllocGlobal + Eprint>(rt: &R, name: &str, why: &str) {
     if let Ok(line) = line_of(rt.alloc(), name, why) {
         let _ = eprint!(rt; "{line}");
-    }
-}
-
-/// Notes refused images, as `relay: image N: NAME`, or `relay: image N (IIII): NAME` if it is a label of this
-/// identification. Before the first of them it names the file of the images, if one was named.
-#[derive(Drop)]
-pub(crate) struct RefusedImages<'a, R> {
-    rt: &'a R,
-    source: Option<&'a str>,
-}
-
-impl<'a, R> RefusedImages<'a, R> {
-    pub(crate) fn new(rt: &'a R, source: Option<&'a str>) -> RefusedImages<'a, R> {
-        RefusedImages { rt, source }
-    }
-}
-
-impl<R: AllocGlobal + Eprint> Notes for RefusedImages<'_, R> {
-    fn note(&mut self, image: u32, id: Option<FileId>, name: &str) {
-        let alloc = self.rt.alloc();
-        if let Some(source) = self.source.take() {
-            note(self.rt, source, "has images that are refused");
-        }
-        let which = match id {
-            Some(id) => {
-                let (first, second) = id.words();
-                format!(in alloc; "image {image} ({first:02x}{second:02x})")
-            }
-            None => format!(in alloc; "image {image}"),
-        };
-        if let Ok(which) = which {
-            note(self.rt, which.as_str(), name);
-        }
     }
 }
 

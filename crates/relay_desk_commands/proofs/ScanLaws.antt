@@ -5,7 +5,6 @@ use Rattle.dm_append_label.specs.declared.fault.LabelFault.{LabelFault}
 use Rattle.dm_append_label.specs.declared.fault.LabelFault.TheVariants as labels
 use Rattle.dm_append_label.specs.declared.opening.Opened.{Opened}
 use Rattle.dm_append_label.specs.Labels.{PageView}
-use Rattle.dm_pbm_io.specs.FaultNames.{shape_fault_name}
 use Rattle.dm_pbm_io.specs.Image.{Picture, HasShape}
 use Rattle.dm_pbm_io.specs.declared.fault.ShapeFault.{ShapeFault}
 use Rattle.dm_pbm_io.specs.declared.fault.ShapeFault.TheVariants.{Shape, Memory}
@@ -19,9 +18,7 @@ use Rattle.dm_assembly_desk.specs.declared.fault.ScanFault.TheVariants as scans
 use Rattle.dm_assembly_desk.specs.declared.reply.Accepted.{Accepted}
 use Rattle.dm_assembly_desk.specs.declared.reply.Imported.{Imported}
 use Rattle.dm_assembly_desk.proofs.AddLaws.{says_save, adds_failed}
-use Rattle.relay_shared.specs.EachImage.{refusal_of}
-use Rattle.relay_desk_commands.specs.Scan.{ScansPicture}
-use Rattle.relay_desk_commands.specs.Scan.ScansPicture.{shape, memory}
+use Rattle.relay_desk_commands.specs.Desks.{HasNoGrid}
 
 -- the answer says that a save failed
 abbrev pub is_save : Result Accepted ScanFault → Bool
@@ -56,7 +53,7 @@ after_scan (Ok opened) before reply after running done = after_page opened.page 
 after_scan (Err fault) before reply after running done = cc (ap is_save done.0, label_is_no_save fault)
 
 -- why an image has no grid
-pub no_grid : {A : Type 0} {p : Picture} {before : DeskView} (fault : ShapeFault) → (fault ≡ Shape → HasShape p → ⊥)
-    → (fault ≡ Memory → HasShape p) → ScansPicture A p before (refusal_of (shape_fault_name fault)) before
-no_grid Shape none there = shape (none refl)
-no_grid Memory none there = memory (there refl)
+pub has_no_grid : {p : Picture} (fault : ShapeFault) → (fault ≡ Shape → HasShape p → ⊥) → (fault ≡ Memory → HasShape p)
+    → HasNoGrid p fault
+has_no_grid Shape none there = none refl
+has_no_grid Memory none there = there refl

@@ -10,9 +10,8 @@ use Rattle.dm_append_label.specs.declared.opening.Opened.{Opened}
 use Rattle.dm_pbm_io.specs.Image.{p4}
 use Rattle.dm_assembly_desk.specs.Documents.{Documents, count_at, page_at, DeskView}
 use Rattle.dm_assembly_desk.specs.declared.limits.TheConstants.{MOST_CAPACITY}
-use Rattle.relay_shared.specs.Refusals.{refusal_name}
-use Rattle.relay_shared.specs.declared.refusal.Refusal.TheVariants as refusals
-use Rattle.relay_shared.specs.Surroundings.{RefusesOnErrors}
+use Rattle.relay_shared.specs.Command.{refusal_name, RefusesOnErrors}
+use Rattle.relay_shared.specs.declared.command.Refusal.TheVariants as refusals
 use Rattle.relay_desk_commands.specs.Desks.{HasId, HasNoDesk, IsTextOfId, OnDesk, OpensDesk, TellsBytes}
 use Rattle.relay_desk_commands.specs.declared.copy.CopyFault.{CopyFault}
 use Rattle.relay_desk_commands.specs.declared.copy.CopyFault.TheVariants.{NotHeld, Incomplete, TooLong, Memory}

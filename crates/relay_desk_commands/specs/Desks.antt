@@ -1,14 +1,18 @@
--- What `deliver`, `forget`, `export` and `import` do to the files of a desk, and what they write.
-use Rattle.std.specs.Prelude.{◌≡◌, ◌⊎◌, ℕ, List, [], ◌∷◌, Option, true, Result, Ok, Err}
+-- What `deliver`, `export`, `forget`, `import` and `scan` do to the files of a desk, and what they write. `scan` prints
+-- a line for each image, in order, up to the end of the input, a plain image, bytes that are no image, a save that
+-- failed, or the greatest number of images.
+use Rattle.std.specs.Prelude.{◌≡◌, ◌⊎◌, ℕ, List, [], ◌∷◌, ◌++◌, codes, Option, None, Some, IfSome, true, Result, Ok, Err, false}
+use Rattle.std.specs.Fmt.{decimal}
 use Rattle.std.specs.FinMap as map
 use Rattle.std.specs.Io.KnownBytes.{Appends}
 use Rattle.hex.specs.Hex.{decode_sized}
 use Rattle.dm_store.specs.Saved.{Saved, SavedSet}
-use Rattle.dm_append_label.specs.Labels.{IsIdWord, id_words}
-use Rattle.dm_assembly_desk.specs.Adding.{Asks, Exports, Forgets, ImportsBytes}
-use Rattle.dm_assembly_desk.specs.Faults.{ask_fault_name, desk_fault_name, export_fault_name, forget_fault_name, import_fault_name, move_fault_name}
+use Rattle.dm_append_label.specs.Labels.{IsIdWord, id_words, PageView}
+use Rattle.dm_append_label.specs.Opening.{OpensAs}
+use Rattle.dm_assembly_desk.specs.Adding.{Asks, Exports, Forgets, ImportsBytes, AcceptsGrid}
+use Rattle.dm_assembly_desk.specs.Faults.{ask_fault_name, desk_fault_name, export_fault_name, forget_fault_name, import_fault_name, move_fault_name, scan_fault_name}
 use Rattle.dm_assembly_desk.specs.Opening.{Moves, HasDeskFault, Opens}
-use Rattle.dm_assembly_desk.specs.Documents.{Pages, DeskView}
+use Rattle.dm_assembly_desk.specs.Documents.{Pages, DeskView, KeepsPages, IsInOrder}
 use Rattle.dm_assembly_desk.specs.declared.limits.TheConstants.{MOST_CAPACITY}
 use Rattle.dm_assembly_desk.specs.declared.fault.AskFault.{AskFault}
 use Rattle.dm_assembly_desk.specs.declared.fault.DeskFault.{DeskFault}
@@ -17,18 +21,24 @@ use Rattle.dm_assembly_desk.specs.declared.fault.ForgetFault.{ForgetFault}
 use Rattle.dm_assembly_desk.specs.declared.fault.ImportFault.{ImportFault}
 use Rattle.dm_assembly_desk.specs.declared.fault.MoveFault.{MoveFault}
 use Rattle.dm_assembly_desk.specs.declared.reply.Imported.{Imported}
-use Rattle.relay_streams.specs.Streams.{input_fault_name, write_fault_name, AppendsPart, InputView, ReadsFirst}
+use Rattle.relay_streams.specs.Streams.{input_fault_name, write_fault_name, AppendsPart, InputView, OutputView, ReadsFirst}
 use Rattle.relay_streams.specs.declared.fault.InputFault.{InputFault}
+use Rattle.relay_streams.specs.declared.fault.WriteFault.{WriteFault}
 use Rattle.relay_streams.specs.declared.fault.WriteFault.TheVariants.{Write}
-use Rattle.relay_desk_commands.specs.declared.giving.Given.{Given}
-use Rattle.relay_desk_commands.specs.declared.giving.Given.TheVariants.{Document, File}
+use Rattle.relay_desk_commands.specs.declared.documents.Given.{Given}
+use Rattle.relay_desk_commands.specs.declared.documents.Given.TheVariants.{Document, File}
 use Rattle.relay_desk_commands.specs.declared.import.TheConstants.{IMPORT_BYTES}
-use Rattle.relay_shared.specs.DeskLines.{forgotten_line, imported_line}
-use Rattle.relay_shared.specs.Documents.{HasInputFault}
-use Rattle.relay_shared.specs.Refusals.{refusal_name}
-use Rattle.relay_shared.specs.declared.refusal.Refusal.TheVariants as refusals
-use Rattle.relay_shared.specs.Surroundings.{LeavesErrors, OnlyOutput, ReadsNothing, RefusesOnErrors, RefusesOnOutput, StreamsView}
-use Rattle.relay_shared.specs.Telling.{TellsAnswer, TellsRefusal}
+use Rattle.relay_shared.specs.Lines.{forgotten_line, imported_line, accepted_line, id_text}
+use Rattle.relay_shared.specs.Command.{HasInputFault, refusal_name, LeavesErrors, OnlyOutput, Puts, ReadsNothing, RefusesOnErrors, RefusesOnOutput, StreamsView, TellsAnswer, TellsRefusal}
+use Rattle.relay_shared.specs.declared.command.Refusal.TheVariants as refusals
+use Rattle.dm_finder_frame.specs.Frame.{GridView}
+use Rattle.dm_pbm_io.specs.FaultNames.{shape_fault_name}
+use Rattle.dm_pbm_io.specs.Image.{Picture, HasShape, IsGridInside}
+use Rattle.dm_pbm_io.specs.declared.fault.ShapeFault.{ShapeFault}
+use Rattle.dm_pbm_io.specs.declared.fault.ShapeFault.TheVariants.{Shape, Memory}
+use Rattle.dm_assembly_desk.specs.declared.fault.ScanFault.{ScanFault}
+use Rattle.dm_assembly_desk.specs.declared.reply.Accepted.{Accepted}
+use Rattle.relay_shared.specs.EachImage.{ImageCommand, Said, TellsImages, progress_at, refusal_of}
 
 -- ---- a desk's files
 
@@ -154,3 +164,67 @@ pub data EndsImport (capacity : ℕ) (old : OnDesk) (status : ℕ) (new : OnDesk
       → ImportsBytes bytes desk reply after → new.files.set ≡ after.saved
       → TellsAnswer imported_line import_fault_name reply old.streams.output status new.streams.output
       → LeavesErrors old.streams new.streams → EndsImport capacity old status new
+
+-- ---- what is scanned
+
+-- a desk that scans, and the standard error
+pub record AtDesk : Type 0 where
+  pub desk : DeskView
+  pub errors : OutputView
+
+-- `relay: image`, its number, the identification of its label, if one is known, and the name of its refusal
+abbrev pub image_note : ℕ → Option ℕ → List ℕ → List ℕ
+image_note number None name = codes "relay: image " ++ (decimal number ++ (codes ": " ++ (name ++ 10 ∷ [])))
+image_note number (Some id) name = codes "relay: image " ++
+    (decimal number ++ (codes " (" ++ (id_text id ++ (codes "): " ++ (name ++ 10 ∷ [])))))
+
+-- this was noted on the standard error, or it has failed, with a part of it
+abbrev pub Notes : ℕ → Option ℕ → List ℕ → OutputView → OutputView → Type 0
+Notes number id name old new =
+    (put : Result (Unit {0}) WriteFault) × Puts (image_note number id name) old put new
+
+-- the grid opens as a label with this identification
+abbrev pub IsIdOn : GridView → ℕ → Type 0
+IsIdOn grid id = (page : PageView) × (corrected wrong : ℕ) × OpensAs grid page corrected wrong × (page.id ≡ id)
+
+-- why a picture has no grid
+abbrev pub HasNoGrid : Picture → ShapeFault → Type 0
+HasNoGrid p Shape = ¬ HasShape p
+HasNoGrid p Memory = HasShape p
+
+-- What is said of a picture, and the desk and the standard error afterwards: its grid is handed to the desk, or it has
+-- none; a refusal is noted. `A` is what the desk allocates in.
+pub data ScansPicture (A : Type 0) (number : ℕ) (p : Picture) (before : AtDesk) : Said → AtDesk → Type 0 where
+  accepted : {desk : DeskView} (grid : GridView) (reply : Accepted) → HasShape p → IsGridInside p grid
+      → AcceptsGrid A grid before.desk (Ok reply) desk → ScansPicture A number p before
+      (record { line = accepted_line reply; refused = false }) (record before { desk = desk })
+  refused : {after : AtDesk} (grid : GridView) (fault : ScanFault) (id : Option ℕ) → HasShape p → IsGridInside p grid
+      → AcceptsGrid A grid before.desk (Err fault) after.desk → IfSome id (IsIdOn grid)
+      → Notes number id (scan_fault_name fault) before.errors after.errors
+      → ScansPicture A number p before (refusal_of (scan_fault_name fault)) after
+  no_grid : {errors : OutputView} (fault : ShapeFault) → HasNoGrid p fault
+      → Notes number None (shape_fault_name fault) before.errors errors
+      → ScansPicture A number p before (refusal_of (shape_fault_name fault)) (record before { errors = errors })
+
+-- `scan` as a command over images: after a save that failed it reads no more
+abbrev pub scan_images : Type 0 → ImageCommand
+scan_images A = record {
+  State = AtDesk;
+  Answers = λ number before p said after. ScansPicture A number p before said after;
+  SeesUnread = λ number before name after.
+      (after.desk ≡ before.desk) × Notes number None name before.errors after.errors;
+  has_ended = λ at. at.desk.is_failed;
+}
+
+-- How `scan` ends: there is no desk, and nothing was read; or the desk was opened before anything was read, and the
+-- whole input was scanned, or the output has refused a line and the images up to that were. Either way each page that
+-- was held is held with the same bytes, and what the desk holds is in order with its set.
+pub data EndsScan (A : Type 0) (capacity : ℕ) (old : OnDesk) (status : ℕ) (new : OnDesk) : Type 0 where
+  no_desk : (name : List ℕ) → HasNoDesk old.files capacity name new.files
+      → RefusesOnOutput name old.streams status new.streams → EndsScan A capacity old status new
+  opened : (desk after : DeskView) → OpensDesk old.files capacity new.files.joint desk
+      → TellsImages (scan_images A)
+      (progress_at (record { desk = desk; errors = old.streams.errors }) old.streams.input old.streams.output) status
+      (progress_at (record { desk = after; errors = new.streams.errors }) new.streams.input new.streams.output)
+      → KeepsPages desk.held after.held → IsInOrder after → new.files.set ≡ after.saved
+      → EndsScan A capacity old status new

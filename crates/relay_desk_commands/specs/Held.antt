@@ -13,11 +13,9 @@ use Rattle.dm_assembly_desk.specs.declared.fault.MoveFault.{MoveFault}
 use Rattle.dm_assembly_desk.specs.declared.fault.MoveFault.TheVariants as moves
 use Rattle.dm_assembly_desk.specs.declared.reply.Held.{Held}
 use Rattle.relay_streams.specs.Streams.{refused_line, AppendsPart, OutputView}
-use Rattle.relay_shared.specs.HeldLines.{held_line, unsound_joint_line, unsound_line}
-use Rattle.relay_shared.specs.Refusals.{refusal_name}
-use Rattle.relay_shared.specs.declared.refusal.Refusal.TheVariants as refusals
-use Rattle.relay_shared.specs.Surroundings.{OnlyOutput, RefusesOnOutput}
-use Rattle.relay_shared.specs.Telling.{Tells, TellsRefusal}
+use Rattle.relay_shared.specs.Lines.{held_line, unsound_joint_line, unsound_line}
+use Rattle.relay_shared.specs.Command.{refusal_name, OnlyOutput, RefusesOnOutput, Tells, TellsRefusal}
+use Rattle.relay_shared.specs.declared.command.Refusal.TheVariants as refusals
 use Rattle.relay_desk_commands.specs.Desks.{DeskFiles, HasId, IsTextOfId, OnDesk}
 
 -- ---- what is seen

@@ -1,5 +1,4 @@
 pub mod Desks
-pub mod Scan
 pub mod Held
 pub mod inner
 pub mod Copy

@@ -10,8 +10,7 @@ ghost use Rattle.relay_desk_commands.specs.Copy.{Copies, EndsCopy, HasCopyFault,
 ghost use Rattle.relay_desk_commands.specs.Desks.{TellsBytes, desk_at};
 ghost use Rattle.relay_desk_commands.specs.declared.copy.CopyFault.TheVariants as copy_faults;
 
-use crate::desk_opening::open_desk;
-use crate::file_id::id_of;
+use crate::desk_opening::{id_of, open_desk};
 use dm_append_label::{FileId, Page, SealFault, seal};
 use dm_assembly_desk::{Desk, MOST_CAPACITY, Pages};
 use dm_check_blocks::Size;
@@ -33,14 +32,12 @@ pub struct CopyOptions<'a> {
     pub page: u16,
     /// The side of the label, a number from 10 to 132 that need not be one of the sizes.
     pub side: u16,
-    /// The encodation of the label.
     pub scheme: Scheme,
 }
 
 /// Which page of which document is copied.
 #[derive(Clone, Copy)]
 pub(crate) struct AskedPage {
-    /// The identification of the document.
     pub(crate) id: FileId,
     /// Which page it is, if the document has as many.
     pub(crate) m: u16,
@@ -49,9 +46,7 @@ pub(crate) struct AskedPage {
 /// The size and the encodation of a label.
 #[derive(Clone, Copy)]
 pub(crate) struct LabelForm {
-    /// Its size.
     pub(crate) size: Size,
-    /// Its encodation.
     pub(crate) scheme: Scheme,
 }
 
@@ -90,10 +85,8 @@ impl From<AllocError> for CopyFault {
     }
 }
 
-// The words of the head of a label.
 const HEAD_WORDS: usize = 4;
 
-// Whether a label of this size has room for a page.
 fn has_room(size: Size, scheme: Scheme, bytes: &[u8]) -> bool
     requires { length bytes.now ≤ MOST_PAGE_BYTES }
     ensures room { result ≡ true → Fits size scheme bytes.now }
@@ -116,7 +109,6 @@ fn held_page<'a, A: Allocator>(pages: &Pages<'a, A>, m: u16) -> Option<&'a [u8]>
     pages.get(m as u8)
 }
 
-// The label of the page that is asked for, as the desk holds it.
 fn copy_of<A: Allocator + Copy, T: StoreSet>(
     alloc: A,
     desk: &Desk<T, A>,
@@ -146,7 +138,6 @@ fn copy_of<A: Allocator + Copy, T: StoreSet>(
     }
 }
 
-// The packed image of that label.
 fn image_of_copy<A: Allocator + Copy, T: StoreSet>(
     alloc: A,
     desk: &Desk<T, A>,
@@ -163,7 +154,6 @@ fn image_of_copy<A: Allocator + Copy, T: StoreSet>(
     Ok(image_of(alloc, &grid, false)?)
 }
 
-// Writes an image, and gives the exit status; where the output has refused it, the line of that goes to `errors`.
 fn put_image<A: Allocator, R: Read, W: Write, E: Write>(
     streams: &mut Streams<R, W, E>,
     image: &Image<A>,

@@ -1,16 +1,26 @@
-//! The desk that a command works with.
+//! What a command of a desk begins with: the identification of a text, and the desk.
 
-ghost use Rattle.std.specs.Prelude.{◌≡◌, ℕ, List, MatchResult};
+ghost use Rattle.std.specs.Prelude.{MatchOption, ◌≡◌, ℕ, List, MatchResult};
+ghost use Rattle.relay_desk_commands.specs.Desks.{HasId, IsTextOfId, HasNoDesk, OpensDesk};
 ghost use Rattle.dm_assembly_desk.specs.Documents.{IsInOrder};
-ghost use Rattle.relay_shared.specs.Telling.{TellsRefusal};
-ghost use Rattle.relay_desk_commands.specs.Desks.{HasNoDesk, OpensDesk};
+ghost use Rattle.relay_shared.specs.Command.{TellsRefusal};
 
+use dm_append_label::FileId;
 use dm_assembly_desk::{Desk, move_pages};
 use dm_store::{Store, StoreSet};
 use relay_shared::{EndedDesk, refuse};
 use relay_streams::Output;
 use std::alloc::Allocator;
 use std::io::Write;
+
+/// The identification of a text, its two words in hexadecimal.
+pub(crate) fn id_of(text: &str) -> Option<FileId>
+    ensures { MatchOption result (¬ HasId text.now) (λ id. HasId text.now × IsTextOfId text.now id) }
+{
+    let mut words = [0u8; 2];
+    hex::decode_to_slice(text, &mut words).ok()?;
+    FileId::of_words(words[0], words[1])
+}
 
 /// An open desk, and the store of the joint file of an older version, whose documents were moved to the desk's set.
 #[derive(Drop)]

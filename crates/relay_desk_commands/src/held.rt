@@ -7,13 +7,13 @@ ghost use Rattle.dm_store.specs.Saved.{Loads, Saved};
 ghost use Rattle.dm_assembly_desk.specs.Documents.{Documents};
 ghost use Rattle.dm_assembly_desk.specs.Opening.{IsFirstFrom};
 ghost use Rattle.dm_assembly_desk.specs.declared.fault.MoveFault.{MoveFault};
-ghost use Rattle.relay_shared.specs.Telling.{Puts};
+ghost use Rattle.relay_shared.specs.Command.{Puts};
 ghost use Rattle.relay_desk_commands.specs.Desks.{desk_at};
 ghost use Rattle.relay_desk_commands.specs.Held.{EndsHeld, SeesJoint, SeesNumber, TellsAll, TellsHeld, TellsOne};
 ghost use Rattle.relay_desk_commands.specs.Held.{documents_in, joint_line, seen_line};
 ghost use Rattle.relay_desk_commands.specs.inner.Listing.{CutsList, HasCount, WritesList};
 
-use crate::file_id::id_of;
+use crate::desk_opening::id_of;
 use dm_append_label::FileId;
 use dm_assembly_desk::{
     AskFault, DeskFault, Held, JointFile, MOST_JOINT_FILE_BYTES, MoveFault, held_at, is_listed,
@@ -81,7 +81,6 @@ fn seen_at<T: StoreSet>(
     Ok(first.filter(|held| held.id.number() == number))
 }
 
-// Writes the line of what was seen of a number, if there is one.
 fn put_seen<W: Write>(
     output: &mut Output<W>,
     number: u16,
@@ -114,7 +113,6 @@ fn next_from(joint: &SeenJoint<'_>, first: Option<Held>, number: u32) -> Option<
     Some(held)
 }
 
-// Writes the line of the file of an older version, if it is not sound.
 fn put_joint<W: Write>(output: &mut Output<W>, joint: &SeenJoint<'_>) -> Result<(), WriteFault>
     ensures { Puts (joint_line joint.now) output.old result output.new }
 {
@@ -152,7 +150,6 @@ fn put_list<T: StoreSet, W: Write>(
     Ok(unsound)
 }
 
-// Tells what is held of all documents.
 fn tell_all<T: StoreSet, W: Write>(set: &mut T, output: &mut Output<W>, joint: &SeenJoint<'_>) -> u8
     ensures same { T.state set.new ≡ T.state set.old }
     ensures tells { TellsAll (record { set = T.state set.old; joint = joint.now }) output.old result output.new }
@@ -168,7 +165,6 @@ fn tell_all<T: StoreSet, W: Write>(set: &mut T, output: &mut Output<W>, joint: &
     }
 }
 
-// Tells what is held of one document.
 fn tell_one<T: StoreSet, W: Write>(
     set: &mut T,
     output: &mut Output<W>,

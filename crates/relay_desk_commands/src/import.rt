@@ -6,8 +6,8 @@ ghost use Rattle.dm_assembly_desk.specs.Adding.{ImportsBytes};
 ghost use Rattle.dm_assembly_desk.specs.declared.fault.ImportFault.{ImportFault};
 ghost use Rattle.dm_assembly_desk.specs.declared.reply.Imported.{Imported};
 ghost use Rattle.relay_streams.specs.Streams.{TakesPart};
-ghost use Rattle.relay_shared.specs.DeskLines.{imported_line};
-ghost use Rattle.relay_shared.specs.Telling.{TellsAnswer};
+ghost use Rattle.relay_shared.specs.Lines.{imported_line};
+ghost use Rattle.relay_shared.specs.Command.{TellsAnswer};
 ghost use Rattle.relay_desk_commands.specs.Desks.{EndsImport, desk_at};
 
 use crate::desk_opening::open_desk;
@@ -21,7 +21,6 @@ use std::io::{Read, Write};
 /// One byte more than the greatest file of a document.
 pub const IMPORT_BYTES: usize = 41_643;
 
-// Imports a file, and writes the line of it.
 #[tactic(auto, using(relay_shared::proofs::Telling::told))]
 fn import<A: Allocator + Copy, T: StoreSet, W: Write>(
     desk: &mut Desk<T, A>,

@@ -10,19 +10,14 @@
 
 mod copy;
 mod desk_opening;
-mod file_id;
-mod forget;
-mod giving;
+mod documents;
 mod held;
 mod import;
 pub mod laws;
-mod notes;
 mod scan;
 
 pub use copy::{CopyOptions, copy_command};
-pub use forget::forget_command;
-pub use giving::{deliver_command, export_command};
+pub use documents::{deliver_command, export_command, forget_command};
 pub use held::held_command;
 pub use import::{IMPORT_BYTES, import_command};
-pub use notes::{NoNotes, Notes};
-pub use scan::{scan_command, scan_with_notes};
+pub use scan::scan_command;

@@ -1,58 +1,77 @@
 //! `relay scan`: labels gathered at a desk.
 
-ghost use Rattle.std.specs.Prelude.{◌≡◌, false};
+ghost use Rattle.std.specs.Prelude.{◌≡◌, false, IfSome};
 ghost use Rattle.dm_assembly_desk.specs.Documents.{KeepsPages, IsInOrder};
-ghost use Rattle.relay_desk_commands.specs.Desks.{desk_at};
-ghost use Rattle.relay_desk_commands.specs.Scan.{EndsScan, scan_images};
+ghost use Rattle.relay_desk_commands.specs.Desks.{desk_at, EndsScan, IsIdOn, Notes, scan_images};
 
 use crate::desk_opening::{OpenDesk, open_desk};
-use crate::notes::{NoNotes, Notes};
 use dm_append_label::{FileId, open_label};
 use dm_assembly_desk::{Desk, ScanFault};
 use dm_finder_frame::Grid;
 use dm_pbm_io::{Image, grid_of};
 use dm_store::{Store, StoreSet};
+use itoa::Buffer;
 use relay_shared::{
-    Answered, DONE, EndedDesk, OnImages, REFUSED, Streams, each_image, put_accepted,
+    Answered, DONE, EndedDesk, OnImages, REFUSED, Streams, each_image, id_digits, put_accepted,
 };
 use relay_streams::{Output, WriteFault};
 use std::alloc::Allocator;
 use std::io::{Read, Write};
 
 // The identification of a label, if the grid opens as one.
-fn id_of_label<A: Allocator + Copy>(alloc: A, grid: &Grid<A>) -> Option<FileId> {
+fn id_of_label<A: Allocator + Copy>(alloc: A, grid: &Grid<A>) -> Option<FileId>
+    ensures { IfSome result (IsIdOn grid.now) }
+{
     match open_label(alloc, grid) {
         Ok(opened) => Some(opened.page.id()),
         Err(_) => None,
     }
 }
 
-// Hands the grid of each image to the desk, and writes the line of the answer.
-#[derive(Drop)]
-struct Scanning<'a, T: StoreSet, A: Allocator + Copy, N: Notes> {
-    desk: Desk<T, A>,
-    notes: &'a mut N,
+// Notes of which image a refusal is, and of which label. If the standard error fails, the scan goes on.
+fn put_note<E: Write>(errors: &mut Output<E>, number: u32, id: Option<FileId>, name: &str)
+    ensures { Notes number id name.now errors.old errors.new }
+{
+    let mut digits = Buffer::new();
+    let number = digits.format(number).as_bytes();
+    let name = name.as_bytes();
+    let _ = match id {
+        Some(id) => {
+            let id = id_digits(id);
+            errors.put_all(&[b"relay: image ", number, b" (", &id, b"): ", name, b"\n"])
+        }
+        None => errors.put_all(&[b"relay: image ", number, b": ", name, b"\n"]),
+    };
 }
 
-impl<'a, T: StoreSet, A: Allocator + Copy, N: Notes> OnImages<A> for Scanning<'a, T, A, N> {
+// Hands the grid of each image to the desk, writes the line of the answer, and notes of which image a refusal is.
+#[derive(Drop)]
+struct Scanning<T: StoreSet, A: Allocator + Copy> {
+    desk: Desk<T, A>,
+}
+
+impl<T: StoreSet, A: Allocator + Copy> OnImages<A> for Scanning<T, A> {
     ghost command = { scan_images A };
 
-    ghost state = { λ scanning. scanning.desk };
+    ghost state = { λ scanning errors. record { desk = scanning.desk; errors = errors } };
 
-    ghost keeps = { λ before after. KeepsPages before.held after.held × (IsInOrder before → IsInOrder after) };
+    ghost keeps = { λ before _ after _. KeepsPages before.desk.held after.desk.held
+        × (IsInOrder before.desk → IsInOrder after.desk) };
 
-    fn answer<W: Write>(
+    fn answer<W: Write, E: Write>(
         &mut self,
         alloc: A,
         output: &mut Output<W>,
+        errors: &mut Output<E>,
         number: u32,
         image: &Image<A>,
     ) -> Result<Answered, WriteFault> {
         let grid = match grid_of(alloc, image) {
             Ok(grid) => grid,
             Err(shape) => {
-                output.put_refusal(shape.name())?;
-                self.notes.note(number, None, shape.name());
+                let name = shape.name();
+                put_note(errors, number, None, name);
+                output.put_refusal(name)?;
                 return Ok(REFUSED);
             }
         };
@@ -62,22 +81,23 @@ impl<'a, T: StoreSet, A: Allocator + Copy, N: Notes> OnImages<A> for Scanning<'a
                 Ok(DONE)
             }
             Err(fault) => {
-                output.put_refusal(fault.name())?;
-                self.notes
-                    .note(number, id_of_label(alloc, &grid), fault.name());
+                let id = id_of_label(alloc, &grid);
+                let name = fault.name();
+                put_note(errors, number, id, name);
+                output.put_refusal(name)?;
                 let last = matches!(fault, ScanFault::Save);
                 Ok(Answered { last, ..REFUSED })
             }
         }
     }
 
-    fn note_unread(&mut self, number: u32, name: &str) {
-        self.notes.note(number, None, name);
+    fn see_unread<E: Write>(&mut self, errors: &mut Output<E>, number: u32, name: &str) {
+        put_note(errors, number, None, name);
     }
 
-    ghost keeps_itself = { λ desk. ((λ id m bytes held. held), (λ order. order)) };
+    ghost keeps_itself = { λ now errors. ((λ id m bytes held. held), (λ order. order)) };
 
-    ghost keeps_later = { λ first now later earlier after. (
+    ghost keeps_later = { λ first now later a b c earlier after. (
       (λ id m bytes held. after.0 id m bytes (earlier.0 id m bytes held)),
       (λ order. after.1 (earlier.1 order)),
     ) };
@@ -86,44 +106,8 @@ impl<'a, T: StoreSet, A: Allocator + Copy, N: Notes> OnImages<A> for Scanning<'a
 /// Reads images, one after another, hands the grid of each to the desk, which holds and saves its page, and prints for
 /// each `IIII m/n new`, `again` or `complete`, after the save, or `refused NAME`. A refused image doesn't end the
 /// command; a save that failed does, and so do bytes that are no image, and a plain image. At most 65,536 images are
-/// read. The desk is opened before anything is read. The exit status is 0 where no line names a refusal, and else 1.
-/// After the line of a refused image `notes` gets the number of the image and the refusal.
-pub fn scan_with_notes<
-    A: Allocator + Copy,
-    S: Store,
-    T: StoreSet,
-    R: Read,
-    W: Write,
-    E: Write,
-    N: Notes,
->(
-    alloc: A,
-    store: S,
-    set: T,
-    streams: &mut Streams<R, W, E>,
-    notes: &mut N,
-    capacity: u16,
-) -> EndedDesk<S, T>
-    ensures { EndsScan A capacity (desk_at (S.state store) (T.state set) streams.old) result.status
-        (desk_at (S.state result.store) (T.state result.set) streams.new) }
-{
-    let opened = match open_desk(alloc, store, set, &mut streams.output, capacity) {
-        Ok(opened) => opened,
-        Err(ended) => return ended,
-    };
-    let OpenDesk { store, desk } = opened;
-    let mut scanning = Scanning { desk, notes };
-    let status = each_image(
-        alloc,
-        &mut scanning,
-        &mut streams.input,
-        &mut streams.output,
-    );
-    let set = scanning.desk.close();
-    EndedDesk { status, store, set }
-}
-
-/// As [`scan_with_notes`], with no notes.
+/// read. The desk is opened before anything is read. Which image a refusal is of goes to the standard error, as
+/// `relay: image N: NAME`, or `relay: image N (IIII): NAME` if its label opens.
 pub fn scan_command<A: Allocator + Copy, S: Store, T: StoreSet, R: Read, W: Write, E: Write>(
     alloc: A,
     store: S,
@@ -134,5 +118,19 @@ pub fn scan_command<A: Allocator + Copy, S: Store, T: StoreSet, R: Read, W: Writ
     ensures { EndsScan A capacity (desk_at (S.state store) (T.state set) streams.old) result.status
         (desk_at (S.state result.store) (T.state result.set) streams.new) }
 {
-    scan_with_notes(alloc, store, set, streams, &mut NoNotes, capacity)
+    let opened = match open_desk(alloc, store, set, &mut streams.output, capacity) {
+        Ok(opened) => opened,
+        Err(ended) => return ended,
+    };
+    let OpenDesk { store, desk } = opened;
+    let mut scanning = Scanning { desk };
+    let status = each_image(
+        alloc,
+        &mut scanning,
+        &mut streams.input,
+        &mut streams.output,
+        &mut streams.errors,
+    );
+    let set = scanning.desk.close();
+    EndedDesk { status, store, set }
 }

@@ -8,7 +8,7 @@ use Rattle.std.specs.Result.{result_ok}
 use Rattle.hex.specs.Hex.{decode_sized}
 use Rattle.hex.specs.declared.error.FromHexError.{FromHexError}
 use Rattle.hex.proofs.HexLemmas.{decode_sized-ok}
-use Rattle.relay_shared.specs.TicketLines.{grouped}
+use Rattle.relay_shared.specs.Lines.{grouped}
 use Rattle.relay_printer_commands.specs.Tickets.{IsGroupedText}
 
 -- a text in groups is longer than its digits by the hyphens

@@ -9,7 +9,7 @@ use Rattle.dm_gf256.specs.Field.{differ, IsBlockWord}
 use Rattle.dm_gf256.proofs.OneBlockWord.{one_block_word}
 use Rattle.hex.specs.Hex.{encode_lower, IsBytes}
 use Rattle.hex.proofs.HexLemmas.{decode_sized-ok, decode_sized-encode_lower}
-use Rattle.relay_shared.specs.TicketLines.{check_text}
+use Rattle.relay_shared.specs.Lines.{check_text}
 use Rattle.relay_printer_commands.specs.Tickets.{HasTicket, IsCheckText, IsChecked, IsGroupedText}
 use Rattle.relay_printer_commands.proofs.CheckForm.{length-text, same_whole}
 

@@ -8,8 +8,8 @@ use Rattle.dm_check_blocks.specs.declared.size.Size.{Size}
 use Rattle.dm_check_blocks.specs.Sizes.{side}
 use Rattle.dm_encodation.specs.declared.scheme.Scheme.{Scheme}
 use Rattle.dm_print_ledger.specs.Verdicts.{HasLabels}
-use Rattle.relay_shared.specs.declared.plan_lines.PlannedSide.{PlannedSide}
-use Rattle.relay_printer_commands.specs.Plan.{IsPlan, IsPlanned}
+use Rattle.relay_shared.specs.declared.printer_lines.PlannedSide.{PlannedSide}
+use Rattle.relay_printer_commands.specs.Print.{IsPlan, IsPlanned}
 use Rattle.relay_printer_commands.proofs.Sizes.{greatest_side}
 
 -- a number of labels of a side

@@ -12,14 +12,12 @@ use Rattle.relay_printer_commands.specs.Print.{PrintsButRefuses, PrintsLabels, P
 use Rattle.relay_printer_commands.specs.Print.PrintsLabels.{all, no_line, no_memory, not_written}
 use Rattle.relay_streams.specs.declared.fault.WriteFault.TheVariants.{Write}
 use Rattle.relay_shared.proofs.Telling.{then_part}
-use Rattle.relay_shared.specs.PrinterLines.{printed_line}
-use Rattle.relay_shared.specs.Refusals.{refusal_name}
-use Rattle.relay_shared.specs.Surroundings.{StreamsView}
-use Rattle.relay_shared.specs.Telling.{TellsRefusal}
-use Rattle.relay_shared.specs.declared.refusal.Refusal.{Refusal}
-use Rattle.relay_shared.specs.declared.refusal.Refusal.TheVariants.{Memory}
-use Rattle.relay_printer_commands.specs.inner.Images.{LosesImages}
-use Rattle.relay_printer_commands.specs.inner.Images.LosesImages.{memory, write}
+use Rattle.relay_shared.specs.Lines.{printed_line}
+use Rattle.relay_shared.specs.Command.{refusal_name, StreamsView, TellsRefusal}
+use Rattle.relay_shared.specs.declared.command.Refusal.{Refusal}
+use Rattle.relay_shared.specs.declared.command.Refusal.TheVariants.{Memory}
+use Rattle.relay_printer_commands.specs.inner.Failing.{LosesImages}
+use Rattle.relay_printer_commands.specs.inner.Failing.LosesImages.{memory, write}
 
 -- the line of a refusal after another line
 refused_after : (line name : List ℕ) (old mid new : OutputView) (status : ℕ) → Appends old.contents mid.contents line

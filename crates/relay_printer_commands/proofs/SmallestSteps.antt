@@ -6,8 +6,7 @@ use Rattle.dm_check_blocks.specs.declared.size.Size.{Size}
 use Rattle.dm_check_blocks.specs.Sizes.{side}
 use Rattle.dm_encodation.specs.declared.scheme.Scheme.{Scheme}
 use Rattle.dm_print_ledger.specs.Verdicts.{HasLabels}
-use Rattle.relay_printer_commands.specs.Plan.{IsPlanned}
-use Rattle.relay_printer_commands.specs.PrintAuto.{HasAtMost, IsSmallestSide}
+use Rattle.relay_printer_commands.specs.Print.{IsPlanned, HasAtMost, IsSmallestSide}
 use Rattle.relay_printer_commands.proofs.PlanSteps.{planned_at}
 use Rattle.relay_printer_commands.proofs.Sizes.{same_size}
 

@@ -1,22 +1,20 @@
--- What `ledger`, `give` and `take` do to the store of a ledger and to the streams.
+-- What `ledger`, `give`, `take` and `left` do to the store of a ledger and to the streams.
 use Rattle.std.specs.Prelude.{◌≡◌, ℕ, Result, Ok, Err}
 use Rattle.dm_store.specs.Saved.{Saved}
 use Rattle.dm_print_ledger.specs.Creating.{Creates}
-use Rattle.dm_print_ledger.specs.Verdicts.{create_fault_name, open_fault_name, give_fault_name, take_fault_name, Opens, Gives, Takes}
-use Rattle.dm_print_ledger.specs.Ledger.{free_count, PrinterView, TicketView}
+use Rattle.dm_print_ledger.specs.Verdicts.{create_fault_name, open_fault_name, give_fault_name, take_fault_name, Opens, Gives, Takes, LoadsLedger, show_verdict}
+use Rattle.dm_print_ledger.specs.Ledger.{free_count, PrinterView, TicketView, ShownView}
 use Rattle.dm_print_ledger.specs.declared.fault.CreateFault.{CreateFault}
 use Rattle.dm_print_ledger.specs.declared.fault.GiveFault.{GiveFault}
 use Rattle.dm_print_ledger.specs.declared.fault.OpenFault.{OpenFault}
 use Rattle.dm_print_ledger.specs.declared.fault.TakeFault.{TakeFault}
-use Rattle.relay_shared.specs.PrinterLines.{left_line, taken_line, ticket_line}
-use Rattle.relay_shared.specs.Refusals.{refusal_name}
-use Rattle.relay_shared.specs.Surroundings.{OnlyOutput, RefusesOnOutput, StreamsView, TellsOnOutput}
-use Rattle.relay_shared.specs.Telling.{TellsAnswer}
-use Rattle.relay_shared.specs.declared.refusal.Refusal.TheVariants.{Ticket}
+use Rattle.relay_shared.specs.Lines.{left_line, taken_line, ticket_line, shown_lines}
+use Rattle.relay_shared.specs.Command.{refusal_name, OnlyOutput, RefusesOnOutput, StreamsView, TellsOnOutput, TellsAnswer}
+use Rattle.relay_shared.specs.declared.command.Refusal.TheVariants.{Ticket}
 use Rattle.relay_printer_commands.specs.Tickets.{HasTicket, IsTextOf}
-use Rattle.relay_printer_commands.specs.declared.give.GiveOptions.{GiveOptions}
+use Rattle.relay_printer_commands.specs.declared.ledger.GiveOptions.{GiveOptions}
 use Rattle.relay_printer_commands.specs.declared.ledger.LedgerOptions.{LedgerOptions}
-use Rattle.relay_printer_commands.specs.declared.take.TakeOptions.{TakeOptions}
+use Rattle.relay_printer_commands.specs.declared.tickets.TakeOptions.{TakeOptions}
 
 -- the store of a printer's ledger, and the streams
 pub record OnLedger : Type 0 where
@@ -63,3 +61,13 @@ pub data EndsTake (options : TakeOptions) (old : OnLedger) (status : ℕ) (new :
   not_opened : (fault : OpenFault) → HasTicket options.text.now → Opens old.saved options.number (Err fault)
       → new.saved ≡ old.saved → RefusesOnOutput (open_fault_name fault) old.streams status new.streams
       → EndsTake options old status new
+
+-- How `left` ends, with the store as it was: the lines of what an honest store holds were written, or why there are
+-- none.
+pub data EndsLeft (old : OnLedger) (status : ℕ) (new : OnLedger) : Type 0 where
+  shown : (shown : ShownView) → LoadsLedger old.saved (show_verdict old.saved.content) (Ok shown)
+      → new.saved ≡ old.saved → TellsOnOutput (shown_lines shown) old.streams status new.streams
+      → EndsLeft old status new
+  refused : (fault : OpenFault) → LoadsLedger old.saved (show_verdict old.saved.content) (Err fault)
+      → new.saved ≡ old.saved
+      → RefusesOnOutput (open_fault_name fault) old.streams status new.streams → EndsLeft old status new

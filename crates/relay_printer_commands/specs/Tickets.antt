@@ -4,10 +4,9 @@ use Rattle.std.specs.List.{All}
 use Rattle.hex.specs.Hex.{decode_sized}
 use Rattle.dm_gf256.specs.Field.{IsBlockWord}
 use Rattle.dm_print_ledger.specs.Ledger.{AreOfTicket, ticket_bytes, TicketView}
-use Rattle.relay_shared.specs.Refusals.{refusal_name}
-use Rattle.relay_shared.specs.Surroundings.{RefusesOnOutput, StreamsView, TellsOnOutput}
-use Rattle.relay_shared.specs.TicketLines.{check_line, from_line, grouped}
-use Rattle.relay_shared.specs.declared.refusal.Refusal.TheVariants.{Ticket}
+use Rattle.relay_shared.specs.Command.{refusal_name, RefusesOnOutput, StreamsView, TellsOnOutput}
+use Rattle.relay_shared.specs.Lines.{check_line, from_line, grouped}
+use Rattle.relay_shared.specs.declared.command.Refusal.TheVariants.{Ticket}
 
 -- ---- twelve bytes: ten, and two check words of them
 

@@ -1,3 +1,2 @@
 -- Private: only contracts inside this crate cite what stands in this folder.
-pub mod Images
-pub mod Opening
+pub mod Failing

@@ -1,19 +1,45 @@
-//! `relay ledger`: a printer that is new.
+//! `relay ledger`, a printer that is new, and `relay give`, identifications for another printer; and the printer that
+//! other commands work with.
 
-ghost use Rattle.relay_printer_commands.specs.Printers.{EndsLedger, ledger_at};
+ghost use Rattle.std.specs.Prelude.{◌≡◌, Ok, IfErr, MatchResult};
+ghost use Rattle.dm_print_ledger.specs.Verdicts.{Opens, give_fault_name};
+ghost use Rattle.relay_printer_commands.specs.inner.Failing.{TellsNotOpened};
+ghost use Rattle.relay_printer_commands.specs.Printers.{EndsLedger, ledger_at, EndsGive};
+ghost use Rattle.relay_shared.specs.Lines.{ticket_line};
+ghost use Rattle.relay_shared.specs.Command.{TellsAnswer};
 
-use dm_print_ledger::{CreateRefused, Printer, Range};
+use dm_print_ledger::{CreateRefused, GiveFault, OpenRefused, Printer, Range, Ticket};
 use dm_store::Store;
-use relay_shared::{Ended, Streams, put_left, refuse, status_after};
+use relay_shared::{Ended, Streams, put_left, put_ticket, refuse, status_after};
+use relay_streams::Output;
 use std::alloc::Allocator;
 use std::io::{Read, Write};
+
+/// The printer of a number whose ledger the store holds; or the line `refused NAME`, and how the command ends.
+pub(crate) fn open_printer<A: Allocator + Copy, S: Store, W: Write>(
+    alloc: A,
+    store: S,
+    output: &mut Output<W>,
+    number: u16,
+) -> Result<Printer<S, A>, Ended<S>>
+    ensures opens { MatchResult result
+        (λ printer. Opens (S.state store) number (Ok printer) × (output.new ≡ output.old))
+        (λ ended. TellsNotOpened (S.state store) number output.old ended.status output.new) }
+    ensures same { IfErr result (λ ended. S.state ended.store ≡ S.state store) }
+{
+    match Printer::open(alloc, store, number) {
+        Ok(printer) => Ok(printer),
+        Err(OpenRefused { fault, store }) => {
+            let status = refuse(output, fault.name());
+            Err(Ended { status, store })
+        }
+    }
+}
 
 /// Which printer is made, and what is free to it.
 #[derive(Clone, Copy, Debug, PartialEq, Eq)]
 pub struct LedgerOptions {
-    /// The printer's number.
     pub number: u16,
-    /// The identifications that are free.
     pub range: Range,
 }
 
@@ -39,4 +65,45 @@ pub fn ledger_command<A: Allocator + Copy, S: Store, R: Read, W: Write, E: Write
             Ended { status, store }
         }
     }
+}
+
+/// Which printer gives, to which other, and what.
+#[derive(Clone, Copy, Debug, PartialEq, Eq)]
+pub struct GiveOptions {
+    /// The number of the printer that gives.
+    pub number: u16,
+    /// The number of the printer that is to take.
+    pub to: u16,
+    pub range: Range,
+}
+
+#[tactic(auto, using(relay_shared::proofs::Telling::told))]
+fn tell_give<W: Write>(output: &mut Output<W>, answer: Result<Ticket, GiveFault>) -> u8
+    ensures { TellsAnswer ticket_line give_fault_name answer output.old result output.new }
+{
+    match answer {
+        Ok(ticket) => status_after(put_ticket(output, ticket)),
+        Err(fault) => refuse(output, fault.name()),
+    }
+}
+
+/// Gives the identifications of a range to another printer, and prints `ticket HEX`, the ten bytes of the ticket, after
+/// they were saved as gone; or the line `refused NAME`.
+pub fn give_command<A: Allocator + Copy, S: Store, R: Read, W: Write, E: Write>(
+    alloc: A,
+    store: S,
+    streams: &mut Streams<R, W, E>,
+    options: GiveOptions,
+) -> Ended<S>
+    ensures { EndsGive options (ledger_at (S.state store) streams.old) result.status
+        (ledger_at (S.state result.store) streams.new) }
+{
+    let mut printer = match open_printer(alloc, store, &mut streams.output, options.number) {
+        Ok(printer) => printer,
+        Err(ended) => return ended,
+    };
+    let answer = printer.give(options.to, options.range);
+    let status = tell_give(&mut streams.output, answer);
+    let store = printer.close();
+    Ended { status, store }
 }

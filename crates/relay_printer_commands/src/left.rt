@@ -3,10 +3,9 @@
 ghost use Rattle.std.specs.Prelude.{IsTrue};
 ghost use Rattle.std.specs.List.{All, flat_map};
 ghost use Rattle.dm_print_ledger.specs.Ledger.{is_range};
-ghost use Rattle.relay_shared.specs.LedgerLines.{free_line, shown_lines, took_line};
-ghost use Rattle.relay_shared.specs.Telling.{Puts};
-ghost use Rattle.relay_printer_commands.specs.Left.{EndsLeft};
-ghost use Rattle.relay_printer_commands.specs.Printers.{ledger_at};
+ghost use Rattle.relay_shared.specs.Lines.{free_line, shown_lines, took_line};
+ghost use Rattle.relay_shared.specs.Command.{Puts};
+ghost use Rattle.relay_printer_commands.specs.Printers.{EndsLeft, ledger_at};
 
 use dm_print_ledger::{Giver, Range, Shown};
 use dm_store::Store;
@@ -16,7 +15,6 @@ use relay_shared::{
 use relay_streams::{Output, WriteFault};
 use std::io::{Read, Write};
 
-// Writes the line of each range.
 fn put_ranges<W: Write>(output: &mut Output<W>, ranges: &[Range]) -> Result<(), WriteFault>
     requires { All (λ range. IsTrue (is_range range)) ranges.now }
     ensures { Puts (flat_map free_line ranges.now) output.old result output.new }
@@ -27,7 +25,6 @@ fn put_ranges<W: Write>(output: &mut Output<W>, ranges: &[Range]) -> Result<(), 
     Ok(())
 }
 
-// Writes the line of each giver.
 fn put_givers<W: Write>(output: &mut Output<W>, givers: &[Giver]) -> Result<(), WriteFault>
     ensures { Puts (flat_map took_line givers.now) output.old result output.new }
 {
@@ -37,7 +34,6 @@ fn put_givers<W: Write>(output: &mut Output<W>, givers: &[Giver]) -> Result<(), 
     Ok(())
 }
 
-// Writes the lines of a ledger.
 fn put_shown<W: Write>(output: &mut Output<W>, shown: &Shown) -> Result<(), WriteFault>
     ensures { Puts (shown_lines shown.now) output.old result output.new }
 {

@@ -12,24 +12,15 @@
 //! doesn't need it leaves as it was.
 #![tactic(auto)]
 
-mod give;
 pub mod laws;
 mod ledger;
 mod left;
-mod opening;
 mod plan;
 mod print;
-mod print_auto;
-mod sides;
-mod take;
-mod ticket;
-mod ticket_text;
+mod tickets;
 
-pub use give::{GiveOptions, give_command};
-pub use ledger::{LedgerOptions, ledger_command};
+pub use ledger::{GiveOptions, LedgerOptions, give_command, ledger_command};
 pub use left::left_command;
 pub use plan::plan_command;
-pub use print::{PrintOptions, print_command};
-pub use print_auto::{AutoOptions, print_auto_command};
-pub use take::{TakeOptions, take_command};
-pub use ticket::ticket_command;
+pub use print::{AutoOptions, PrintOptions, print_auto_command, print_command};
+pub use tickets::{TakeOptions, take_command, ticket_command};

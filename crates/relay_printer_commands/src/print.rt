@@ -1,16 +1,16 @@
-//! `relay print`: a document as labels.
+//! `relay print`: a document as labels, of a side that is asked for, or of the smallest that needs few enough labels.
 
 ghost use Rattle.std.specs.Prelude.{OnOk, IfErr};
 ghost use Rattle.std.specs.Io.KnownBytes.{Appends};
 ghost use Rattle.relay_streams.specs.Streams.{AppendsPart, TakesPart};
-ghost use Rattle.relay_printer_commands.specs.Print.{EndsPrint, PrintsDocument, PrintsLabels, PrintsLineFirst};
-ghost use Rattle.relay_printer_commands.specs.Print.{TellsPrint, images_of};
+ghost use Rattle.relay_printer_commands.specs.Print.{EndsPrint, PrintsDocument, PrintsLabels, PrintsLineFirst, TellsPrint, images_of, EndsPrintAuto};
 ghost use Rattle.relay_printer_commands.specs.Printers.{ledger_at};
-ghost use Rattle.relay_printer_commands.specs.inner.Images.{LosesImages};
-ghost use Rattle.relay_shared.specs.PrinterLines.{printed_line};
-ghost use Rattle.relay_shared.specs.Surroundings.{ReadsNothing};
+ghost use Rattle.relay_printer_commands.specs.inner.Failing.{LosesImages};
+ghost use Rattle.relay_shared.specs.Lines.{printed_line};
+ghost use Rattle.relay_shared.specs.Command.{ReadsNothing};
 
-use crate::opening::open_printer;
+use crate::ledger::open_printer;
+use crate::plan::smallest_side;
 use dm_check_blocks::Size;
 use dm_encodation::Scheme;
 use dm_pbm_io::image_of;
@@ -21,29 +21,23 @@ use relay_streams::Output;
 use std::alloc::Allocator;
 use std::io::{Read, Write};
 
-/// Which printer prints, and in what form.
+/// Which printer prints, by its number, and in what form.
 #[derive(Clone, Copy, Debug, PartialEq, Eq)]
 pub struct PrintOptions {
-    /// The printer's number.
     pub number: u16,
     /// The side of the labels, a number from 10 to 132 that need not be one of the sizes.
     pub side: u16,
-    /// The encodation of the labels.
     pub scheme: Scheme,
 }
 
 /// `PrintOptions` whose side is one of the sizes.
 #[derive(Clone, Copy)]
 pub(crate) struct SizedOptions {
-    /// The printer's number.
     pub number: u16,
-    /// The size of the labels.
     pub size: Size,
-    /// The encodation of the labels.
     pub scheme: Scheme,
 }
 
-// Writes the images of the labels of a job, in order.
 fn put_images<A: Allocator + Copy, W: Write>(
     alloc: A,
     output: &mut Output<W>,
@@ -60,7 +54,6 @@ fn put_images<A: Allocator + Copy, W: Write>(
     Ok(())
 }
 
-// Says what was printed, and writes the images of its labels.
 fn put_job<A: Allocator + Copy, R: Read, W: Write, E: Write>(
     alloc: A,
     streams: &mut Streams<R, W, E>,
@@ -94,8 +87,7 @@ fn tell_print<A: Allocator + Copy, R: Read, W: Write, E: Write>(
     }
 }
 
-/// Opens the printer, prints a document, and writes what comes of it.
-pub(crate) fn open_and_print<A: Allocator + Copy, S: Store, R: Read, W: Write, E: Write>(
+fn open_and_print<A: Allocator + Copy, S: Store, R: Read, W: Write, E: Write>(
     alloc: A,
     store: S,
     streams: &mut Streams<R, W, E>,
@@ -143,6 +135,47 @@ pub fn print_command<A: Allocator + Copy, S: Store, R: Read, W: Write, E: Write>
             let status = refuse(&mut streams.errors, fault.name());
             return Ended { status, store };
         }
+    };
+    let sized = SizedOptions {
+        number: options.number,
+        size,
+        scheme: options.scheme,
+    };
+    open_and_print(alloc, store, streams, &document, sized)
+}
+
+/// Which printer prints, by its number, in which encodation, and the most labels that a document may have.
+#[derive(Clone, Copy, Debug, PartialEq, Eq)]
+pub struct AutoOptions {
+    pub number: u16,
+    pub most_labels: u16,
+    pub scheme: Scheme,
+}
+
+/// `print_command`, with the smallest side of which the document has at most `most_labels` labels. The input is read
+/// first, at most 41,601 bytes of it, and then the side is chosen: where there is none, the line `refused TooLong` goes
+/// to the standard error. Then the printer is opened.
+pub fn print_auto_command<A: Allocator + Copy, S: Store, R: Read, W: Write, E: Write>(
+    alloc: A,
+    store: S,
+    streams: &mut Streams<R, W, E>,
+    options: AutoOptions,
+) -> Ended<S>
+    ensures part { TakesPart streams.old.input.remaining streams.new.input.remaining DOCUMENT_BYTES }
+    ensures line_first { PrintsLineFirst streams.old streams.new }
+    ensures ends { EndsPrintAuto options (ledger_at (S.state store) streams.old) result.status
+        (ledger_at (S.state result.store) streams.new) }
+{
+    let document = match read_document(alloc, &mut streams.input) {
+        Ok(document) => document,
+        Err(fault) => {
+            let status = refuse(&mut streams.errors, fault.name());
+            return Ended { status, store };
+        }
+    };
+    let Some(size) = smallest_side(&document, options.scheme, options.most_labels) else {
+        let status = refuse(&mut streams.errors, PrintFault::TooLong.name());
+        return Ended { status, store };
     };
     let sized = SizedOptions {
         number: options.number,

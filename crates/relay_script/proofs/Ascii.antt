@@ -24,8 +24,7 @@ use Rattle.dm_store.specs.declared.fuse.Kept.TheVariants.{Old, New}
 use Rattle.relay_line.specs.Line.{scheme_name}
 use Rattle.relay_script.specs.declared.script.Script.{Script}
 use Rattle.relay_script.specs.Words.{cut_at, AreBytesOf, AreFlipsOf, IsFlipOf, IsIdOf, IsNumberOf, IsStopOf}
-use Rattle.relay_script.specs.Events.{Words, word, SpellsEvent}
-use Rattle.relay_script.specs.Scripts.{AreLinesOf, AreWordsOf, IsScript, SpellsDesks, SpellsEventLine, SpellsRange}
+use Rattle.relay_script.specs.Scripts.{Words, word, SpellsEvent, AreLinesOf, AreWordsOf, IsScript, SpellsDesks, SpellsEventLine, SpellsRange}
 use Rattle.relay_script.proofs.Same.{texts}
 
 -- a text that is written out

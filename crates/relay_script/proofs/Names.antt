@@ -8,10 +8,10 @@ use Rattle.dm_print_ledger.specs.declared.range.Range.{Range}
 use Rattle.dm_event_history.specs.declared.event.Event.{Event}
 use Rattle.dm_event_history.specs.declared.event.Event.TheVariants.{Print, Scan, RestartPrinter, RestartDesk, Ask, Forget, Give, Take, Export, Import}
 use Rattle.dm_event_history.specs.declared.stop.Stop.{Stop}
-use Rattle.relay_script.specs.declared.fault.ScriptFault.{ScriptFault}
-use Rattle.relay_script.specs.declared.fault.ScriptFault.TheVariants.{Script, Memory}
+use Rattle.relay_script.specs.declared.words.ScriptFault.{ScriptFault}
+use Rattle.relay_script.specs.declared.words.ScriptFault.TheVariants.{Script, Memory}
 use Rattle.relay_script.specs.Words.{IsRead}
-use Rattle.relay_script.specs.Events.{Words, word, SpellsEvent, SpellsForget, SpellsGive, SpellsPrint, SpellsScan}
+use Rattle.relay_script.specs.Scripts.{Words, word, SpellsEvent, SpellsForget, SpellsGive, SpellsPrint, SpellsScan}
 
 -- the first word of an event's line
 abbrev name_of : {A : Type 0} → Event A → List ℕ

@@ -8,8 +8,8 @@ use Rattle.std.proofs.lemmas.Str.Pattern.{IsSplitOnceResult, split_after}
 use Rattle.dm_event_history.specs.declared.stop.Stop.{Stop}
 use Rattle.dm_event_history.specs.declared.stop.Stop.TheVariants.{None as NoStop, BeforeSave, InSave, SaveFault, AfterLabels}
 use Rattle.dm_store.specs.declared.fuse.Kept.TheVariants.{Old, New}
-use Rattle.relay_script.specs.declared.fault.ScriptFault.{ScriptFault}
-use Rattle.relay_script.specs.declared.fault.ScriptFault.TheVariants.{Script, Memory}
+use Rattle.relay_script.specs.declared.words.ScriptFault.{ScriptFault}
+use Rattle.relay_script.specs.declared.words.ScriptFault.TheVariants.{Script, Memory}
 use Rattle.relay_script.specs.Words.{AreFlipsOf, Nothing, cut_at, IsFound, IsRead, IsFlipOf, IsStopOf, IsNumber}
 
 -- where nothing fits, each refusal is right

@@ -6,8 +6,8 @@ use Rattle.dm_event_history.specs.declared.event.Event.{Event}
 use Rattle.dm_event_history.specs.declared.event.Event.TheVariants.{Print, Scan, RestartPrinter, RestartDesk, Ask, Forget, Give, Take, Export, Import}
 use Rattle.dm_event_history.specs.declared.stop.Stop.{Stop}
 use Rattle.relay_script.specs.Words.{Nothing}
-use Rattle.relay_script.specs.Events.{Words, word, HasForm, SpellsEvent, SpellsOfId, SpellsOfNumber, SpellsRestart}
-use Rattle.relay_script.specs.Scripts.{AreWordsOf, SpellsDesks, SpellsEventLine, SpellsRange}
+use Rattle.relay_script.specs.Scripts.{Words, word, HasForm, SpellsEvent, SpellsOfId, SpellsOfNumber, SpellsRestart, AreWordsOf, SpellsDesks, SpellsEventLine}
+use Rattle.relay_script.specs.Scripts.{SpellsRange}
 
 abbrev pub texts : Words → List (List ℕ)
 texts words = map (λ text. text.now) words

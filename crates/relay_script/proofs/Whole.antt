@@ -4,8 +4,8 @@ use Rattle.std.specs.List.{AllZip}
 use Rattle.std.specs.Prelude.{IsErr, IsErrOf}
 use Rattle.std.proofs.lemmas.List.{length-take-le, length-append}
 use Rattle.dm_print_ledger.specs.declared.range.Range.{Range}
-use Rattle.relay_script.specs.declared.fault.ScriptFault.{ScriptFault}
-use Rattle.relay_script.specs.declared.fault.ScriptFault.TheVariants.{Script as Blamed, Memory}
+use Rattle.relay_script.specs.declared.words.ScriptFault.{ScriptFault}
+use Rattle.relay_script.specs.declared.words.ScriptFault.TheVariants.{Script as Blamed, Memory}
 use Rattle.relay_script.specs.declared.script.Script.{Script}
 use Rattle.relay_script.specs.Words.{Nothing, IsRead}
 use Rattle.relay_script.specs.Scripts.{AreDesks, AreLinesOf, IsScript, SpellsEventLine, SpellsRange}

@@ -9,8 +9,8 @@ use Rattle.dm_store.specs.declared.fuse.Kept.TheVariants.{Old, New}
 use Rattle.dm_append_label.specs.Labels.{id_words}
 use Rattle.dm_event_history.specs.declared.stop.Stop.{Stop}
 use Rattle.dm_event_history.specs.declared.stop.Stop.TheVariants.{None, BeforeSave, InSave, SaveFault, AfterLabels}
-use Rattle.relay_script.specs.declared.fault.ScriptFault.{ScriptFault}
-use Rattle.relay_script.specs.declared.fault.ScriptFault.TheVariants.{Script, Memory}
+use Rattle.relay_script.specs.declared.words.ScriptFault.{ScriptFault}
+use Rattle.relay_script.specs.declared.words.ScriptFault.TheVariants.{Script, Memory}
 
 abbrev pub script_fault_name : ScriptFault → List ℕ
 script_fault_name Script = codes "Script"

@@ -5,11 +5,10 @@ ghost use Rattle.dm_check_blocks.specs.declared.size.Size.{Size};
 ghost use Rattle.dm_encodation.specs.declared.scheme.Scheme.{Scheme};
 ghost use Rattle.dm_event_history.specs.declared.stop.Stop.{Stop};
 ghost use Rattle.dm_print_ledger.specs.declared.range.Range.{Range};
-ghost use Rattle.relay_script.specs.Events.{SpellsEvent, SpellsForget, SpellsGive, SpellsOfId, SpellsOfNumber, SpellsPrint, SpellsRestart, SpellsScan};
+ghost use Rattle.relay_script.specs.Scripts.{SpellsEvent, SpellsForget, SpellsGive, SpellsOfId, SpellsOfNumber, SpellsPrint, SpellsRestart, SpellsScan};
 ghost use Rattle.relay_script.specs.Words.{IsFound, IsNumberOf, IsRead};
 
-use crate::fault::ScriptFault;
-use crate::words::{bytes, flips, id, number, size, stop};
+use crate::words::{ScriptFault, bytes, flips, id, number, size, stop};
 use dm_event_history::Event;
 use dm_print_ledger::Range;
 use relay_line::scheme_of;
@@ -22,7 +21,6 @@ fn index(word: &str) -> Option<usize>
     Some(usize::from(number(word)?))
 }
 
-/// The event that the words of a line stand for.
 pub(crate) fn event_of<A: Allocator + Copy>(
     alloc: A,
     words: &[&str],

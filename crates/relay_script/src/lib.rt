@@ -5,10 +5,9 @@
 #![tactic(auto)]
 
 mod event_lines;
-mod fault;
 pub mod laws;
 mod script;
 mod words;
 
-pub use fault::ScriptFault;
 pub use script::{MOST_DESKS, MOST_EVENTS, MOST_PRINTERS, SCRIPT_BYTES, Script, read_script};
+pub use words::ScriptFault;

@@ -6,8 +6,7 @@ ghost use Rattle.relay_script.specs.Words.{IsFound, IsRead, Nothing};
 ghost use Rattle.relay_script.specs.Scripts.{AreDesks, AreLinesOf, IsScript, SpellsEventLine, SpellsRange};
 
 use crate::event_lines::event_of;
-use crate::fault::ScriptFault;
-use crate::words::{cut, number};
+use crate::words::{ScriptFault, cut, number};
 use dm_event_history::Event;
 use dm_print_ledger::Range;
 use std::alloc::{AllocError, Allocator, Global};
@@ -33,9 +32,6 @@ pub struct Script<A: Allocator + Copy = Global> {
 }
 
 /// Reads a script of at most `SCRIPT_BYTES` bytes.
-///
-/// # Errors
-/// `Script` where a line has none of a script's forms or stands at a wrong place, or where a limit is passed.
 pub fn read_script<A: Allocator + Copy>(alloc: A, bytes: &[u8]) -> Result<Script<A>, ScriptFault>
     ensures { IsRead result (IsScript bytes.now) }
 {
@@ -102,7 +98,6 @@ fn read_ranges<A: Allocator + Copy>(alloc: A, lines: &[&str]) -> Result<Vec<Rang
     Ok(ranges)
 }
 
-// The range of a line, if it is a line of one.
 fn range_of<A: Allocator>(alloc: A, line: &str) -> Result<Option<Range>, AllocError>
     ensures { IfOk result (λ found. IsFound found (SpellsRange line.now)) }
 {
@@ -116,7 +111,6 @@ fn range_of<A: Allocator>(alloc: A, line: &str) -> Result<Option<Range>, AllocEr
     Ok(Some(Range { first, last }))
 }
 
-// The capacities of the desks of a line.
 fn read_desks<A: Allocator + Copy>(alloc: A, line: &str) -> Result<Vec<u16, A>, ScriptFault>
     ensures { IsRead result (λ capacities. AreDesks line.now capacities.items) }
 {
@@ -133,7 +127,6 @@ fn read_desks<A: Allocator + Copy>(alloc: A, line: &str) -> Result<Vec<u16, A>, 
     Ok(vec![in alloc; capacity; usize::from(count)]?)
 }
 
-// The events of lines.
 fn read_events<A: Allocator + Copy>(
     alloc: A,
     lines: &[&str],

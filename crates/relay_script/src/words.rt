@@ -1,17 +1,50 @@
-//! The words of a script.
+//! What each kind of word of a script stands for, and why a script is not taken.
 
 ghost use Rattle.std.specs.Prelude.{◌≡◌, ◌<◌, ◌≤◌, ℕ, IfOk, MatchOption, map};
 ghost use Rattle.std.specs.Str.Parse.{digits_value};
 ghost use Rattle.relay_script.specs.Words.{cut_at, AreBytesOf, AreFlipsOf, IsFlipOf, IsFound, IsIdOf, IsNumber, IsNumberOf, IsRead, IsSideOf, IsStopOf};
 
-use crate::fault::ScriptFault;
 use dm_append_label::FileId;
 use dm_check_blocks::Size;
 use dm_event_history::{Bytes, Flips, Kept, Stop};
 use hex::FromHexError;
 use std::alloc::{AllocError, Allocator};
+use thiserror::Error;
 
-/// The number that a word writes.
+/// Why a script is not taken.
+#[derive(Clone, Copy, Debug, PartialEq, Eq, Error)]
+pub enum ScriptFault {
+    /// A line has none of a script's forms, or comes at a wrong place, or there are too many.
+    #[error("a line is not one of a script")]
+    Script,
+    #[error("out of memory")]
+    Memory,
+}
+
+impl From<AllocError> for ScriptFault {
+    ghost use Rattle.relay_script.specs.declared.words.ScriptFault.TheVariants.{Memory};
+
+    ghost from_gives = { λ _ fault. fault ≡ Memory };
+
+    fn from(_error: AllocError) -> ScriptFault {
+        ScriptFault::Memory
+    }
+}
+
+impl ScriptFault {
+    ghost use Rattle.relay_script.specs.Words.{script_fault_name};
+
+    /// The variant's name.
+    pub fn name(self) -> &'static str
+        ensures { result.now ≡ script_fault_name self }
+    {
+        match self {
+            ScriptFault::Script => "Script",
+            ScriptFault::Memory => "Memory",
+        }
+    }
+}
+
 pub(crate) fn number(word: &str) -> Option<u16>
     ensures { MatchOption result (¬ IsNumber word.now) (IsNumberOf word.now) }
 {
@@ -21,14 +54,12 @@ pub(crate) fn number(word: &str) -> Option<u16>
     word.parse().ok()
 }
 
-/// The size of the side that a word writes.
 pub(crate) fn size(word: &str) -> Option<Size>
     ensures { IsFound result (IsSideOf word.now) }
 {
     Size::of_side(number(word)?)
 }
 
-/// The identification that a word writes.
 pub(crate) fn id(word: &str) -> Option<FileId>
     ensures { IsFound result (IsIdOf word.now) }
 {
@@ -39,7 +70,6 @@ pub(crate) fn id(word: &str) -> Option<FileId>
     }
 }
 
-/// The stop that a word names.
 pub(crate) fn stop(word: &str) -> Option<Stop>
     ensures { IsFound result (IsStopOf word.now) }
 {
@@ -54,7 +84,6 @@ pub(crate) fn stop(word: &str) -> Option<Stop>
     }
 }
 
-// The stop after a number of labels.
 fn after_labels(word: &str) -> Option<Stop>
     ensures { MatchOption result ((most : ℕ) → ¬ IsStopOf word.now (Stop.AfterLabels most)) (IsStopOf word.now) }
 {
@@ -63,7 +92,6 @@ fn after_labels(word: &str) -> Option<Stop>
     Some(Stop::AfterLabels(most))
 }
 
-/// The bytes that a word writes.
 pub(crate) fn bytes<A: Allocator>(alloc: A, word: &str) -> Result<Bytes<A>, ScriptFault>
     ensures { IsRead result (AreBytesOf word.now) }
 {
@@ -80,7 +108,6 @@ pub(crate) fn bytes<A: Allocator>(alloc: A, word: &str) -> Result<Bytes<A>, Scri
     }
 }
 
-// The row and the column that a word writes.
 fn flip(word: &str) -> Option<(u16, u16)>
     ensures { IsFound result (IsFlipOf word.now) }
 {
@@ -88,7 +115,6 @@ fn flip(word: &str) -> Option<(u16, u16)>
     Some((number(row)?, number(column)?))
 }
 
-/// The flips that a word writes.
 pub(crate) fn flips<A: Allocator + Copy>(alloc: A, word: &str) -> Result<Flips<A>, ScriptFault>
     ensures { IsRead result (AreFlipsOf word.now) }
 {

@@ -10,7 +10,7 @@ use Rattle.relay_shared.specs.EachImage.{Comes, ImageCommand, IsOfFailedRead, Pr
 use Rattle.relay_shared.specs.EachImage.AnswersImages.{none, another}
 use Rattle.relay_shared.specs.EachImage.Comes.{image, unread, too_many}
 use Rattle.relay_shared.specs.EachImage.EndsImages.{no_image, last_line}
-use Rattle.relay_shared.specs.Telling.{TellsRefusal}
+use Rattle.relay_shared.specs.Command.{TellsRefusal}
 use Rattle.relay_shared.specs.declared.images.TheConstants.{MOST_IMAGES}
 use Rattle.relay_shared.specs.declared.images.Answered.{Answered}
 use Rattle.relay_shared.specs.inner.Steps.{StopsStep, TakesStep, WritesImages, step_to, taken_to}
@@ -18,7 +18,7 @@ use Rattle.relay_shared.proofs.Telling.{then_part}
 
 -- an image has come, and the command has answered to it
 pub came : (c : ImageCommand) {count : ℕ} {now after : c.State} {taken : Taken} {said : Said} {last : Bool}
-    (p : Picture) (answer : Answered) → count < MOST_IMAGES → Spells taken.bytes p → c.Answers now p said after
+    (p : Picture) (answer : Answered) → count < MOST_IMAGES → Spells taken.bytes p → c.Answers (count + 1) now p said after
     → answer.refused ≡ said.refused → answer.last ≡ c.has_ended after → (p.plain || answer.last) ≡ last
     → Comes c count now taken
     (record { said = record { line = said.line; refused = answer.refused }; last = last; state = after })
@@ -79,7 +79,7 @@ pub reads_on : (c : ImageCommand) {count : ℕ} {now : c.State} {taken : Taken} 
     → Comes c count now taken step → step.last ≡ false → c.has_ended step.state ≡ false
 reads_on c {step = step} (image p few spelled answers is) goes_on =
     (or_parts p.plain (c.has_ended step.state) (sym is ∙ goes_on)).1
-reads_on c (unread fault few is) goes_on = cc
+reads_on c (unread fault few is seen) goes_on = cc
 reads_on c (too_many most is) goes_on = cc
 
 -- nothing was read and nothing was written

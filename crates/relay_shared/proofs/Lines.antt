@@ -12,7 +12,7 @@ use Rattle.std.specs.Io.KnownBytes.{Appends}
 use Rattle.relay_streams.proofs.Parts.{part_after, part_more}
 use Rattle.relay_streams.specs.Streams.{AppendsPart, OutputView}
 use Rattle.relay_streams.specs.declared.fault.WriteFault.{WriteFault}
-use Rattle.relay_shared.specs.Telling.{Puts}
+use Rattle.relay_shared.specs.Command.{Puts}
 
 -- a text was to be written, by the clauses of a write
 pub puts : {T : Type 0} (text : List ℕ) (old new : OutputView) (put : Result T WriteFault)

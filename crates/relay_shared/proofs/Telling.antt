@@ -5,7 +5,7 @@ use Rattle.std.specs.Io.KnownBytes.{Appends}
 use Rattle.std.proofs.KnownBytes.{Appends-trans}
 use Rattle.relay_streams.specs.Streams.{AppendsPart, OutputView}
 use Rattle.relay_streams.specs.declared.fault.WriteFault.{WriteFault}
-use Rattle.relay_shared.specs.Telling.{AppendsThenPart, Puts, Tells}
+use Rattle.relay_shared.specs.Command.{AppendsThenPart, Puts, Tells}
 
 -- the line was written and the status is 0, or the output has refused it and a part of it is out
 pub told : {line : List ℕ} {old new : OutputView} {status : ℕ} (put : Result (Unit {0}) WriteFault)

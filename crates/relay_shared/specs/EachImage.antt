@@ -1,20 +1,26 @@
 -- A command over images: it answers to each image on its input by a line, in order, up to the end of the input, a plain
 -- image, bytes that are no image, a state in which it reads no more, or the greatest number of images.
-use Rattle.std.specs.Prelude.{◌≡◌, ℕ, ◌+◌, ◌<◌, ◌≤◌, ◌⊎◌, Bool, true, false, ◌||◌, if◌then◌else◌, List, [], ◌++◌}
-use Rattle.std.specs.Prelude.{Result, MatchResult}
-use Rattle.std.specs.Io.KnownBytes.{Appends, Consumes, IsAtEnd}
-use Rattle.dm_pbm_io.specs.FaultNames.{pbm_fault_name}
-use Rattle.dm_pbm_io.specs.Image.{Picture, Spells}
+use Rattle.std.specs.Prelude.{◌≡◌, ℕ, ◌⊎◌, true, List, ◌+◌, ◌<◌, ◌≤◌, Bool, false, ◌||◌, if◌then◌else◌, [], ◌++◌, Result, MatchResult}
+use Rattle.dm_pbm_io.specs.Image.{Picture, Spells, Refuses}
 use Rattle.dm_pbm_io.specs.declared.fault.PbmFault.{PbmFault}
 use Rattle.dm_pbm_io.specs.declared.fault.PbmFault.TheVariants as image_faults
-use Rattle.relay_streams.specs.Streams.{refused_line, AppendsPart, InputView, OutputView}
+use Rattle.relay_streams.specs.Streams.{InputView, refused_line, AppendsPart, OutputView}
+use Rattle.std.specs.Io.KnownBytes.{Appends, Consumes, IsAtEnd}
+use Rattle.dm_pbm_io.specs.FaultNames.{pbm_fault_name}
 use Rattle.relay_streams.specs.declared.fault.WriteFault.{WriteFault}
-use Rattle.relay_shared.specs.Images.{IsAnother, IsUnread}
-use Rattle.relay_shared.specs.Refusals.{refusal_name}
-use Rattle.relay_shared.specs.Telling.{AppendsThenPart}
+use Rattle.relay_shared.specs.Command.{refusal_name, AppendsThenPart}
 use Rattle.relay_shared.specs.declared.images.TheConstants.{MOST_IMAGES}
 use Rattle.relay_shared.specs.declared.images.Answered.{Answered}
-use Rattle.relay_shared.specs.declared.refusal.Refusal.TheVariants.{TooMany}
+use Rattle.relay_shared.specs.declared.command.Refusal.TheVariants.{TooMany}
+
+-- The bytes that were taken spell no image, for this reason; where it is the reader, a read of it has failed.
+pub record IsUnread (fault : PbmFault) (taken : List ℕ) (rest : InputView) : Type 0 where
+  pub refused : Refuses fault taken rest.remaining
+  pub failed : fault ≡ image_faults.Read → rest.has_failed ≡ true
+
+-- what was taken is an image, or spells none
+abbrev pub IsAnother : List ℕ → InputView → Type 0
+IsAnother taken rest = ((p : Picture) × Spells taken p) ⊎ ((fault : PbmFault) × IsUnread fault taken rest)
 
 -- ---- what is said
 
@@ -35,11 +41,12 @@ said_after before now = record { line = before.line ++ now.line; refused = befor
 
 -- ---- the command
 
--- The states of a command; what it answers to a picture: from a state what it says, and the state afterwards; and
--- whether it has ended in a state, and reads no more.
+-- The states of a command; from one to the next, by the number of an image, from 1: what it says of its picture, and
+-- what it makes of the name of a refusal where there is none; and whether it has ended, and reads no more.
 pub record ImageCommand : Type 1 where
   pub State : Type 0
-  pub Answers : State → Picture → Said → State → Type 0
+  pub Answers : ℕ → State → Picture → Said → State → Type 0
+  pub SeesUnread : ℕ → State → List ℕ → State → Type 0
   pub has_ended : State → Bool
 
 -- its state and its streams
@@ -75,10 +82,11 @@ last_step c now said = record { said = said; last = true; state = now }
 -- what comes on the input after this many images, unless it ends
 pub data Comes (c : ImageCommand) (count : ℕ) (now : c.State) (taken : Taken) : Step c → Type 0 where
   image : {step : Step c} (p : Picture) → count < MOST_IMAGES → Spells taken.bytes p
-      → c.Answers now p step.said step.state → step.last ≡ (p.plain || c.has_ended step.state)
+      → c.Answers (count + 1) now p step.said step.state → step.last ≡ (p.plain || c.has_ended step.state)
       → Comes c count now taken step
-  unread : (fault : PbmFault) → count < MOST_IMAGES → IsUnread fault taken.bytes taken.rest
-      → Comes c count now taken (last_step c now (refusal_of (pbm_fault_name fault)))
+  unread : {after : c.State} (fault : PbmFault) → count < MOST_IMAGES → IsUnread fault taken.bytes taken.rest
+      → c.SeesUnread (count + 1) now (pbm_fault_name fault) after
+      → Comes c count now taken (last_step c after (refusal_of (pbm_fault_name fault)))
   too_many : count ≡ MOST_IMAGES → IsAnother taken.bytes taken.rest
       → Comes c count now taken (last_step c now (refusal_of (refusal_name TooMany)))
 
@@ -89,10 +97,10 @@ pub data EndsImages (c : ImageCommand) (count : ℕ) (now : c.State) (taken : Ta
   last_line : {step : Step c} → Comes c count now taken step → step.last ≡ true → EndsImages c count now taken step
 
 -- the answer to one picture: its line was written, or the output has failed and a part of the line is out
-pub record AnswersPicture (c : ImageCommand) (p : Picture) (old : AtImage c) (result : Result Answered WriteFault)
-    (new : AtImage c) : Type 0 where
+pub record AnswersPicture (c : ImageCommand) (number : ℕ) (p : Picture) (old : AtImage c)
+    (result : Result Answered WriteFault) (new : AtImage c) : Type 0 where
   pub said : Said
-  pub answers : c.Answers old.state p said new.state
+  pub answers : c.Answers number old.state p said new.state
   pub told : MatchResult result
       (λ a. Appends old.output.contents new.output.contents said.line × (a.refused ≡ said.refused)
       × (a.last ≡ c.has_ended new.state))

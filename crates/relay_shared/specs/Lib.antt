@@ -1,14 +1,4 @@
-pub mod DeskLines
-pub mod Documents
+pub mod Lines
+pub mod Command
 pub mod EachImage
-pub mod HeldLines
-pub mod Hexadecimal
-pub mod Images
-pub mod LedgerLines
-pub mod PlanLines
-pub mod PrinterLines
-pub mod Refusals
-pub mod Surroundings
-pub mod Telling
-pub mod TicketLines
 pub mod inner

@@ -1,13 +1,16 @@
-//! Images that follow one another on the input of a command.
+//! Images that follow one another on the input of a command, and the loop that answers to each by a line.
 
-ghost use Rattle.std.specs.Prelude.{◌≡◌, ℕ, List, true, false};
+ghost use Rattle.std.specs.Prelude.{◌≡◌, ℕ, List, true, false, ◌<◌, MatchResult};
 ghost use Rattle.std.specs.Io.KnownBytes.{Consumes, IsAtEnd, Keeps};
-ghost use Rattle.relay_shared.specs.Images.{IsAnother};
+ghost use Rattle.relay_shared.specs.EachImage.{IsAnother, Progress, TellsImages, progress_at};
+ghost use Rattle.relay_shared.specs.declared.images.TheConstants.{MOST_IMAGES};
+ghost use Rattle.relay_shared.specs.inner.Steps.{StopsStep, TakesStep};
 
+use crate::command::{Refusal, refuse};
 use dm_pbm_io::Image;
-use relay_streams::Input;
+use relay_streams::{Input, Output, WriteFault};
 use std::alloc::Allocator;
-use std::io::Read;
+use std::io::{Read, Write};
 
 /// The most images that a command reads.
 pub const MOST_IMAGES: u32 = 65_536;
@@ -33,12 +36,119 @@ pub const REFUSED: Answered = Answered {
     last: false,
 };
 
-/// Whether the input has ended, or something else comes.
-pub(crate) fn is_at_end<A: Allocator + Copy, R: Read>(alloc: A, input: &mut Input<R>) -> bool
+// Whether the input has ended, or something else comes.
+fn is_at_end<A: Allocator + Copy, R: Read>(alloc: A, input: &mut Input<R>) -> bool
     ensures ended { result ≡ true → Keeps input.old.remaining input.new.remaining × IsAtEnd input.new.remaining }
     ensures whole { result ≡ true → input.new.has_failed ≡ input.old.has_failed }
     ensures another { result ≡ false → (taken : List ℕ) × Consumes input.old.remaining input.new.remaining taken
         × IsAnother taken input.new }
 {
     matches!(Image::read(alloc, input), Ok(None))
+}
+
+/// What a command does with each image.
+pub trait OnImages<A: Allocator + Copy> {
+    ghost use Rattle.relay_shared.specs.EachImage.{AnswersPicture, ImageCommand};
+    ghost use Rattle.dm_pbm_io.specs.Image.{picture};
+    ghost use Rattle.relay_streams.specs.Streams.{OutputView};
+
+    /// What it answers to a picture.
+    ghost command: { ImageCommand };
+
+    /// Its state, by what is seen of the standard error.
+    ghost state: { Self → OutputView → command.State };
+
+    /// What it keeps of itself, and of the standard error.
+    ghost keeps: { Self → OutputView → Self → OutputView → Type 0 };
+
+    /// Writes the line of image number `number`, from 1.
+    fn answer<W: Write, E: Write>(
+        &mut self,
+        alloc: A,
+        output: &mut Output<W>,
+        errors: &mut Output<E>,
+        number: u32,
+        image: &Image<A>,
+    ) -> Result<Answered, WriteFault>
+        requires running { command.has_ended (state self.old errors.old) ≡ false }
+        ensures answer { AnswersPicture command number (picture image.now)
+            (record { state = state self.old errors.old; output = output.old })
+            result
+            (record { state = state self.new errors.new; output = output.new }) }
+        ensures kept { keeps self.old errors.old self.new errors.new };
+
+    /// Called before the line of an image that could not be read, with its number, from 1, and the refusal's name.
+    fn see_unread<E: Write>(&mut self, errors: &mut Output<E>, number: u32, name: &str)
+        ensures seen { command.SeesUnread number (state self.old errors.old) name.now (state self.new errors.new) }
+        ensures kept { keeps self.old errors.old self.new errors.new };
+
+    ghost keeps_itself: { (now : Self) (errors : OutputView) → keeps now errors now errors };
+
+    ghost keeps_later: { (first now later : Self) (a b c : OutputView)
+        → keeps first a now b → keeps now b later c → keeps first a later c };
+}
+
+// After this many images, reads the next one, and writes the line of the answer.
+fn next_image<A: Allocator + Copy, C: OnImages<A>, R: Read, W: Write, E: Write>(
+    alloc: A,
+    command: &mut C,
+    input: &mut Input<R>,
+    output: &mut Output<W>,
+    errors: &mut Output<E>,
+    count: u32,
+) -> Result<Answered, WriteFault>
+    requires running { C.command.has_ended (C.state command.old errors.old) ≡ false }
+    requires few { count < MOST_IMAGES }
+    ensures step { let old : Progress C.command = progress_at (C.state command.old errors.old) input.old output.old in
+        let new : Progress C.command = progress_at (C.state command.new errors.new) input.new output.new in
+        MatchResult result (λ answered. TakesStep C.command count old answered new)
+        (λ _. StopsStep C.command count old new) }
+    ensures kept { C.keeps command.old errors.old command.new errors.new }
+{
+    match Image::read(alloc, input) {
+        Ok(None) => Ok(Answered { last: true, ..DONE }),
+        Ok(Some(image)) => {
+            let answered = command.answer(alloc, output, errors, count + 1, &image)?;
+            let last = image.plain | answered.last;
+            Ok(Answered { last, ..answered })
+        }
+        Err(fault) => {
+            let name = fault.name();
+            command.see_unread(errors, count + 1, name);
+            output.put_refusal(name)?;
+            let last = true;
+            Ok(Answered { last, ..REFUSED })
+        }
+    }
+}
+
+/// Reads images, one after another, 65,536 at most, and writes the line that the command answers to each.
+pub fn each_image<A: Allocator + Copy, C: OnImages<A>, R: Read, W: Write, E: Write>(
+    alloc: A,
+    command: &mut C,
+    input: &mut Input<R>,
+    output: &mut Output<W>,
+    errors: &mut Output<E>,
+) -> u8
+    requires { C.command.has_ended (C.state command.old errors.old) ≡ false }
+    ensures told { TellsImages C.command (progress_at (C.state command.old errors.old) input.old output.old) result
+        (progress_at (C.state command.new errors.new) input.new output.new) }
+    ensures kept { C.keeps command.old errors.old command.new errors.new }
+{
+    let mut refused = false;
+    for count in 0..MOST_IMAGES {
+        match next_image(alloc, command, input, output, errors, count) {
+            Ok(answered) => {
+                refused |= answered.refused;
+                if answered.last {
+                    return u8::from(refused);
+                }
+            }
+            Err(WriteFault::Write) => return 1,
+        }
+    }
+    if is_at_end(alloc, input) {
+        return u8::from(refused);
+    }
+    refuse(output, Refusal::TooMany.name())
 }

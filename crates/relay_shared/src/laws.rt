@@ -2,7 +2,7 @@
 
 ghost use Rattle.std.specs.Prelude.{◌≡◌};
 
-use crate::document::DOCUMENT_BYTES;
+use crate::command::DOCUMENT_BYTES;
 use crate::images::MOST_IMAGES;
 
 /// The limits by number: no definition moves with a constant.

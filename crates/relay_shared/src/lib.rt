@@ -5,29 +5,21 @@
 //! line is written whole, in the words of its definition, or that the output has failed and a part of the line is out.
 #![tactic(auto)]
 
+mod command;
 mod desk_lines;
-mod document;
-mod ended;
-mod held_lines;
-mod image_loop;
 mod images;
 pub mod laws;
-mod ledger_lines;
-mod plan_lines;
 mod printer_lines;
-mod refusal;
-mod streams;
-mod ticket_lines;
 
-pub use desk_lines::{mask_digits, put_accepted, put_forgotten, put_imported};
-pub use document::{DOCUMENT_BYTES, read_document};
-pub use ended::{Ended, EndedDesk, refuse, status_after};
-pub use held_lines::{put_held, put_unsound, put_unsound_joint};
-pub use image_loop::{OnImages, each_image};
-pub use images::{Answered, DONE, MOST_IMAGES, REFUSED};
-pub use ledger_lines::{put_free, put_given, put_number, put_took};
-pub use plan_lines::{PlannedSide, put_side};
-pub use printer_lines::{id_digits, put_left, put_printed, put_taken, put_ticket};
-pub use refusal::Refusal;
-pub use streams::Streams;
-pub use ticket_lines::{put_check, put_from};
+pub use command::{
+    DOCUMENT_BYTES, Ended, EndedDesk, Refusal, Streams, read_document, refuse, status_after,
+};
+pub use desk_lines::{
+    mask_digits, put_accepted, put_forgotten, put_held, put_imported, put_unsound,
+    put_unsound_joint,
+};
+pub use images::{Answered, DONE, MOST_IMAGES, OnImages, REFUSED, each_image};
+pub use printer_lines::{
+    PlannedSide, id_digits, put_check, put_free, put_from, put_given, put_left, put_number,
+    put_printed, put_side, put_taken, put_ticket, put_took,
+};

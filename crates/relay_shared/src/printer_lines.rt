@@ -1,11 +1,13 @@
-//! The lines that the commands of printers write. They take no memory.
+//! The lines that the commands of printers write: of printers, of tickets, of what a ledger holds, and of the sides of
+//! a plan. They take no memory, and an `Err` is a write that the output has refused.
 
-ghost use Rattle.std.specs.Prelude.{◌≡◌};
-ghost use Rattle.relay_shared.specs.PrinterLines.{id_text, left_line, printed_line, taken_line, ticket_line};
-ghost use Rattle.relay_shared.specs.Telling.{Puts};
+ghost use Rattle.std.specs.Prelude.{◌≡◌, ◌≤◌, IsTrue};
+ghost use Rattle.relay_shared.specs.Lines.{id_text, left_line, printed_line, taken_line, ticket_line, check_line, from_line, free_line, given_line, number_line, took_line, side_line};
+ghost use Rattle.relay_shared.specs.Command.{Puts};
+ghost use Rattle.dm_print_ledger.specs.Ledger.{is_range};
 
 use dm_append_label::FileId;
-use dm_print_ledger::Ticket;
+use dm_print_ledger::{GREATEST, Giver, Range, Ticket};
 use itoa::Buffer;
 use relay_streams::{Output, WriteFault};
 use std::io::Write;
@@ -23,9 +25,6 @@ pub fn id_digits(id: FileId) -> [u8; 4]
 }
 
 /// Writes how many identifications are free.
-///
-/// # Errors
-/// Where the output refuses a write.
 pub fn put_left<W: Write>(output: &mut Output<W>, left: u32) -> Result<(), WriteFault>
     ensures { Puts (left_line left) output.old result output.new }
 {
@@ -34,9 +33,6 @@ pub fn put_left<W: Write>(output: &mut Output<W>, left: u32) -> Result<(), Write
 }
 
 /// Writes what was printed: the identification, the number of labels, and how many identifications are left.
-///
-/// # Errors
-/// Where the output refuses a write.
 pub fn put_printed<W: Write>(
     output: &mut Output<W>,
     id: FileId,
@@ -53,9 +49,6 @@ pub fn put_printed<W: Write>(
 }
 
 /// Writes a ticket.
-///
-/// # Errors
-/// Where the output refuses a write.
 pub fn put_ticket<W: Write>(output: &mut Output<W>, ticket: Ticket) -> Result<(), WriteFault>
     ensures { Puts (ticket_line ticket) output.old result output.new }
 {
@@ -67,12 +60,129 @@ pub fn put_ticket<W: Write>(output: &mut Output<W>, ticket: Ticket) -> Result<()
 }
 
 /// Writes that a ticket was taken, and how many identifications are left.
-///
-/// # Errors
-/// Where the output refuses a write.
 pub fn put_taken<W: Write>(output: &mut Output<W>, left: u32) -> Result<(), WriteFault>
     ensures { Puts (taken_line left) output.old result output.new }
 {
     let mut digits = Buffer::new();
     output.put_all(&[b"taken left ", digits.format(left).as_bytes(), b"\n"])
+}
+
+/// Writes which printer gave a ticket, to which, its serial, and its first and last number, in decimal.
+pub fn put_from<W: Write>(output: &mut Output<W>, ticket: Ticket) -> Result<(), WriteFault>
+    ensures { Puts (from_line ticket) output.old result output.new }
+{
+    output.put_all(&[
+        b"from ",
+        Buffer::new().format(ticket.giver).as_bytes(),
+        b" to ",
+        Buffer::new().format(ticket.receiver).as_bytes(),
+        b" serial ",
+        Buffer::new().format(ticket.serial).as_bytes(),
+        b" first ",
+        Buffer::new().format(ticket.range.first).as_bytes(),
+        b" last ",
+        Buffer::new().format(ticket.range.last).as_bytes(),
+        b"\n",
+    ])
+}
+
+/// Writes twelve bytes, those of a ticket and their check words, as they can be copied by hand: in hexadecimal, in
+/// groups of four digits, which hyphens join.
+pub fn put_check<W: Write>(output: &mut Output<W>, bytes: [u8; 12]) -> Result<(), WriteFault>
+    ensures { Puts (check_line bytes) output.old result output.new }
+{
+    let mut digits = [0u8; 24];
+    let Ok(()) = hex::encode_to_slice(bytes, &mut digits) else {
+        unreachable!()
+    };
+    output.put_all(&[
+        b"check ",
+        &digits[..4],
+        b"-",
+        &digits[4..8],
+        b"-",
+        &digits[8..12],
+        b"-",
+        &digits[12..16],
+        b"-",
+        &digits[16..20],
+        b"-",
+        &digits[20..],
+        b"\n",
+    ])
+}
+
+fn number_digits(number: u16) -> [u8; 4]
+    requires { number ≤ GREATEST }
+    ensures { result ≡ id_text number }
+{
+    let Some(id) = FileId::of_number(number) else {
+        unreachable!()
+    };
+    id_digits(id)
+}
+
+/// Writes which printer a ledger is of.
+pub fn put_number<W: Write>(output: &mut Output<W>, number: Option<u16>) -> Result<(), WriteFault>
+    ensures { Puts (number_line number) output.old result output.new }
+{
+    match number {
+        Some(number) => {
+            let mut digits = Buffer::new();
+            output.put_all(&[b"printer ", digits.format(number).as_bytes(), b"\n"])
+        }
+        None => output.put(b"printer -\n"),
+    }
+}
+
+/// Writes which identifications are free, in decimal and as a label has them.
+pub fn put_free<W: Write>(output: &mut Output<W>, range: Range) -> Result<(), WriteFault>
+    requires { IsTrue (is_range range) }
+    ensures { Puts (free_line range) output.old result output.new }
+{
+    let (mut from, mut to) = (Buffer::new(), Buffer::new());
+    let first = from.format(range.first).as_bytes();
+    let last = to.format(range.last).as_bytes();
+    let first_id = number_digits(range.first);
+    let last_id = number_digits(range.last);
+    output.put_all(&[
+        b"free ", first, b" ", last, b" ", &first_id, b" ", &last_id, b"\n",
+    ])
+}
+
+/// Writes how many tickets were given.
+pub fn put_given<W: Write>(output: &mut Output<W>, given: u16) -> Result<(), WriteFault>
+    ensures { Puts (given_line given) output.old result output.new }
+{
+    let mut digits = Buffer::new();
+    output.put_all(&[b"given ", digits.format(given).as_bytes(), b"\n"])
+}
+
+/// Writes which ticket of a printer was taken last.
+pub fn put_took<W: Write>(output: &mut Output<W>, giver: Giver) -> Result<(), WriteFault>
+    ensures { Puts (took_line giver) output.old result output.new }
+{
+    let (mut numbered, mut counted) = (Buffer::new(), Buffer::new());
+    let number = numbered.format(giver.number).as_bytes();
+    let serial = counted.format(giver.serial).as_bytes();
+    output.put_all(&[b"took ", number, b" ", serial, b"\n"])
+}
+
+/// A side of which a document has labels.
+#[derive(Clone, Copy, Debug, Default, PartialEq, Eq)]
+pub struct PlannedSide {
+    /// The side, in modules.
+    pub side: u16,
+    /// How many labels the document has of it.
+    pub count: u8,
+}
+
+/// Writes how many labels of a side a document has.
+pub fn put_side<W: Write>(output: &mut Output<W>, planned: PlannedSide) -> Result<(), WriteFault>
+    ensures { Puts (side_line planned) output.old result output.new }
+{
+    let (mut numbered, mut counted) = (Buffer::new(), Buffer::new());
+    let side = numbered.format(planned.side).as_bytes();
+    let count = counted.format(planned.count).as_bytes();
+    output.put_all(&[b"side ", side, b" labels ", count, b"\n"])
 }

@@ -1,7 +1,12 @@
 -- What `read` prints: a line for each image, in order, up to the end of the input, a plain image, bytes that are no
 -- image, or the greatest number of images. What a symbol carries is the standard's (ISO/IEC 16022:2006, 5.2 and 5.6,
--- Annexes A, E and F), how images follow one another Netpbm's, and where reading ends this project's own rule.
-use Rattle.std.specs.Prelude.{◌≡◌, ◌≢◌, ℕ, false, List, Err}
+-- Annexes A, E and F), how images follow one another Netpbm's, and where reading ends and what a line shows this
+-- project's own rule.
+use Rattle.std.specs.Prelude.{ℕ, List, [], ◌∷◌, ◌++◌, codes, ◌≡◌, ◌≢◌, false, Err}
+use Rattle.std.specs.Fmt.{decimal}
+use Rattle.hex.specs.Hex.{encode_lower}
+use Rattle.dm_append_label.specs.Labels.{PageView, id_words, head_at}
+use Rattle.relay_shared.specs.Lines.{hexadecimal}
 use Rattle.dm_gf256.specs.Field.{differ}
 use Rattle.dm_check_blocks.specs.Sizes.{side}
 use Rattle.dm_encodation.specs.Grammar.{ReadsOnly, StuckOnly}
@@ -11,17 +16,31 @@ use Rattle.dm_finder_frame.specs.Frame.{wrong_frame_modules, GridView}
 use Rattle.dm_symbol.specs.Correction.{CorrectsGrid, IsReadAs, data_of, words_of_grid}
 use Rattle.dm_symbol.specs.declared.fault.SymbolFault.{SymbolFault}
 use Rattle.dm_append_label.specs.Opening.{page_fault, symbol_fault, OpensAs, ReadsPage}
-use Rattle.dm_append_label.specs.Labels.{PageView, head_at}
 use Rattle.dm_append_label.specs.declared.fault.HeadFault.TheVariants as head_faults
 use Rattle.dm_append_label.specs.declared.fault.PageFault.{PageFault}
 use Rattle.dm_append_label.specs.declared.fault.PageFault.TheVariants as page_faults
 use Rattle.dm_pbm_io.specs.Image.{HasShape, IsGridInside, Picture}
 use Rattle.relay_shared.specs.EachImage.{ImageCommand, Said, TellsImages, progress_at, refusal_of}
-use Rattle.relay_shared.specs.Surroundings.{LeavesErrors, StreamsView}
+use Rattle.relay_shared.specs.Command.{LeavesErrors, StreamsView}
 use Rattle.relay_symbol_commands.specs.Refusals.{read_refusal_name}
-use Rattle.relay_symbol_commands.specs.ReadLines.{label_line, symbol_line}
 use Rattle.relay_symbol_commands.specs.declared.refusal.ReadRefusal.{ReadRefusal}
 use Rattle.relay_symbol_commands.specs.declared.refusal.ReadRefusal.TheVariants.{Shape, Label, Text, Memory}
+
+-- how many words were corrected, how many modules of the finder patterns are wrong, the bytes, and the line's end
+abbrev pub line_end : ℕ → ℕ → List ℕ → List ℕ
+line_end corrected wrong bytes =
+    codes " corrected " ++ (decimal corrected ++
+    (codes " wrong " ++ (decimal wrong ++ (32 ∷ (hexadecimal bytes ++ 10 ∷ [])))))
+
+-- `label`, the two words of the identification in hexadecimal, m and n, and the end
+abbrev pub label_line : PageView → ℕ → ℕ → List ℕ
+label_line page corrected wrong =
+    codes "label " ++ (encode_lower (id_words page.id)
+    ++ (32 ∷ (decimal page.m ++ (47 ∷ (decimal page.n ++ line_end corrected wrong page.bytes)))))
+
+-- `symbol`, the side, and the end
+abbrev pub symbol_line : ℕ → ℕ → ℕ → List ℕ → List ℕ
+symbol_line modules corrected wrong bytes = codes "symbol " ++ (decimal modules ++ line_end corrected wrong bytes)
 
 -- ---- one grid
 
@@ -69,7 +88,8 @@ pub data PrintsPicture (p : Picture) : Said → Type 0 where
 abbrev pub read_images : ImageCommand
 read_images = record {
   State = Unit {0};
-  Answers = λ _ p said _. PrintsPicture p said;
+  Answers = λ _ _ p said _. PrintsPicture p said;
+  SeesUnread = λ _ _ _ _. Unit {0};
   has_ended = λ _. false;
 }
 

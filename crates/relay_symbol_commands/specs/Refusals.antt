@@ -7,8 +7,8 @@ use Rattle.dm_pbm_io.specs.FaultNames.{shape_fault_name}
 use Rattle.dm_pbm_io.specs.declared.fault.ShapeFault.TheVariants as shape_faults
 use Rattle.relay_streams.specs.Streams.{input_fault_name}
 use Rattle.relay_streams.specs.declared.fault.InputFault.TheVariants.{Read}
-use Rattle.relay_shared.specs.Refusals.{refusal_name}
-use Rattle.relay_shared.specs.declared.refusal.Refusal.TheVariants as refusals
+use Rattle.relay_shared.specs.Command.{refusal_name}
+use Rattle.relay_shared.specs.declared.command.Refusal.TheVariants as refusals
 use Rattle.relay_symbol_commands.specs.declared.refusal.ReadRefusal.{ReadRefusal}
 use Rattle.relay_symbol_commands.specs.declared.refusal.ReadRefusal.TheVariants.{Shape, Label, Text}
 use Rattle.relay_symbol_commands.specs.declared.refusal.ReadRefusal.TheVariants as read_refusals

@@ -1,20 +1,29 @@
-//! The symbol that carries the document on the standard input.
+//! The commands of the symbol that carries the document on the standard input: `relay words`, its words in decimal, and
+//! `relay draw`, its image.
 
-ghost use Rattle.std.specs.Prelude.{◌≡◌, ◌<◌, length, IfOk, IfErr, IfSome, IsErrOf, OnOk};
+ghost use Rattle.std.specs.Prelude.{◌≡◌, ◌<◌, length, IfOk, IfErr, IfSome, IsErrOf, OnOk, ◌++◌, ◌∷◌, string_bytes, ◌*◌};
 ghost use Rattle.dm_check_blocks.specs.Sizes as sizes;
 ghost use Rattle.dm_encodation.specs.Written.{need_of};
 ghost use Rattle.dm_encodation.specs.declared.fault.EncodeFault.TheVariants as encode_faults;
 ghost use Rattle.relay_streams.specs.Streams.{TakesPart};
-ghost use Rattle.relay_symbol_commands.specs.DocumentSymbol.{CarriesDocument, RefusesSymbol};
-ghost use Rattle.relay_shared.specs.Documents.{document_of};
+ghost use Rattle.relay_symbol_commands.specs.DocumentSymbol.{CarriesDocument, RefusesSymbol, EndsWords, IsLineOf, words_line, DrawsDocument, EndsDraw};
+ghost use Rattle.relay_shared.specs.Command.{document_of};
+ghost use Rattle.std.specs.List.{flat_map};
+ghost use Rattle.std.specs.Fmt.{decimal};
+ghost use Rattle.dm_symbol.specs.Correction.{grid_of_words};
+ghost use Rattle.dm_pbm_io.specs.Image.{picture, image_with_quiet_zone};
 
 use crate::refusal::SymbolRefusal;
 use dm_check_blocks::{Size, complete};
 use dm_encodation::{EncodeFault, Scheme, encode};
-use relay_shared::{DOCUMENT_BYTES, read_document};
+use dm_pbm_io::{Image, image_of};
+use dm_placement::Layout;
+use dm_symbol::draw_words;
+use relay_shared::{DOCUMENT_BYTES, Streams, read_document, refuse, status_after};
 use relay_streams::{Input, InputFault};
-use std::alloc::{Allocator, Global};
-use std::io::Read;
+use std::alloc::{AllocError, Allocator, Global};
+use std::fmt::Write as _;
+use std::io::{Read, Write};
 
 /// Which symbol of a document is asked for.
 #[derive(Clone, Copy, Debug, PartialEq, Eq)]
@@ -32,7 +41,6 @@ pub(crate) struct Symbol<A: Allocator = Global> {
     pub words: Vec<u8, A>,
 }
 
-// The symbol of this size that carries the document.
 fn symbol_of<A: Allocator + Copy>(
     alloc: A,
     document: &[u8],
@@ -51,9 +59,8 @@ fn symbol_of<A: Allocator + Copy>(
     Ok(Symbol { size, words })
 }
 
-/// The symbol of this form that carries the document that the input gives. The side is looked at first, then the input
-/// is read, and then the document is encoded.
-pub(crate) fn read_symbol<A: Allocator + Copy, R: Read>(
+// The symbol of the document on the input. The side is looked at first, then the input is read, then it is encoded.
+fn read_symbol<A: Allocator + Copy, R: Read>(
     alloc: A,
     input: &mut Input<R>,
     form: Form,
@@ -78,5 +85,109 @@ pub(crate) fn read_symbol<A: Allocator + Copy, R: Read>(
         Ok(symbol) => Ok(symbol),
         Err(EncodeFault::TooLong) => Err(SymbolRefusal::TooLong),
         Err(EncodeFault::Memory) => Err(SymbolRefusal::Memory),
+    }
+}
+
+fn push_later<A: Allocator + Copy>(line: &mut String<A>, words: &[u8]) -> Result<(), AllocError>
+    ensures { OnOk result
+        (string_bytes line.new ≡ string_bytes line.old ++ flat_map (λ later. 32 ∷ decimal later) words.now) }
+{
+    for word in words {
+        write!(line, " {word}")?;
+    }
+    Ok(())
+}
+
+fn line_of_words<A: Allocator + Copy>(alloc: A, words: &[u8]) -> Result<String<A>, AllocError>
+    ensures { IfOk result (λ line. string_bytes line ≡ words_line words.now) }
+{
+    let mut line = String::new(alloc);
+    if let Some((first, later)) = words.split_first() {
+        write!(line, "{first}")?;
+        push_later(&mut line, later)?;
+    }
+    line.push('\n')?;
+    Ok(line)
+}
+
+fn line_of_document<A: Allocator + Copy, R: Read>(
+    alloc: A,
+    input: &mut Input<R>,
+    form: Form,
+) -> Result<String<A>, SymbolRefusal>
+    ensures line { IfOk result (λ line. IfSome input.old.remaining (λ bytes.
+        IsLineOf form (document_of bytes) (string_bytes line))) }
+    ensures whole { OnOk result (input.new.has_failed ≡ input.old.has_failed) }
+    ensures refused { IfErr result (RefusesSymbol form input.old input.new) }
+    ensures part { TakesPart input.old.remaining input.new.remaining DOCUMENT_BYTES }
+{
+    let symbol = read_symbol(alloc, input, form)?;
+    Ok(line_of_words(alloc, &symbol.words)?)
+}
+
+/// Reads a document and prints the words of its symbol in decimal, or the line `refused NAME`. The side is looked at
+/// first, then the input is read, at most 41,601 bytes of it, and then the document is encoded.
+pub fn words_command<A: Allocator + Copy, R: Read, W: Write, E: Write>(
+    alloc: A,
+    streams: &mut Streams<R, W, E>,
+    form: Form,
+) -> u8
+    ensures { EndsWords form streams.old result streams.new }
+{
+    match line_of_document(alloc, &mut streams.input, form) {
+        Ok(line) => status_after(streams.output.put(line.as_bytes())),
+        Err(refusal) => refuse(&mut streams.output, refusal.name()),
+    }
+}
+
+fn image_of_symbol<A: Allocator + Copy>(
+    alloc: A,
+    symbol: &Symbol<A>,
+    plain: bool,
+) -> Result<Image<A>, AllocError>
+    requires { length symbol.now.words.items ≡ sizes.all_words symbol.now.size }
+    ensures image { IfOk result (λ image.
+        picture image ≡ image_with_quiet_zone (grid_of_words symbol.now.size symbol.now.words.items) plain) }
+    ensures count { IfOk result (λ image. length image.pixels.items ≡ image.width * image.height) }
+{
+    let layout = Layout::of_size(alloc, symbol.size)?;
+    let grid = draw_words(alloc, &layout, &symbol.words)?;
+    image_of(alloc, &grid, plain)
+}
+
+fn image_of_document<A: Allocator + Copy, R: Read>(
+    alloc: A,
+    input: &mut Input<R>,
+    form: Form,
+    plain: bool,
+) -> Result<Image<A>, SymbolRefusal>
+    ensures drawn { IfOk result (λ image. IfSome input.old.remaining (λ bytes.
+        DrawsDocument form plain (document_of bytes) (picture image))) }
+    ensures whole { OnOk result (input.new.has_failed ≡ input.old.has_failed) }
+    ensures count { IfOk result (λ image. length image.pixels.items ≡ image.width * image.height) }
+    ensures refused { IfErr result (RefusesSymbol form input.old input.new) }
+    ensures part { TakesPart input.old.remaining input.new.remaining DOCUMENT_BYTES }
+{
+    let symbol = read_symbol(alloc, input, form)?;
+    Ok(image_of_symbol(alloc, &symbol, plain)?)
+}
+
+/// Reads a document and draws its symbol as one PBM image, packed (`P4`) or plain (`P1`), inside a quiet zone one
+/// pixel wide; a refusal is a line on the standard error. The side is looked at first, then the input is read, at most
+/// 41,601 bytes of it, then the document is encoded and drawn: no byte is written before the whole image is made.
+pub fn draw_command<A: Allocator + Copy, R: Read, W: Write, E: Write>(
+    alloc: A,
+    streams: &mut Streams<R, W, E>,
+    form: Form,
+    plain: bool,
+) -> u8
+    ensures { EndsDraw form plain streams.old result streams.new }
+{
+    match image_of_document(alloc, &mut streams.input, form, plain) {
+        Ok(image) => match image.write(&mut streams.output) {
+            Ok(()) => 0,
+            Err(fault) => refuse(&mut streams.errors, fault.name()),
+        },
+        Err(refusal) => refuse(&mut streams.errors, refusal.name()),
     }
 }

@@ -6,15 +6,9 @@
 #![tactic(auto)]
 
 mod document_symbol;
-mod draw;
 mod read;
-mod read_grid;
-mod read_lines;
 mod refusal;
-mod words;
 
-pub use document_symbol::Form;
-pub use draw::draw_command;
+pub use document_symbol::{Form, draw_command, words_command};
 pub use read::read_command;
 pub use refusal::{ReadRefusal, SymbolRefusal};
-pub use words::words_command;

@@ -1,15 +1,158 @@
 //! `relay read`: what the symbols in images carry.
 
-ghost use Rattle.std.specs.Prelude.{◌≡◌, ◌⊎◌};
-ghost use Rattle.relay_symbol_commands.specs.Read.{EndsRead, read_images};
+ghost use Rattle.std.specs.Prelude.{◌≡◌, ◌++◌, string_bytes, IfOk, OnOk, ◌≢◌, true, false, MatchResult, ◌⊎◌};
+ghost use Rattle.std.proofs.Common.{refl, ◌∙◌};
+ghost use Rattle.dm_check_blocks.specs.Sizes.{side};
+ghost use Rattle.dm_append_label.specs.Labels.{id_words};
+ghost use Rattle.hex.specs.Hex.{encode_lower};
+ghost use Rattle.relay_shared.specs.Lines.{hexadecimal};
+ghost use Rattle.relay_symbol_commands.specs.Read.{label_line, line_end, symbol_line, HasLine, HasNoHead, PrintsPicture, RefusesGrid, RefusesPicture, EndsRead, read_images};
+ghost use Rattle.dm_append_label.specs.declared.fault.HeadFault.TheVariants as head_faults;
+ghost use Rattle.dm_append_label.specs.declared.fault.PageFault.TheVariants as page_faults;
+ghost use Rattle.dm_finder_frame.specs.Frame.{GridView};
+ghost use Rattle.dm_pbm_io.specs.Image.{picture};
+ghost use Rattle.dm_symbol.specs.Correction.{IsCorrectedAs};
 
-use crate::read_grid::line_of_image;
-use dm_pbm_io::Image;
-use dm_symbol::SymbolReader;
+use crate::refusal::ReadRefusal;
+use dm_append_label::{FileId, HeadFault, LabelFault, Page, PageFault, page_of};
+use dm_encodation::decode;
+use dm_finder_frame::Grid;
+use dm_pbm_io::{Image, ShapeFault, grid_of};
+use dm_symbol::{Corrected, SymbolReader};
 use relay_shared::{Answered, DONE, OnImages, REFUSED, Streams, each_image};
 use relay_streams::{Output, WriteFault};
-use std::alloc::Allocator;
+use std::alloc::{AllocError, Allocator};
+use std::fmt::Write as _;
 use std::io::{Read, Write};
+
+fn hexadecimal_of<A: Allocator + Copy>(alloc: A, bytes: &[u8]) -> Result<String<A>, AllocError>
+    ensures { IfOk result (λ text. string_bytes text ≡ hexadecimal bytes.now) }
+{
+    if bytes.is_empty() {
+        let mut text = String::new(alloc);
+        text.push('-')?;
+        return Ok(text);
+    }
+    hex::encode(alloc, bytes)
+}
+
+// Appends to a line how much of the symbol was wrong, its bytes, and the line's end.
+fn push_line_end<A: Allocator + Copy>(
+    alloc: A,
+    line: &mut String<A>,
+    corrected: u16,
+    wrong: u16,
+    bytes: &[u8],
+) -> Result<(), AllocError>
+    ensures { OnOk result
+        (string_bytes line.new ≡ string_bytes line.old ++ line_end corrected wrong bytes.now) }
+{
+    let text = hexadecimal_of(alloc, bytes)?;
+    write!(line, " corrected {corrected} wrong {wrong} {text}\n")?;
+    Ok(())
+}
+
+fn identification_of<A: Allocator + Copy>(alloc: A, id: FileId) -> Result<String<A>, AllocError>
+    ensures { IfOk result (λ text. string_bytes text ≡ encode_lower (id_words id)) }
+{
+    let (first, second) = id.words();
+    hex::encode(alloc, [first, second])
+}
+
+fn line_of_label<A: Allocator + Copy>(
+    alloc: A,
+    page: &Page<A>,
+    symbol: &Corrected<A>,
+) -> Result<String<A>, AllocError>
+    ensures { IfOk result (λ line.
+        string_bytes line ≡ label_line page.now symbol.now.corrected symbol.now.wrong) }
+{
+    let id = identification_of(alloc, page.id())?;
+    let (m, n) = (page.m(), page.n());
+    let mut line = String::new(alloc);
+    write!(line, "label {id} {m}/{n}")?;
+    push_line_end(
+        alloc,
+        &mut line,
+        symbol.corrected(),
+        symbol.wrong(),
+        page.bytes(),
+    )?;
+    Ok(line)
+}
+
+fn line_of_symbol<A: Allocator + Copy>(
+    alloc: A,
+    symbol: &Corrected<A>,
+    bytes: &[u8],
+) -> Result<String<A>, AllocError>
+    ensures { IfOk result (λ line. string_bytes line ≡
+        symbol_line (side symbol.now.size) symbol.now.corrected symbol.now.wrong bytes.now) }
+{
+    let side = symbol.size().side();
+    let mut line = String::new(alloc);
+    write!(line, "symbol {side}")?;
+    push_line_end(alloc, &mut line, symbol.corrected(), symbol.wrong(), bytes)?;
+    Ok(line)
+}
+
+// The line of a symbol that is no label: its text begins at its first word.
+fn line_of_no_label<A: Allocator + Copy>(
+    alloc: A,
+    symbol: &Corrected<A>,
+) -> Result<String<A>, ReadRefusal>
+    ensures { (grid : GridView) → IsCorrectedAs grid symbol.now → HasNoHead grid symbol.now.words
+        → MatchResult result (λ line. HasLine grid (string_bytes line)) (RefusesGrid grid) }
+{
+    let bytes = match decode(alloc, symbol.data(), 0) {
+        Ok(bytes) => bytes,
+        Err(fault) => return Err(ReadRefusal::Text(fault)),
+    };
+    Ok(line_of_symbol(alloc, symbol, &bytes)?)
+}
+
+fn is_no_label(fault: PageFault) -> bool
+    ensures yes { result ≡ true → fault ≡ page_faults.Head head_faults.NotAppended }
+    ensures no { result ≡ false → fault ≢ page_faults.Head head_faults.NotAppended }
+{
+    matches!(fault, PageFault::Head(HeadFault::NotAppended))
+}
+
+// The line of a grid: that of a label first.
+fn line_of_grid<A: Allocator + Copy>(
+    alloc: A,
+    reader: &mut SymbolReader<A>,
+    grid: &Grid<A>,
+) -> Result<String<A>, ReadRefusal>
+    ensures { MatchResult result (λ line. HasLine grid.now (string_bytes line)) (RefusesGrid grid.now) }
+{
+    let symbol = match reader.read(alloc, grid) {
+        Ok(symbol) => symbol,
+        Err(fault) => return Err(ReadRefusal::Label(LabelFault::from(fault))),
+    };
+    match page_of(alloc, &symbol) {
+        Ok(page) => Ok(line_of_label(alloc, &page, &symbol)?),
+        Err(fault) if is_no_label(fault) => line_of_no_label(alloc, &symbol),
+        Err(fault) => Err(ReadRefusal::Label(LabelFault::from(fault))),
+    }
+}
+
+// The line of an image. The reader keeps what serves more images of one size.
+fn line_of_image<A: Allocator + Copy>(
+    alloc: A,
+    reader: &mut SymbolReader<A>,
+    image: &Image<A>,
+) -> Result<String<A>, ReadRefusal>
+    ensures { MatchResult result
+        (λ line. PrintsPicture (picture image.now) (record { line = string_bytes line; refused = false }))
+        (RefusesPicture (picture image.now)) }
+{
+    match grid_of(alloc, image) {
+        Ok(grid) => line_of_grid(alloc, reader, &grid),
+        Err(ShapeFault::Shape) => Err(ReadRefusal::Shape),
+        Err(ShapeFault::Memory) => Err(ReadRefusal::Memory),
+    }
+}
 
 // Writes the line of each image.
 #[derive(Drop)]
@@ -20,14 +163,15 @@ struct Reading<A: Allocator + Copy> {
 impl<A: Allocator + Copy> OnImages<A> for Reading<A> {
     ghost command = { read_images };
 
-    ghost state = { λ _. tt };
+    ghost state = { λ _ _. tt };
 
-    ghost keeps = { λ _ _. Unit {0} };
+    ghost keeps = { λ _ before _ after. after ≡ before };
 
-    fn answer<W: Write>(
+    fn answer<W: Write, E: Write>(
         &mut self,
         alloc: A,
         output: &mut Output<W>,
+        _errors: &mut Output<E>,
         _number: u32,
         image: &Image<A>,
     ) -> Result<Answered, WriteFault> {
@@ -43,17 +187,16 @@ impl<A: Allocator + Copy> OnImages<A> for Reading<A> {
         }
     }
 
-    fn note_unread(&mut self, _number: u32, _name: &str) {}
+    fn see_unread<E: Write>(&mut self, _errors: &mut Output<E>, _number: u32, _name: &str) {}
 
-    ghost keeps_itself = { λ _. tt };
+    ghost keeps_itself = { λ _ _. refl };
 
-    ghost keeps_later = { λ _ _ _ _ _. tt };
+    ghost keeps_later = { λ _ _ _ _ _ _ earlier later. later ∙ earlier };
 }
 
 /// Reads images, one after another, and prints a line for each: what its symbol carries, as `label IIII m/n corrected C
 /// wrong W HEX` or `symbol SIDE corrected C wrong W HEX`, or `refused NAME`. A refused image doesn't end the command;
-/// bytes that are no image do, and so does a plain image. At most 65,536 images are read. The exit status is 0 where no
-/// line names a refusal, and else 1.
+/// bytes that are no image do, and so does a plain image. At most 65,536 images are read.
 pub fn read_command<A: Allocator + Copy, R: Read, W: Write, E: Write>(
     alloc: A,
     streams: &mut Streams<R, W, E>,
@@ -64,5 +207,11 @@ pub fn read_command<A: Allocator + Copy, R: Read, W: Write, E: Write>(
     let mut reading = Reading {
         reader: SymbolReader::new(),
     };
-    each_image(alloc, &mut reading, &mut streams.input, &mut streams.output)
+    each_image(
+        alloc,
+        &mut reading,
+        &mut streams.input,
+        &mut streams.output,
+        &mut streams.errors,
+    )
 }

@@ -19,13 +19,11 @@ pub enum SymbolRefusal {
     /// The side isn't one of the 23 symbol sizes.
     #[error("the side is not that of a symbol")]
     Side,
-    /// The input could not be read.
     #[error("the input could not be read")]
     Read,
     /// The document needs more words than the symbol has.
     #[error("the document does not fit the symbol")]
     TooLong,
-    /// Memory was refused.
     #[error("out of memory")]
     Memory,
 }

@@ -3,9 +3,7 @@
 ghost use Rattle.std.specs.Prelude.{◌≡◌, ◌≢◌, ◌≤◌, ◌^◌, ◌-◌, IfSome, length, take};
 ghost use Rattle.relay_symbols.specs.Symbols.{DrawsLabel, ReadsPage};
 
-use crate::drawing::grid_image;
-use crate::opening::grid_from;
-use crate::putting::put;
+use crate::images::{grid_from, grid_image, put};
 use dm_append_label::{FileId, Page, open_label, seal};
 use dm_check_blocks::Size;
 use dm_encodation::Scheme;

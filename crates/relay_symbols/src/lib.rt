@@ -6,10 +6,8 @@
 //! of the one symbol within the limit of correction; a refused call leaves the caller's bytes as they were.
 #![tactic(auto)]
 
-mod drawing;
+mod images;
 mod labels;
-mod opening;
-mod putting;
 mod symbols;
 #[cfg(test)]
 mod tests;

@@ -3,9 +3,7 @@
 ghost use Rattle.std.specs.Prelude.{◌≡◌, ◌≢◌, ◌≤◌, ◌^◌, ◌-◌, IfSome, length, take};
 ghost use Rattle.relay_symbols.specs.Symbols.{DrawsText, DrawsWords, ReadsText};
 
-use crate::drawing::grid_image;
-use crate::opening::grid_from;
-use crate::putting::put;
+use crate::images::{grid_from, grid_image, put};
 use dm_check_blocks::Size;
 use dm_encodation::{Scheme, decode, encode};
 use dm_placement::Layout;

@@ -1,2 +1,1 @@
-pub mod ReplyLines
 pub mod World

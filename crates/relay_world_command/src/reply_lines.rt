@@ -3,8 +3,8 @@
 ghost use Rattle.std.specs.Prelude.{◌≡◌, ◌∷◌, [], codes, if◌then◌else◌};
 ghost use Rattle.hex.specs.Hex.{encode_lower};
 ghost use Rattle.dm_print_ledger.specs.Ledger.{ticket_bytes};
-ghost use Rattle.relay_shared.specs.Telling.{Puts};
-ghost use Rattle.relay_world_command.specs.ReplyLines.{answer_line, document_line, export_line, is_refusal, is_refused_answer, labels_line, numbered_ticket_line, reply_line};
+ghost use Rattle.relay_shared.specs.Command.{Puts};
+ghost use Rattle.relay_world_command.specs.World.{answer_line, document_line, export_line, is_refusal, is_refused_answer, labels_line, numbered_ticket_line, reply_line};
 
 use dm_append_label::FileId;
 use dm_event_history::Reply;
@@ -16,7 +16,6 @@ use relay_streams::{Output, WriteFault};
 use std::alloc::Allocator;
 use std::io::Write;
 
-// Writes bytes in hexadecimal.
 fn put_hex<W: Write>(output: &mut Output<W>, bytes: &[u8]) -> Result<(), WriteFault>
     ensures { Puts (encode_lower bytes.now) output.old result output.new }
 {
@@ -30,7 +29,6 @@ fn put_hex<W: Write>(output: &mut Output<W>, bytes: &[u8]) -> Result<(), WriteFa
     Ok(())
 }
 
-// Writes the line of a document.
 fn put_document<W: Write>(output: &mut Output<W>, bytes: &[u8]) -> Result<(), WriteFault>
     ensures { Puts (document_line bytes.now) output.old result output.new }
 {
@@ -42,7 +40,6 @@ fn put_document<W: Write>(output: &mut Output<W>, bytes: &[u8]) -> Result<(), Wr
     output.put(b"\n")
 }
 
-// Writes the line of the labels that left.
 fn put_labels<W: Write>(
     output: &mut Output<W>,
     id: FileId,
@@ -58,7 +55,6 @@ fn put_labels<W: Write>(
     output.put_all(&[b"printed ", &id, b" ", first, b" ", count, b"\n"])
 }
 
-// Writes the line of a ticket that left.
 fn put_given<W: Write>(
     output: &mut Output<W>,
     index: usize,
@@ -75,7 +71,6 @@ fn put_given<W: Write>(
     output.put_all(&[b"ticket ", index, b" ", &bytes, b"\n"])
 }
 
-// Writes the line of an export that left.
 fn put_exported<W: Write>(
     output: &mut Output<W>,
     index: usize,
@@ -92,7 +87,6 @@ fn put_exported<W: Write>(
     output.put_all(&[b"export ", index, b" ", &id, b" ", n, b" ", &mask, b"\n"])
 }
 
-// Writes the line of a reply.
 fn put_reply<A: Allocator, W: Write>(
     output: &mut Output<W>,
     reply: &Reply<A>,
@@ -126,7 +120,6 @@ fn put_reply<A: Allocator, W: Write>(
     }
 }
 
-// Whether the line of a reply is one of a refusal.
 fn is_refused<A: Allocator>(reply: &Reply<A>) -> bool
     ensures { result ≡ is_refusal reply.now }
 {
@@ -146,7 +139,6 @@ fn is_refused<A: Allocator>(reply: &Reply<A>) -> bool
     }
 }
 
-// What the line of an event begins with: `! ` where it was not found honest.
 fn mark_of(is_honest: bool) -> &'static [u8]
     ensures { result.now ≡ (if is_honest then [] else codes "! ") }
 {
@@ -167,7 +159,6 @@ pub(crate) fn put_answer<A: Allocator, W: Write>(
     put_reply(output, reply)
 }
 
-/// Whether the line of an answer is one of a refusal.
 pub(crate) fn is_refused_answer<A: Allocator>(answer: &Answer<A>) -> bool
     ensures { result ≡ is_refused_answer answer.now }
 {

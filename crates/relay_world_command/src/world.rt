@@ -1,47 +1,68 @@
 //! `relay world`: a world of printers and desks, by a script.
 
-ghost use Rattle.std.specs.Prelude.{◌≡◌, IfOk};
+ghost use Rattle.std.specs.Prelude.{◌≡◌, ◌||◌, true, false, List, Result, IfOk, IfErr, OnErr};
 ghost use Rattle.std.specs.List.{flat_map};
 ghost use Rattle.relay_streams.specs.Streams.{TakesPart};
-ghost use Rattle.relay_shared.specs.Surroundings.{LeavesErrors};
-ghost use Rattle.relay_shared.specs.Telling.{Puts};
-ghost use Rattle.relay_world_command.specs.ReplyLines.{answer_line, has_refusal};
-ghost use Rattle.relay_world_command.specs.World.{EndsWorld, TellsAnswers};
+ghost use Rattle.relay_streams.specs.declared.fault.WriteFault.{WriteFault};
+ghost use Rattle.dm_event_world.specs.Shows.{IsWatched, HasWorldFault};
+ghost use Rattle.dm_event_world.specs.declared.answers.Answer.{Answer};
+ghost use Rattle.relay_shared.specs.Command.{LeavesErrors, Puts};
+ghost use Rattle.relay_world_command.specs.World.{answer_line, has_refusal, is_refused_answer, EndsWorld};
 
 use crate::reply_lines::{is_refused_answer, put_answer};
-use dm_event_world::{Answer, watch};
-use relay_script::{SCRIPT_BYTES, read_script};
+use dm_event_world::{Answer, Listener, WorldFault, watch};
+use relay_script::{SCRIPT_BYTES, Script, read_script};
 use relay_shared::{Streams, refuse};
-use relay_streams::{Output, WriteFault};
+use relay_streams::Output;
 use std::alloc::Allocator;
 use std::io::{Read, Write};
 
 /// One byte more than a script has at most.
 pub const INPUT_BYTES: usize = 1_048_577;
 
-// Writes the lines of answers, and says whether one of them is of a refusal.
-fn put_answers<A: Allocator, W: Write>(
-    output: &mut Output<W>,
-    answers: &[Answer<A>],
-) -> Result<bool, WriteFault>
-    ensures puts { Puts (flat_map answer_line answers.now) output.old result output.new }
-    ensures refused { IfOk result (λ refused. refused ≡ has_refusal answers.now) }
-{
-    let mut refused = false;
-    for answer in answers {
-        put_answer(output, answer)?;
-        refused |= is_refused_answer(answer);
-    }
-    Ok(refused)
+// Writes the line of each answer as it comes, and keeps whether one of them is of a refusal.
+#[derive(Drop)]
+struct Lines<'a, W: Write> {
+    output: &'a mut Output<W>,
+    refused: bool,
 }
 
-// Writes the lines of answers, and gives the exit status.
-fn tell<A: Allocator, W: Write>(output: &mut Output<W>, answers: &[Answer<A>]) -> u8
-    ensures { TellsAnswers answers.now output.old result output.new }
+impl<A: Allocator + Copy, W: Write> Listener<A> for Lines<'_, W> {
+    // The same output is told the line, unless it has failed before, and a refusal is kept.
+    ghost hears = { λ before answer after. (after.output.ghost_name ≡ before.output.ghost_name)
+        × (after.refused ≡ (before.refused || is_refused_answer answer))
+        × (before.output.now.has_failed ≡ false → (put : Result (Unit {0}) WriteFault)
+        × Puts (answer_line answer) before.output.now put after.output.now)
+        × (before.output.now.has_failed ≡ true → after.output.now ≡ before.output.now) };
+
+    fn hear(&mut self, answer: &Answer<A>) {
+        self.refused |= is_refused_answer(answer);
+        if self.output.has_failed() {
+            return;
+        }
+        let _ = put_answer(self.output, answer);
+    }
+}
+
+// Plays the events of a script, writes the line of each answer, and says whether one of them is of a refusal.
+fn play<A: Allocator + Copy, W: Write>(
+    alloc: A,
+    script: &Script<A>,
+    output: &mut Output<W>,
+) -> Result<bool, WorldFault>
+    ensures played { IfOk result (λ refused. (answers : List (Answer A))
+        × IsWatched script.now.ranges.items script.now.capacities.items script.now.events.items answers
+        × (refused ≡ has_refusal answers) × (put : Result (Unit {0}) WriteFault)
+        × Puts (flat_map answer_line answers) output.old put output.new) }
+    ensures refused { IfErr result (HasWorldFault script.now.ranges.items script.now.capacities.items) }
+    ensures silent { OnErr result (output.new ≡ output.old) }
 {
-    match put_answers(output, answers) {
-        Ok(refused) => u8::from(refused),
-        Err(WriteFault::Write) => 1,
+    let refused = false;
+    let mut lines = Lines { output, refused };
+    let (ranges, capacities) = (&script.ranges, &script.capacities);
+    match watch(alloc, ranges, capacities, &script.events, &mut lines) {
+        Ok(()) => Ok(lines.refused),
+        Err(fault) => Err(fault),
     }
 }
 
@@ -66,8 +87,8 @@ pub fn world_command<A: Allocator + Copy, R: Read, W: Write, E: Write>(
         Ok(script) => script,
         Err(fault) => return refuse(&mut streams.output, fault.name()),
     };
-    match watch(alloc, &script.ranges, &script.capacities, &script.events) {
-        Ok(answers) => tell(&mut streams.output, &answers),
+    match play(alloc, &script, &mut streams.output) {
+        Ok(refused) => u8::from(refused | streams.output.has_failed()),
         Err(fault) => refuse(&mut streams.output, fault.name()),
     }
 }

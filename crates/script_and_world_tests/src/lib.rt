@@ -4,9 +4,7 @@
 #![tactic(auto)]
 
 #[cfg(test)]
-mod refused_scripts;
-#[cfg(test)]
-mod refused_worlds;
+mod refused;
 #[cfg(test)]
 mod runs;
 #[cfg(test)]

@@ -2,13 +2,14 @@
 
 use crate::scripted::Scripted;
 use dm_store::{
-    FileSet, FileStore, LoadFault, RealDisk, RemoveFault, ReplaceFault, Store, StoreSet,
+    DiskFault, FileSet, FileStore, LoadFault, RealDisk, RemoveFault, ReplaceFault, Store, StoreSet,
 };
 use std::alloc::{Allocator, Global};
-use test_helpers::Refusing;
+use test_helpers::{Refusing, says};
 
 // A call: on the store in the file `pages/0001`, or on that of the key 1 of the set in the folder `pages`. Bytes are
 // loaded under a limit, and `three` is what replaces them.
+#[derive(Clone, Copy)]
 pub enum Call {
     Load(usize),
     Replace,
@@ -21,13 +22,13 @@ pub enum Call {
 
 impl Call {
     // Whether it saves nothing.
-    pub fn is_load(&self) -> bool {
+    pub fn is_load(self) -> bool {
         matches!(self, Call::Load(_) | Call::LoadKey(_) | Call::Keys(_, _))
     }
 
     // What is answered if memory is refused after that many growths, the first of which is the folder's own path. A
     // remove can't say then whether the key is there.
-    pub fn refused(&self, passes: u64) -> &'static str {
+    pub fn refused(self, passes: u64) -> &'static str {
         match self {
             Call::RemoveKey if passes > 0 => "Device",
             _ => "Memory",
@@ -60,6 +61,15 @@ fn loaded<A: Allocator>(answer: Result<Option<Vec<u8, A>>, LoadFault>) -> &'stat
     }
 }
 
+fn listed<A: Allocator>(answer: Result<Vec<u16, A>, LoadFault>, wanted: &[u16]) -> &'static str {
+    match answer {
+        Ok(keys) if keys.as_slice() == wanted => "done",
+        Ok(_) => "other keys",
+        Err(LoadFault::Device) => "Device",
+        Err(LoadFault::Memory) => "Memory",
+    }
+}
+
 fn replaced(answer: Result<(), ReplaceFault>) -> &'static str {
     match answer {
         Ok(()) => "done",
@@ -68,41 +78,19 @@ fn replaced(answer: Result<(), ReplaceFault>) -> &'static str {
     }
 }
 
-fn removed(answer: Result<(), RemoveFault>) -> &'static str {
-    match answer {
-        Ok(()) => "done",
-        Err(RemoveFault::Device) => "Device",
-        Err(RemoveFault::Memory) => "Memory",
-    }
-}
-
-fn listed<A: Allocator>(answer: Result<Vec<u16, A>, LoadFault>, wanted: &[u16]) -> &'static str {
-    match answer {
-        Ok(keys) => {
-            if keys.as_slice() == wanted {
-                "done"
-            } else {
-                "other keys"
-            }
-        }
-        Err(LoadFault::Device) => "Device",
-        Err(LoadFault::Memory) => "Memory",
-    }
-}
-
 // The answer to a call on the store in the file of the key 1 of a folder. Its path takes memory too.
 fn of_store<A: Allocator + Copy>(
     files: &Scripted,
     memory: A,
     folder: &str,
-    call: &Call,
+    call: Call,
 ) -> &'static str {
     let Ok(path) = format!(in memory; "{folder}/0001") else {
         return "Memory";
     };
     let mut store = FileStore::new(memory, RealDisk::new(memory, files), path);
     match call {
-        Call::Load(limit) => loaded(store.load(*limit)),
+        Call::Load(limit) => loaded(store.load(limit)),
         _ => replaced(store.replace(b"three")),
     }
 }
@@ -112,24 +100,36 @@ fn of_set<A: Allocator + Copy>(
     files: &Files<'_>,
     memory: A,
     folder: &str,
-    call: &Call,
+    call: Call,
 ) -> &'static str {
     let Ok(path) = String::from_str(memory, folder) else {
         return "Memory";
     };
     let mut set = FileSet::new(memory, RealDisk::new(memory, files), path);
     match call {
-        Call::LoadKey(limit) => loaded(StoreSet::load(&mut set, 1, *limit)),
-        Call::RemoveKey => removed(set.remove(1)),
-        Call::Keys(limit, wanted) => listed(set.keys(*limit), wanted),
+        Call::LoadKey(limit) => loaded(StoreSet::load(&mut set, 1, limit)),
+        Call::RemoveKey => match set.remove(1) {
+            Ok(()) => "done",
+            Err(RemoveFault::Device) => "Device",
+            Err(RemoveFault::Memory) => "Memory",
+        },
+        Call::Keys(limit, wanted) => listed(set.keys(limit), wanted),
         _ => replaced(StoreSet::replace(&mut set, 1, b"three")),
     }
 }
 
 // The answer to a call over files under a script.
-pub fn answer(files: &Scripted, memory: &Memory, folder: &str, call: &Call) -> &'static str {
+pub fn answer(files: &Scripted, memory: &Memory, folder: &str, call: Call) -> &'static str {
     match call {
         Call::Load(_) | Call::Replace => of_store(files, memory, folder, call),
         _ => of_set(&(files, files.alloc()), memory, folder, call),
     }
+}
+
+#[test]
+fn a_fault_says_what_it_is(rt: HostRuntime) {
+    assert!(rt; says(rt.alloc(), &ReplaceFault::Device, "the device failed"));
+    assert!(rt; says(rt.alloc(), &LoadFault::Memory, "out of memory"));
+    assert!(rt; says(rt.alloc(), &RemoveFault::Device, "the device failed"));
+    assert!(rt; says(rt.alloc(), &DiskFault::Memory, "out of memory"));
 }

@@ -3,111 +3,74 @@
 
 use dm_store::{Disk, DiskFault, FileStore, Kept, ReplaceFault, Store};
 use std::alloc::{AllocError, Global};
-use std::process::Abort;
 use std::test::Fail;
 use test_helpers::{MemDisk, StoppingDisk};
 
-// Which contents a stop may leave in the file: the old one, the new one, and any other, as a part of the new one or
-// nothing.
+// Which contents a stop may leave in the file; anything is the old one, the new one, a part of it, or nothing.
 #[derive(Clone, Copy, PartialEq, Eq)]
-struct Leaves {
-    old: bool,
-    new: bool,
-    other: bool,
+enum Leaves {
+    Old,
+    New,
+    Either,
+    Anything,
 }
 
-const OLD: Leaves = Leaves {
-    old: true,
-    new: false,
-    other: false,
-};
-
-const NEW: Leaves = Leaves {
-    old: false,
-    new: true,
-    other: false,
-};
-
-const EITHER: Leaves = Leaves {
-    old: true,
-    new: true,
-    other: false,
-};
-
-const ANYTHING: Leaves = Leaves {
-    old: true,
-    new: true,
-    other: true,
-};
-
-// What a stop may leave now, if it may leave each other content or none.
+// What a stop may leave now, if it is one of these.
 fn what_is_left(disk: &MemDisk) -> Option<Leaves> {
-    let other = disk.may_leave("ledger", Some(b"ne"));
-    if disk.may_leave("ledger", Some(b"")) != other || disk.may_leave("ledger", None) != other {
+    let old = disk.may_leave("ledger", Some(b"old"));
+    let new = disk.may_leave("ledger", Some(b"new"));
+    let part = disk.may_leave("ledger", Some(b"ne"));
+    let none = disk.may_leave("ledger", None);
+    if disk.may_leave("ledger", Some(b"")) != part || none != part {
         return None;
     }
-    Some(Leaves {
-        old: disk.may_leave("ledger", Some(b"old")),
-        new: disk.may_leave("ledger", Some(b"new")),
-        other,
-    })
+    match (old, new, part) {
+        (true, false, false) => Some(Leaves::Old),
+        (false, true, false) => Some(Leaves::New),
+        (true, true, false) => Some(Leaves::Either),
+        (true, true, true) => Some(Leaves::Anything),
+        _ => None,
+    }
 }
 
-// A disk on which a store has saved the old content.
-fn disk_with_old(rt: &impl Abort, alloc: Global) -> Result<MemDisk, AllocError> {
+// A disk on which a store has saved the old content, if it could, and whose machine stops at the call after so many.
+fn stopping(alloc: Global, passes: u32, kept: Kept) -> Result<StoppingDisk, AllocError> {
     let path = String::from_str(alloc, "ledger")?;
     let mut store = FileStore::new(alloc, MemDisk::new(alloc), path);
-    assert!(rt; store.replace(b"old") == Ok(()));
-    Ok(store.into_disk())
+    let _ended = store.replace(b"old");
+    Ok(StoppingDisk::new(alloc, store.into_disk(), passes, kept))
 }
 
 // A save of four calls: how many of them pass; whether the call after these is still made; and what may be left.
 const STOPS: &[(u32, Kept, Leaves)] = &[
-    (0, Kept::Old, OLD),
-    (0, Kept::New, OLD),
-    (1, Kept::Old, OLD),
-    (1, Kept::New, OLD),
-    (2, Kept::Old, OLD),
-    (2, Kept::New, EITHER),
-    (3, Kept::Old, EITHER),
-    (3, Kept::New, NEW),
-    (4, Kept::Old, NEW),
+    (0, Kept::Old, Leaves::Old),
+    (0, Kept::New, Leaves::Old),
+    (1, Kept::Old, Leaves::Old),
+    (1, Kept::New, Leaves::Old),
+    (2, Kept::Old, Leaves::Old),
+    (2, Kept::New, Leaves::Either),
+    (3, Kept::Old, Leaves::Either),
+    (3, Kept::New, Leaves::New),
+    (4, Kept::Old, Leaves::New),
 ];
-
-// What may be left after a load of the file, and whether it gave the new content.
-fn loaded(alloc: Global, disk: MemDisk) -> Result<(bool, Option<Leaves>), AllocError> {
-    let path = String::from_str(alloc, "ledger")?;
-    let mut store = FileStore::new(alloc, disk, path);
-    let is_new = match store.load(9) {
-        Ok(Some(bytes)) => bytes.as_slice() == b"new".as_slice(),
-        _ => false,
-    };
-    Ok((is_new, what_is_left(&store.into_disk())))
-}
 
 // A save whose machine stops at each of its calls. A load then gives what no stop takes back.
 #[test]
 fn a_stop_leaves_the_old_or_the_new(rt: HostRuntime) -> Result<(), Fail> {
     for (passes, kept, wanted) in STOPS.iter() {
-        let disk = disk_with_old(&rt, rt.alloc())?;
         let path = String::from_str(rt.alloc(), "ledger")?;
-        let stopping = StoppingDisk::new(rt.alloc(), disk, *passes, *kept);
-        let mut store = FileStore::new(rt.alloc(), stopping, path);
+        let disk = stopping(rt.alloc(), *passes, *kept)?;
+        let mut store = FileStore::new(rt.alloc(), disk, path);
         let answer = store.replace(b"new");
+        assert!(rt; answer.err() == (*passes < 4).then_some(ReplaceFault::Device));
         let disk = store.into_disk().into_inner();
-        let is_done = *passes == 4;
-        assert!(rt;
-            answer
-                == if is_done {
-                    Ok(())
-                } else {
-                    Err(ReplaceFault::Device)
-                }
-        );
         assert!(rt; what_is_left(&disk) == Some(*wanted));
-        let (is_new, left) = loaded(rt.alloc(), disk)?;
-        assert!(rt; left == Some(if is_new { NEW } else { OLD }));
-        assert!(rt; is_new || !wanted.new);
+        let mut store = FileStore::new(rt.alloc(), disk, String::from_str(rt.alloc(), "ledger")?);
+        let is_new =
+            matches!(store.load(9), Ok(Some(bytes)) if bytes.as_slice() == b"new".as_slice());
+        let left = if is_new { Leaves::New } else { Leaves::Old };
+        assert!(rt; what_is_left(&store.into_disk()) == Some(left));
+        assert!(rt; is_new || *wanted != Leaves::New);
     }
     Ok(())
 }
@@ -150,19 +113,18 @@ fn save_wrong<D: Disk>(disk: &mut D, wrong: Wrong) -> Result<(), DiskFault> {
 // A wrong way, how many of its calls pass, whether it is done then, and what may be left: within the save or after it
 // anything, or the old content after it.
 const WRONG: &[(Wrong, u32, bool, Leaves)] = &[
-    (Wrong::InPlace, 1, false, ANYTHING),
-    (Wrong::SyncAfterRename, 2, false, ANYTHING),
-    (Wrong::NoSync, 9, true, ANYTHING),
-    (Wrong::NoSyncOfFolder, 9, true, EITHER),
+    (Wrong::InPlace, 1, false, Leaves::Anything),
+    (Wrong::SyncAfterRename, 2, false, Leaves::Anything),
+    (Wrong::NoSync, 9, true, Leaves::Anything),
+    (Wrong::NoSyncOfFolder, 9, true, Leaves::Either),
 ];
 
 #[test]
 fn a_stop_spoils_a_wrong_save(rt: HostRuntime) -> Result<(), Fail> {
     for (wrong, passes, is_done, wanted) in WRONG.iter() {
-        let disk = disk_with_old(&rt, rt.alloc())?;
-        let mut stopping = StoppingDisk::new(rt.alloc(), disk, *passes, Kept::Old);
-        assert!(rt; save_wrong(&mut stopping, *wrong).is_ok() == *is_done);
-        assert!(rt; what_is_left(&stopping.into_inner()) == Some(*wanted));
+        let mut disk = stopping(rt.alloc(), *passes, Kept::Old)?;
+        assert!(rt; save_wrong(&mut disk, *wrong).is_ok() == *is_done);
+        assert!(rt; what_is_left(&disk.into_inner()) == Some(*wanted));
     }
     Ok(())
 }

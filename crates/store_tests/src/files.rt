@@ -14,125 +14,66 @@ use test_helpers::Refusing;
 // More growths than a call asks for.
 const MOST_GROWTHS: u64 = 100;
 
-// As many calls pass where none is to fail.
-const NONE: usize = usize::MAX;
+type Text = &'static str;
 
 // A call, what its file holds before and after it, what is answered, the calls on the file system, and how many of
 // them leave the file as it was.
-struct Case {
-    call: Call,
-    before: &'static str,
-    after: &'static str,
-    answer: &'static str,
-    steps: Steps,
-    leaves: usize,
-}
-
-const LOADS: Case = Case {
-    call: Call::Load(9),
-    before: "one",
-    after: "one",
-    answer: "one",
-    steps: Steps::Load,
-    leaves: 9,
-};
+type Case = (Call, Text, Text, Text, Steps, usize);
 
 const CASES: &[Case] = &[
-    LOADS,
-    Case {
-        call: Call::LoadKey(9),
-        ..LOADS
-    },
-    Case {
-        call: Call::Keys(9, &[1]),
-        answer: "done",
-        steps: Steps::Keys,
-        ..LOADS
-    },
-    Case {
-        call: Call::Load(usize::MAX),
-        steps: Steps::Any,
-        ..LOADS
-    },
-    Case {
-        call: Call::Load(2),
-        steps: Steps::Any,
-        ..LOADS
-    },
-    Case {
-        call: Call::Load(1),
-        answer: "on",
-        steps: Steps::Any,
-        ..LOADS
-    },
-    Case {
-        call: Call::LoadKey(0),
-        answer: "o",
-        steps: Steps::Any,
-        ..LOADS
-    },
-    Case {
-        call: Call::Load(9),
-        before: "nothing",
-        after: "nothing",
-        answer: "nothing",
-        steps: Steps::LoadNothing,
-        ..LOADS
-    },
-    Case {
-        call: Call::Replace,
-        before: "one",
-        after: "three",
-        answer: "done",
-        steps: Steps::Replace,
-        leaves: 5,
-    },
-    Case {
-        call: Call::ReplaceKey,
-        before: "one",
-        after: "three",
-        answer: "done",
-        steps: Steps::ReplaceKey,
-        leaves: 8,
-    },
-    Case {
-        call: Call::ReplaceKey,
-        before: "nothing",
-        after: "three",
-        answer: "done",
-        steps: Steps::ReplaceKey,
-        leaves: 8,
-    },
-    Case {
-        call: Call::RemoveKey,
-        before: "one",
-        after: "nothing",
-        answer: "done",
-        steps: Steps::Remove,
-        leaves: 0,
-    },
-    Case {
-        call: Call::RemoveKey,
-        before: "nothing",
-        after: "nothing",
-        answer: "done",
-        steps: Steps::RemoveNothing,
-        leaves: 0,
-    },
+    (Call::Load(9), "one", "one", "one", Steps::Load, 9),
+    (Call::LoadKey(9), "one", "one", "one", Steps::Load, 9),
+    (Call::Keys(9, &[1]), "one", "one", "done", Steps::Keys, 9),
+    (Call::Load(usize::MAX), "one", "one", "one", Steps::Any, 9),
+    (Call::Load(2), "one", "one", "one", Steps::Any, 9),
+    (Call::Load(1), "one", "one", "on", Steps::Any, 9),
+    (Call::LoadKey(0), "one", "one", "o", Steps::Any, 9),
+    (
+        Call::Load(9),
+        "nothing",
+        "nothing",
+        "nothing",
+        Steps::LoadNothing,
+        9,
+    ),
+    (Call::Replace, "one", "three", "done", Steps::Replace, 5),
+    (
+        Call::ReplaceKey,
+        "one",
+        "three",
+        "done",
+        Steps::ReplaceKey,
+        8,
+    ),
+    (
+        Call::ReplaceKey,
+        "nothing",
+        "three",
+        "done",
+        Steps::ReplaceKey,
+        8,
+    ),
+    (Call::RemoveKey, "one", "nothing", "done", Steps::Remove, 0),
+    (
+        Call::RemoveKey,
+        "nothing",
+        "nothing",
+        "done",
+        Steps::RemoveNothing,
+        0,
+    ),
 ];
 
 // Makes the folder anew, with the file in it, or takes it away where the file is to hold nothing.
-fn make(rt: &HostRuntime, folder: &str, file: &str, held: &str) -> bool {
-    let is_empty = match fs::exists(rt, folder) {
-        Ok(true) => fs::remove_dir_all(rt, folder).is_ok(),
-        Ok(false) => true,
-        Err(_) => false,
-    };
-    if held == "nothing" {
-        is_empty
-    } else {
-        is_empty && fs::create_dir(rt, folder).is_ok() && fs::write(rt, file, held).is_ok()
+fn make(rt: &HostRuntime, folder: &str, file: &str, held: &str) -> io::Result<()> {
+    if fs::exists(rt, folder)? {
+        fs::remove_dir_all(rt, folder)?;
     }
+    if held == "nothing" {
+        return Ok(());
+    }
+    fs::create_dir(rt, folder)?;
+    fs::write(rt, file, held)
 }
 
 // What a file holds.
@@ -153,80 +94,63 @@ struct Place<'a> {
 }
 
 impl Place<'_> {
-    // What is answered to the call of a case, and what the file holds then.
-    fn tried(&self, case: &Case, memory: &Memory) -> (&'static str, &'static str) {
-        let answer = answer(self.files, memory, self.folder, &case.call);
+    fn make(&self, content: &str) -> io::Result<()> {
+        make(self.rt, self.folder, self.file, content)
+    }
+
+    // What is answered to a call, and what the file holds then.
+    fn tried(&self, call: Call, memory: &Memory) -> (&'static str, &'static str) {
+        let answer = answer(self.files, memory, self.folder, call);
         (answer, held(self.rt, self.file))
     }
 
-    fn make(&self, case: &Case) -> bool {
-        make(self.rt, self.folder, self.file, case.before)
-    }
-
-    // The call of a case with each call on the file system failing, and with none.
-    fn fail_each(&self, rt: &impl Abort, case: &Case) {
+    // The call of a case with each call on the file system failing, and with none; and where the system syncs no
+    // folders, which is the last that a call does.
+    fn fail_each(&self, rt: &impl Abort, case: &Case) -> io::Result<()> {
+        let (call, before, after, done, steps, leaves) = *case;
         let memory = Refusing::new(self.files.alloc(), u64::MAX);
-        for passes in 0..case.steps.list().len() {
-            assert!(rt; self.make(case));
-            self.files.begin(case.steps, passes);
-            let content = if passes <= case.leaves {
-                case.before
-            } else {
-                case.after
-            };
-            assert!(rt;
-                self.tried(case, &memory) == ("Device", content),
-                "{passes}"
-            );
-            self.files.begin(Steps::Any, NONE);
-            assert!(rt;
-                self.tried(case, &memory) == (case.answer, case.after),
-                "{passes}"
-            );
+        let count = steps.text().split(',').count();
+        for passes in 0..=count {
+            self.make(before)?;
+            self.files.begin(steps, passes, ErrorKind::PermissionDenied);
+            if passes < count && steps != Steps::Any {
+                let content = if passes <= leaves { before } else { after };
+                assert!(rt;
+                    self.tried(call, &memory) == ("Device", content),
+                    "{passes}"
+                );
+                self.files.begin(Steps::Any, 0, ErrorKind::PermissionDenied);
+            }
+            assert!(rt; self.tried(call, &memory) == (done, after), "{passes}");
         }
-        assert!(rt; self.make(case));
-        self.files.begin(case.steps, NONE);
-        assert!(rt; self.tried(case, &memory) == (case.answer, case.after));
-    }
-
-    // The call of a case where the system syncs no folders, which is the last that a call does.
-    fn sync_no_folder(&self, rt: &impl Abort, case: &Case) {
-        let Some((("sync", _), before)) = case.steps.list().split_last() else {
-            return;
-        };
-        let memory = Refusing::new(self.files.alloc(), u64::MAX);
-        assert!(rt; self.make(case));
-        self.files.begin(case.steps, before.len());
-        self.files.fail_by(ErrorKind::InvalidInput);
-        let answer = if case.call.is_load() {
-            case.answer
-        } else {
-            "Device"
-        };
-        assert!(rt; self.tried(case, &memory) == (answer, case.after));
-        self.files.fail_by(ErrorKind::PermissionDenied);
+        if steps.text().ends_with("sync") {
+            self.make(before)?;
+            let last = count.saturating_sub(1);
+            self.files.begin(steps, last, ErrorKind::InvalidInput);
+            let answer = if call.is_load() { done } else { "Device" };
+            assert!(rt; self.tried(call, &memory) == (answer, after));
+        }
+        Ok(())
     }
 
     // The call of a case with each growth refused, until none is, if that comes.
-    fn refuse_each(&self, rt: &impl Abort, case: &Case) -> bool {
-        self.files.begin(Steps::Any, NONE);
+    fn refuse_each(&self, rt: &impl Abort, case: &Case) -> io::Result<bool> {
+        let (call, before, after, done, _, _) = *case;
+        self.files.begin(Steps::Any, 0, ErrorKind::PermissionDenied);
         for passes in 0..MOST_GROWTHS {
-            assert!(rt; self.make(case));
+            self.make(before)?;
             let memory = Refusing::new(self.files.alloc(), passes);
-            let mut tried = self.tried(case, &memory);
+            let mut tried = self.tried(call, &memory);
             if memory.is_spent() {
-                assert!(rt;
-                    tried == (case.call.refused(passes), case.before),
-                    "{passes}"
-                );
-                tried = self.tried(case, &memory);
+                assert!(rt; tried == (call.refused(passes), before), "{passes}");
+                tried = self.tried(call, &memory);
             }
-            assert!(rt; tried == (case.answer, case.after), "{passes}");
+            assert!(rt; tried == (done, after), "{passes}");
             if !memory.is_spent() {
-                return true;
+                return Ok(true);
             }
         }
-        false
+        Ok(false)
     }
 }
 
@@ -241,8 +165,8 @@ fn path_of(rt: &HostRuntime, name: &str) -> io::Result<String> {
 #[test]
 fn each_call_fails_and_is_refused(rt: HostRuntime) -> Result<(), Fail> {
     let above = path_of(&rt, "above")?;
-    let is_empty = make(&rt, above.as_str(), "", "nothing");
-    assert!(rt; is_empty && fs::create_dir(&rt, above.as_str()).is_ok());
+    make(&rt, above.as_str(), "", "nothing")?;
+    fs::create_dir(&rt, above.as_str())?;
     let folder = format!(in rt.alloc(); "{above}/pages")?;
     let file = format!(in rt.alloc(); "{above}/pages/0001")?;
     let files = Scripted::new(rt.clone()?)?;
@@ -253,9 +177,8 @@ fn each_call_fails_and_is_refused(rt: HostRuntime) -> Result<(), Fail> {
         file: file.as_str(),
     };
     for case in CASES.iter() {
-        place.fail_each(&rt, case);
-        place.sync_no_folder(&rt, case);
-        assert!(rt; place.refuse_each(&rt, case));
+        place.fail_each(&rt, case)?;
+        assert!(rt; place.refuse_each(&rt, case)?);
     }
     fs::remove_dir_all(&rt, above.as_str())?;
     Ok(())
@@ -277,70 +200,35 @@ fn a_new_file_takes_the_place_of_nothing(rt: HostRuntime) -> Result<(), Fail> {
 }
 
 // What a folder lists, how often, and what `keys` answers then.
-struct Listing {
-    names: Listed,
-    times: u32,
-    keys: Call,
-    answer: &'static str,
-}
-
-const FOUR_KEYS: Listing = Listing {
-    names: Listed::FourKeys,
-    times: 1,
-    keys: Call::Keys(9, &[1, 2, 3, 65_535]),
-    answer: "done",
-};
-
-const LISTINGS: &[Listing] = &[
-    FOUR_KEYS,
-    Listing {
-        keys: Call::Keys(3, &[1, 2, 3, 65_535]),
-        ..FOUR_KEYS
-    },
-    Listing {
-        keys: Call::Keys(1, &[1, 2]),
-        ..FOUR_KEYS
-    },
-    Listing {
-        keys: Call::Keys(0, &[1]),
-        ..FOUR_KEYS
-    },
-    Listing {
-        names: Listed::AmongOthers,
-        keys: Call::Keys(9, &[0xab]),
-        ..FOUR_KEYS
-    },
-    Listing {
-        names: Listed::NoTextLast,
-        answer: "Device",
-        ..FOUR_KEYS
-    },
-    Listing {
-        names: Listed::NoTextFirst,
-        answer: "Device",
-        ..FOUR_KEYS
-    },
-    Listing {
-        names: Listed::Other,
-        times: 131_072,
-        keys: Call::Keys(9, &[]),
-        ..FOUR_KEYS
-    },
-    Listing {
-        names: Listed::Other,
-        times: 131_073,
-        answer: "Device",
-        ..FOUR_KEYS
-    },
+const LISTINGS: &[(Listed, u32, Call, &str)] = &[
+    (
+        Listed::FourKeys,
+        1,
+        Call::Keys(9, &[1, 2, 3, 65_535]),
+        "done",
+    ),
+    (
+        Listed::FourKeys,
+        1,
+        Call::Keys(3, &[1, 2, 3, 65_535]),
+        "done",
+    ),
+    (Listed::FourKeys, 1, Call::Keys(1, &[1, 2]), "done"),
+    (Listed::FourKeys, 1, Call::Keys(0, &[1]), "done"),
+    (Listed::AmongOthers, 1, Call::Keys(9, &[0xab]), "done"),
+    (Listed::NoTextLast, 1, Call::Keys(9, &[]), "Device"),
+    (Listed::NoTextFirst, 1, Call::Keys(9, &[]), "Device"),
+    (Listed::Other, 131_072, Call::Keys(9, &[]), "done"),
+    (Listed::Other, 131_073, Call::Keys(9, &[]), "Device"),
 ];
 
 #[test]
 fn a_set_takes_the_names_in_any_order(rt: HostRuntime) -> Result<(), Fail> {
     let memory = Refusing::new(rt.alloc(), u64::MAX);
     let files = Scripted::new(rt.clone()?)?;
-    for listing in LISTINGS.iter() {
-        files.list(listing.names, listing.times);
-        assert!(rt; answer(&files, &memory, "pages", &listing.keys) == listing.answer);
+    for (names, times, keys, wanted) in LISTINGS.iter() {
+        files.list(*names, *times);
+        assert!(rt; answer(&files, &memory, "pages", *keys) == *wanted);
     }
     Ok(())
 }

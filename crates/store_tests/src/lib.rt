@@ -12,5 +12,3 @@ mod files;
 mod memory;
 #[cfg(test)]
 mod scripted;
-#[cfg(test)]
-mod texts;

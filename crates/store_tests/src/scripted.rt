@@ -12,97 +12,44 @@ use std::rt::Files;
 // How many bytes a read or a write moves.
 const MOST_BYTES: usize = 2;
 
-// A call, and the end of the path that it names.
-type Step = (&'static str, &'static str);
-
-// Which calls are to come.
-#[derive(Clone, Copy)]
+// The calls that are to come, each with the end of the path that it names.
+#[derive(Clone, Copy, PartialEq, Eq)]
 pub enum Steps {
     Any,
+    // A load sees what is there before it opens it and after. It takes two bytes at a time, and then none. Then it
+    // syncs the folder.
     Load,
     LoadNothing,
+    // The new bytes go to a file beside, two at a time. It is synced, and takes the name; then the folder is synced.
     Replace,
+    // A set makes the folder first, whether it is there or not, and syncs the one above it.
     ReplaceKey,
     Remove,
+    // If neither the file nor its folder is there, the folder above is synced.
     RemoveNothing,
+    // The names are taken until there are none. Then the folder is synced.
     Keys,
 }
 
-// A load sees what is there before it opens it and after. It takes two bytes at a time, and then none. Then it syncs
-// the folder.
-const LOAD: &[Step] = &[
-    ("look", "pages/0001"),
-    ("open", "pages/0001"),
-    ("look", ""),
-    ("read", ""),
-    ("read", ""),
-    ("read", ""),
-    ("open", "above/pages/"),
-    ("sync", ""),
-];
-
-// The new bytes go to a file beside, two at a time. It is synced, and takes the name; then the folder is synced.
-const REPLACE: &[Step] = &[
-    ("open", "pages/0001.new"),
-    ("write", ""),
-    ("write", ""),
-    ("write", ""),
-    ("sync", ""),
-    ("rename", "pages/0001.new"),
-    ("open", "above/pages/"),
-    ("sync", ""),
-];
-
-// A set makes the folder first, whether it is there or not, and syncs the one above it.
-const REPLACE_KEY: &[Step] = &[
-    ("make", "above/pages"),
-    ("open", "above/"),
-    ("sync", ""),
-    ("open", "pages/0001.new"),
-    ("write", ""),
-    ("write", ""),
-    ("write", ""),
-    ("sync", ""),
-    ("rename", "pages/0001.new"),
-    ("open", "above/pages/"),
-    ("sync", ""),
-];
-
-const REMOVE: &[Step] = &[
-    ("remove", "pages/0001"),
-    ("open", "above/pages/"),
-    ("sync", ""),
-];
-
-// If neither the file nor its folder is there, the folder above is synced.
-const REMOVE_NOTHING: &[Step] = &[
-    ("remove", "pages/0001"),
-    ("open", "above/pages/"),
-    ("open", "above/"),
-    ("sync", ""),
-];
-
-// The names are taken until there are none. Then the folder is synced.
-const KEYS: &[Step] = &[
-    ("list", "above/pages/"),
-    ("names", ""),
-    ("names", ""),
-    ("open", "above/pages/"),
-    ("sync", ""),
-];
-
 impl Steps {
-    // The calls in order, or none where any may come.
-    pub fn list(self) -> &'static [Step] {
+    pub fn text(self) -> &'static str {
         match self {
-            Steps::Any => &[],
-            Steps::Load => LOAD,
-            Steps::LoadNothing => &[("look", "pages/0001")],
-            Steps::Replace => REPLACE,
-            Steps::ReplaceKey => REPLACE_KEY,
-            Steps::Remove => REMOVE,
-            Steps::RemoveNothing => REMOVE_NOTHING,
-            Steps::Keys => KEYS,
+            Steps::Any => "",
+            Steps::Load => {
+                "look pages/0001, open pages/0001, look, read, read, read, open above/pages/, sync"
+            }
+            Steps::LoadNothing => "look pages/0001",
+            Steps::Replace => {
+                "open pages/0001.new, write, write, write, sync, rename pages/0001.new, \
+                open above/pages/, sync"
+            }
+            Steps::ReplaceKey => {
+                "make above/pages, open above/, sync, open pages/0001.new, write, write, write, \
+                sync, rename pages/0001.new, open above/pages/, sync"
+            }
+            Steps::Remove => "remove pages/0001, open above/pages/, sync",
+            Steps::RemoveNothing => "remove pages/0001, open above/pages/, open above/, sync",
+            Steps::Keys => "list above/pages/, names, names, open above/pages/, sync",
         }
     }
 }
@@ -132,17 +79,14 @@ impl Listed {
     }
 }
 
-// The calls that are to come, and what a folder lists.
+// The calls that are to come; the one that fails, by its place, and its error; and what a folder lists.
 #[derive(Drop)]
 struct Script {
-    // The calls in order, or none where any may come.
     steps: Cell<Steps>,
-    // How many of them came, and how many pass before the one that fails.
     came: Cell<usize>,
     passes: Cell<usize>,
-    // The error of the one that fails.
     error: Cell<ErrorKind>,
-    // The names of each folder, each ended by a NUL, and how often they are listed.
+    // The names of each folder, and how often they are listed.
     names: Cell<Listed>,
     times: Cell<u32>,
 }
@@ -152,12 +96,15 @@ impl Script {
     fn comes(&self, call: &str, path: &str) -> io::Result<()> {
         let place = self.came.get();
         self.came.set(place.saturating_add(1));
-        let steps = self.steps.get().list();
-        let is_right = match steps.get(place) {
-            Some((step, end)) => *step == call && path.ends_with(*end),
-            None => steps.is_empty(),
+        let steps = self.steps.get().text();
+        let is_right = match steps.split(',').nth(place) {
+            Some(step) => {
+                let (name, end) = step.trim().split_once(' ').unwrap_or((step.trim(), ""));
+                name == call && path.ends_with(end)
+            }
+            None => false,
         };
-        if is_right && place != self.passes.get() {
+        if steps.is_empty() || is_right && place != self.passes.get() {
             Ok(())
         } else {
             Err(io::Error::from(self.error.get()))
@@ -191,15 +138,11 @@ impl Scripted {
         self.system.alloc()
     }
 
-    // From now on these calls are to come, and the one after that many fails.
-    pub fn begin(&self, steps: Steps, passes: usize) {
+    // From now on these calls are to come, and the one after that many fails by the error.
+    pub fn begin(&self, steps: Steps, passes: usize, error: ErrorKind) {
         self.script.steps.set(steps);
         self.script.came.set(0);
         self.script.passes.set(passes);
-    }
-
-    // From now on the call that fails gives this error.
-    pub fn fail_by(&self, error: ErrorKind) {
         self.script.error.set(error);
     }
 
@@ -225,8 +168,8 @@ pub struct Names {
 }
 
 // What a call answers that no store makes.
-fn unsupported() -> io::Error {
-    io::Error::from(ErrorKind::Unsupported)
+fn unsupported<T>() -> io::Result<T> {
+    Err(io::Error::from(ErrorKind::Unsupported))
 }
 
 impl Read for Names {
@@ -259,13 +202,13 @@ impl Write for ScriptedFile {
     }
 
     fn flush(&mut self) -> io::Result<()> {
-        Err(unsupported())
+        unsupported()
     }
 }
 
 impl Seek for ScriptedFile {
     fn seek(&mut self, _to: SeekFrom) -> io::Result<u64> {
-        Err(unsupported())
+        unsupported()
     }
 }
 
@@ -276,7 +219,7 @@ impl OpenFile for ScriptedFile {
     }
 
     fn set_len(&self, _size: u64) -> io::Result<()> {
-        Err(unsupported())
+        unsupported()
     }
 
     fn sync_all(&self) -> io::Result<()> {
@@ -285,7 +228,7 @@ impl OpenFile for ScriptedFile {
     }
 
     fn sync_data(&self) -> io::Result<()> {
-        Err(unsupported())
+        unsupported()
     }
 }
 
@@ -316,11 +259,11 @@ impl Files for Scripted {
     }
 
     fn symlink_metadata(&self, _path: &str) -> io::Result<Metadata> {
-        Err(unsupported())
+        unsupported()
     }
 
     fn copy(&self, _from: &str, _to: &str) -> io::Result<u64> {
-        Err(unsupported())
+        unsupported()
     }
 
     fn rename(&self, from: &str, to: &str) -> io::Result<()> {
@@ -339,10 +282,10 @@ impl Files for Scripted {
     }
 
     fn remove_dir(&self, _path: &str) -> io::Result<()> {
-        Err(unsupported())
+        unsupported()
     }
 
     fn remove_dir_all<B: Allocator>(&self, _alloc: B, _path: &str) -> io::Result<()> {
-        Err(unsupported())
+        unsupported()
     }
 }

@@ -13,17 +13,16 @@ fn a_failed_read_is_remembered(rt: HostRuntime) {
     for passes in 0..TEXT.len() {
         let mut input = Input::new(FailingReader::new(TEXT, passes));
         for (at, byte) in TEXT.iter().enumerate() {
-            let has_failed = at >= passes;
-            let answer = input.next_byte();
+            let wanted = if at < passes {
+                Ok(Some(*byte))
+            } else {
+                Err(ReadFault::Read)
+            };
+            assert!(rt; input.next_byte() == wanted, "byte {at} of {passes}");
             assert!(rt;
-                answer
-                    == if has_failed {
-                        Err(ReadFault::Read)
-                    } else {
-                        Ok(Some(*byte))
-                    }
+                input.has_failed() == (at >= passes),
+                "byte {at} of {passes}"
             );
-            assert!(rt; input.has_failed() == has_failed, "byte {at} of {passes}");
         }
     }
 }

@@ -8,10 +8,11 @@ use Rattle.dm_store.specs.declared.disk.DiskFault.{DiskFault}
 use Rattle.test_helpers.specs.declared.mem_disk.DiskCall.{DiskCall}
 use Rattle.test_helpers.specs.declared.mem_disk.DiskCall.TheVariants.{SyncedEntry}
 use Rattle.dm_store.specs.Disk.{Content, Keeps, SyncsEntry}
-use Rattle.test_helpers.specs.DiskCalls.{seen_after, synced_after, content_eq, leaves_after, disk_after}
+use Rattle.std.specs.Option.{option_eq}
+use Rattle.test_helpers.specs.DiskCalls.{seen_after, synced_after, leaves_after, disk_after}
 use Rattle.test_helpers.proofs.SeenIsLeft.{leaves_seen}
 
-same_content : (a b : Content) → content_eq a b ≡ true → a ≡ b
+same_content : (a b : Content) → option_eq bytes_eq a b ≡ true → a ≡ b
 same_content None None is = refl
 same_content None (Some bytes) is = cc
 same_content (Some bytes) None is = cc
@@ -19,7 +20,7 @@ same_content (Some a) (Some b) is = ap (λ (bytes : List ℕ). Some bytes) ((byt
 
 -- the sync of an entry takes nothing in
 left_before : {A : Type 0} (is_it is_synced : Bool) (calls : List (DiskCall A)) (name : List ℕ) (content : Content)
-    → (if is_it then (if is_synced then content_eq content (seen_after calls name) else leaves_after calls name content)
+    → (if is_it then (if is_synced then option_eq bytes_eq content (seen_after calls name) else leaves_after calls name content)
     else leaves_after calls name content) ≡ true
     → leaves_after calls name content ≡ true
 left_before {A} true true calls name content is =
@@ -30,7 +31,7 @@ left_before false is_synced calls name content is = is
 
 left_after : {A : Type 0} (is_it is_synced : Bool) (calls : List (DiskCall A)) (name : List ℕ) (content : Content) →
     is_it ≡ true → is_synced ≡ true
-    → (if is_it then (if is_synced then content_eq content (seen_after calls name) else leaves_after calls name content)
+    → (if is_it then (if is_synced then option_eq bytes_eq content (seen_after calls name) else leaves_after calls name content)
     else leaves_after calls name content) ≡ true
     → content ≡ seen_after calls name
 left_after true true calls name content it on is = same_content content (seen_after calls name) is

@@ -6,9 +6,10 @@ use Rattle.std.proofs.lemmas.Slice.Eq.{bytes_eq-Decides}
 use Rattle.test_helpers.specs.declared.mem_disk.DiskCall.{DiskCall}
 use Rattle.test_helpers.specs.declared.mem_disk.DiskCall.TheVariants.{Wrote, Synced, Renamed, Removed, SyncedEntry}
 use Rattle.dm_store.specs.Disk.{Content}
-use Rattle.test_helpers.specs.DiskCalls.{seen_after, synced_after, content_eq, leaves_after}
+use Rattle.std.specs.Option.{option_eq}
+use Rattle.test_helpers.specs.DiskCalls.{seen_after, synced_after, leaves_after}
 
-content_eq-same : (content : Content) → content_eq content content ≡ true
+content_eq-same : (content : Content) → option_eq bytes_eq content content ≡ true
 content_eq-same None = refl
 content_eq-same (Some bytes) = (bytes_eq-Decides bytes bytes).1 refl
 
@@ -41,7 +42,7 @@ leaves_seen {A} (Renamed from to ∷ before) name =
     if b then (if synced_after before (string_bytes from)
     then (leaves_after before name
     (if b then seen else (if bytes_eq (string_bytes from) name then None else seen_after before name))
-    || content_eq (if b then seen else (if bytes_eq
+    || option_eq bytes_eq (if b then seen else (if bytes_eq
     (string_bytes from) name then None else seen_after before name)) seen)
     else true)
     else (if bytes_eq (string_bytes from) name then true else leaves_after before name
@@ -64,6 +65,6 @@ leaves_seen {A} (Removed removed ∷ before) name =
     ]
 leaves_seen {A} (SyncedEntry synced ∷ before) name =
     let seen = seen_after before name in
-    let on = either (synced_after before name) (content_eq seen seen) (leaves_after before name seen)
+    let on = either (synced_after before name) (option_eq bytes_eq seen seen) (leaves_after before name seen)
     (content_eq-same seen) (leaves_seen before name) in
     either (bytes_eq (string_bytes synced) name) _ _ on (leaves_seen before name)

@@ -1,6 +1,7 @@
 -- A disk in memory as the list of its calls that were done, the newest first. A stop may leave there all that the
 -- contract of disks allows after these calls; a reader finds no more and no less than they left.
 use Rattle.std.specs.Prelude.{ℕ, Bool, true, false, ◌||◌, List, [], ◌∷◌, Some, None, is_none, IsTrue, if◌then◌else◌}
+use Rattle.std.specs.Option.{option_eq}
 use Rattle.std.specs.Str.{bytes_eq}
 use Rattle.std.specs.String.{string_bytes}
 use Rattle.test_helpers.specs.declared.mem_disk.DiskCall.{DiskCall}
@@ -33,12 +34,6 @@ synced_after (Removed removed ∷ before) name =
     if bytes_eq (string_bytes removed) name then true else synced_after before name
 synced_after (SyncedEntry synced ∷ before) name = synced_after before name
 
-abbrev pub content_eq : Content → Content → Bool
-content_eq None None = true
-content_eq None (Some bytes) = false
-content_eq (Some bytes) None = false
-content_eq (Some bytes) (Some others) = bytes_eq bytes others
-
 -- Whether a stop may leave this content: anything under a name that was written to, and under one that got a file whose
 -- bytes are not on the disk.
 abbrev pub leaves_after : {A : Type 0} → List (DiskCall A) → List ℕ → Content → Bool
@@ -49,13 +44,13 @@ leaves_after (Synced synced ∷ before) name content = leaves_after before name 
 leaves_after (Renamed from to ∷ before) name content =
     if bytes_eq (string_bytes to) name
     then (if synced_after before (string_bytes from)
-    then (leaves_after before name content || content_eq content (seen_after before (string_bytes from))) else true)
+    then (leaves_after before name content || option_eq bytes_eq content (seen_after before (string_bytes from))) else true)
     else (if bytes_eq (string_bytes from) name then true else leaves_after before name content)
 leaves_after (Removed removed ∷ before) name content =
     leaves_after before name content || (if bytes_eq (string_bytes removed) name then is_none content else false)
 leaves_after (SyncedEntry synced ∷ before) name content =
     if bytes_eq (string_bytes synced) name
-    then (if synced_after before name then content_eq content (seen_after before name)
+    then (if synced_after before name then option_eq bytes_eq content (seen_after before name)
     else leaves_after before name content)
     else leaves_after before name content
 

@@ -1,100 +1,102 @@
-//! Readers and writers that fail in mid-stream, and a reader without end.
+//! Readers and writers that move one byte at a time, and fail or are interrupted in mid-stream.
 
 use std::io::{Error, ErrorKind, Read, Result, Write};
 
-/// A reader that gives its bytes one at a time, and fails after that many.
+// How often a call is interrupted before it goes on.
+const INTERRUPTS: u8 = 3;
+
+/// A stream that fails after a number of bytes: a reader each time; a writer once, and then it takes bytes again, so
+/// that a test sees what is written after the failure.
 #[derive(Drop)]
-pub struct FailingReader<'a> {
-    bytes: &'a [u8],
-    passes: usize,
+pub struct Failing<S> {
+    stream: S,
+    // How many bytes still pass, or `None` once a writer has failed.
+    passes: Option<usize>,
 }
 
-impl<'a> FailingReader<'a> {
-    /// A reader of these bytes that fails after `passes` of them.
-    pub fn new(bytes: &'a [u8], passes: usize) -> Self {
-        FailingReader { bytes, passes }
+/// A reader of bytes that fails.
+pub type FailingReader<'a> = Failing<&'a [u8]>;
+
+/// A writer into a vector that fails.
+pub type FailingWriter = Failing<Vec<u8>>;
+
+/// A stream that is interrupted three times in a row after a number of bytes, and then goes on.
+#[derive(Drop)]
+pub struct Interrupted<S> {
+    stream: S,
+    passes: usize,
+    interrupts: u8,
+}
+
+/// A reader of bytes that is interrupted.
+pub type InterruptedReader<'a> = Interrupted<&'a [u8]>;
+
+/// A writer into a vector that is interrupted.
+pub type InterruptedWriter = Interrupted<Vec<u8>>;
+
+impl<S> Failing<S> {
+    /// A stream that fails after `passes` bytes.
+    pub fn new(stream: S, passes: usize) -> Failing<S> {
+        Failing {
+            stream,
+            passes: Some(passes),
+        }
+    }
+}
+
+impl<S> Interrupted<S> {
+    /// A stream that is interrupted after `passes` bytes.
+    pub fn new(stream: S, passes: usize) -> Interrupted<S> {
+        Interrupted {
+            stream,
+            passes,
+            interrupts: INTERRUPTS,
+        }
+    }
+
+    // Fails if the stream is interrupted now.
+    fn come(&mut self) -> Result<()> {
+        if self.passes > 0 || self.interrupts == 0 {
+            return Ok(());
+        }
+        self.interrupts -= 1;
+        Err(Error::from(ErrorKind::Interrupted))
+    }
+}
+
+impl FailingWriter {
+    /// What was taken.
+    pub fn taken(&self) -> &[u8] {
+        self.stream.as_slice()
+    }
+}
+
+impl InterruptedWriter {
+    /// What was taken.
+    pub fn taken(&self) -> &[u8] {
+        self.stream.as_slice()
     }
 }
 
 impl Read for FailingReader<'_> {
     fn read(&mut self, buf: &mut [u8]) -> Result<usize> {
-        if self.passes == 0 {
+        if self.passes == Some(0) {
             return Err(Error::from(ErrorKind::Other));
         }
-        let Some((first, rest)) = self.bytes.split_first() else {
-            return Ok(0);
-        };
-        let Some(place) = buf.first_mut() else {
-            return Ok(0);
-        };
-        *place = *first;
-        self.bytes = rest;
-        self.passes -= 1;
-        Ok(1)
+        let most = buf.len().min(1);
+        let count = self.stream.read(&mut buf[..most])?;
+        self.passes = self.passes.map(|passes| passes.saturating_sub(count));
+        Ok(count)
     }
 }
 
-/// A reader that gives some bytes, and then others over and over, one at a time.
-#[derive(Drop)]
-pub struct EndlessReader<'a> {
-    begin: &'a [u8],
-    again: &'a [u8],
-    rest: &'a [u8],
-}
-
-impl<'a> EndlessReader<'a> {
-    /// A reader of `begin`, and then of `again` without end.
-    pub fn new(begin: &'a [u8], again: &'a [u8]) -> Self {
-        EndlessReader {
-            begin,
-            again,
-            rest: b"",
-        }
-    }
-}
-
-impl Read for EndlessReader<'_> {
+impl Read for InterruptedReader<'_> {
     fn read(&mut self, buf: &mut [u8]) -> Result<usize> {
-        let Some(place) = buf.first_mut() else {
-            return Ok(0);
-        };
-        if let Some((first, rest)) = self.begin.split_first() {
-            *place = *first;
-            self.begin = rest;
-            return Ok(1);
-        }
-        if self.rest.is_empty() {
-            self.rest = self.again;
-        }
-        let Some((first, rest)) = self.rest.split_first() else {
-            return Ok(0);
-        };
-        *place = *first;
-        self.rest = rest;
-        Ok(1)
-    }
-}
-
-/// A writer that keeps what it takes, one byte at a time, and fails once after that many. Then it takes bytes again, so
-/// that a test sees what is written after the failure.
-#[derive(Drop)]
-pub struct FailingWriter {
-    taken: Vec<u8>,
-    passes: Option<usize>,
-}
-
-impl FailingWriter {
-    /// A writer that takes bytes into the vector, and fails after `passes` of them.
-    pub fn new(taken: Vec<u8>, passes: usize) -> Self {
-        FailingWriter {
-            taken,
-            passes: Some(passes),
-        }
-    }
-
-    /// What was taken.
-    pub fn taken(&self) -> &[u8] {
-        self.taken.as_slice()
+        self.come()?;
+        let most = buf.len().min(1);
+        let count = self.stream.read(&mut buf[..most])?;
+        self.passes = self.passes.saturating_sub(count);
+        Ok(count)
     }
 }
 
@@ -104,12 +106,22 @@ impl Write for FailingWriter {
             self.passes = None;
             return Err(Error::from(ErrorKind::Other));
         }
-        let Some(first) = buf.first() else {
-            return Ok(0);
-        };
-        self.taken.push(*first)?;
-        self.passes = self.passes.map(|passes| passes.saturating_sub(1));
-        Ok(1)
+        let count = self.stream.write(&buf[..buf.len().min(1)])?;
+        self.passes = self.passes.map(|passes| passes.saturating_sub(count));
+        Ok(count)
+    }
+
+    fn flush(&mut self) -> Result<()> {
+        Ok(())
+    }
+}
+
+impl Write for InterruptedWriter {
+    fn write(&mut self, buf: &[u8]) -> Result<usize> {
+        self.come()?;
+        let count = self.stream.write(&buf[..buf.len().min(1)])?;
+        self.passes = self.passes.saturating_sub(count);
+        Ok(count)
     }
 
     fn flush(&mut self) -> Result<()> {

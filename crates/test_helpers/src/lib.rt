@@ -1,5 +1,5 @@
 //! What tests share: an allocator that refuses one allocation, copies of bytes with one byte spoiled, readers and
-//! writers that fail, are interrupted or never end, a look at the text of a fault, and a disk whose machine stops.
+//! writers that fail or are interrupted, a look at the text of a fault, and a disk whose machine stops.
 //!
 //! Proved: each call returns and is safe, and [`Refusing`] is an allocator, so that what owns memory of it owns memory
 //! of the allocator within. [`MemDisk`] is proved to be an honest disk, of which a stop may leave whatever the contract of
@@ -8,17 +8,13 @@
 #![tactic(auto)]
 
 mod failing;
-mod interrupted;
 mod mem_disk;
 mod refusing;
-mod saying;
 mod spoiling;
 mod stopping_disk;
 
-pub use failing::{EndlessReader, FailingReader, FailingWriter};
-pub use interrupted::{InterruptedReader, InterruptedWriter};
+pub use failing::{FailingReader, FailingWriter, InterruptedReader, InterruptedWriter};
 pub use mem_disk::{DiskCall, MemDisk};
 pub use refusing::Refusing;
-pub use saying::says;
-pub use spoiling::{count, spoiled};
+pub use spoiling::{count, says, spoiled};
 pub use stopping_disk::StoppingDisk;

@@ -2,7 +2,9 @@
 
 ghost use Rattle.std.specs.Prelude.{◌≡◌, ◌+◌, take, ◌∷◌, [], option_map, IfOk, OnOk, OnErr, IsErrOf};
 ghost use Rattle.std.specs.String.{string_bytes};
-ghost use Rattle.test_helpers.specs.DiskCalls.{seen_after, synced_after, content_eq, leaves_after};
+ghost use Rattle.std.specs.Option.{option_eq};
+ghost use Rattle.std.specs.Str.{bytes_eq};
+ghost use Rattle.test_helpers.specs.DiskCalls.{seen_after, synced_after, leaves_after};
 
 use dm_store::{Disk, DiskFault, LoadFault};
 use std::alloc::{AllocError, Allocator, Global};
@@ -91,7 +93,7 @@ fn is_synced_in<A: Allocator>(calls: &[DiskCall<A>], name: &str) -> bool
 
 fn is_same(content: Option<&[u8]>, other: Option<&[u8]>) -> bool
     ensures { result
-        ≡ content_eq (option_map (λ bytes. bytes.now) content.entry) (option_map (λ bytes. bytes.now) other.entry) }
+        ≡ option_eq bytes_eq (option_map (λ bytes. bytes.now) content.entry) (option_map (λ bytes. bytes.now) other.entry) }
 {
     match (content, other) {
         (None, None) => true,

@@ -19,17 +19,21 @@ pub struct StoppingDisk {
     kept: Kept,
 }
 
-// What becomes of a call that changes the disk.
+// What becomes of a call that changes the disk, unless the machine has stopped.
 #[derive(Clone, Copy)]
 enum Turn {
     Passes,
     Made,
-    Stopped,
 }
 
-// The machine stops within a call that is made.
-fn stopped(_made: Result<(), DiskFault>) -> Result<(), DiskFault> {
-    Err(DiskFault::Device)
+impl Turn {
+    // The answer to a call that is made: the machine may stop within it.
+    fn answer(self, made: Result<(), DiskFault>) -> Result<(), DiskFault> {
+        match self {
+            Turn::Passes => made,
+            Turn::Made => Err(DiskFault::Device),
+        }
+    }
 }
 
 impl StoppingDisk {
@@ -49,20 +53,20 @@ impl StoppingDisk {
     }
 
     // Counts a call.
-    fn take(&mut self) -> Turn {
+    fn take(&mut self) -> Result<Turn, DiskFault> {
         match self.left {
             Some(0) => {
                 self.left = None;
                 match self.kept {
-                    Kept::New => Turn::Made,
-                    Kept::Old => Turn::Stopped,
+                    Kept::New => Ok(Turn::Made),
+                    Kept::Old => Err(DiskFault::Device),
                 }
             }
             Some(left) => {
                 self.left = Some(left - 1);
-                Turn::Passes
+                Ok(Turn::Passes)
             }
-            None => Turn::Stopped,
+            None => Err(DiskFault::Device),
         }
     }
 
@@ -107,72 +111,51 @@ impl Disk for StoppingDisk {
 
     fn read(&mut self, name: &str, limit: usize) -> Result<Option<Vec<u8>>, LoadFault> {
         match self.take() {
-            Turn::Passes => self.disk.read(name, limit),
-            Turn::Made | Turn::Stopped => Err(LoadFault::Device),
+            Ok(Turn::Passes) => self.disk.read(name, limit),
+            Ok(Turn::Made) | Err(_) => Err(LoadFault::Device),
         }
     }
 
     fn write(&mut self, name: &str, bytes: &[u8]) -> Result<(), DiskFault> {
-        match self.take() {
-            Turn::Passes => self.disk.write(name, bytes),
-            Turn::Made => stopped(self.disk.write(name, bytes)),
-            Turn::Stopped => Err(DiskFault::Device),
-        }
+        let turn = self.take()?;
+        turn.answer(self.disk.write(name, bytes))
     }
 
     fn sync(&mut self, name: &str) -> Result<(), DiskFault> {
-        match self.take() {
-            Turn::Passes => self.disk.sync(name),
-            Turn::Made => stopped(self.disk.sync(name)),
-            Turn::Stopped => Err(DiskFault::Device),
-        }
+        let turn = self.take()?;
+        turn.answer(self.disk.sync(name))
     }
 
     fn rename(&mut self, from: &str, to: &str) -> Result<(), DiskFault> {
-        match self.take() {
-            Turn::Passes => self.disk.rename(from, to),
-            Turn::Made => stopped(self.disk.rename(from, to)),
-            Turn::Stopped => Err(DiskFault::Device),
-        }
+        let turn = self.take()?;
+        turn.answer(self.disk.rename(from, to))
     }
 
     fn remove(&mut self, name: &str) -> Result<(), DiskFault> {
-        match self.take() {
-            Turn::Passes => self.disk.remove(name),
-            Turn::Made => stopped(self.disk.remove(name)),
-            Turn::Stopped => Err(DiskFault::Device),
-        }
+        let turn = self.take()?;
+        turn.answer(self.disk.remove(name))
     }
 
     fn sync_entry(&mut self, name: &str) -> Result<(), DiskFault> {
-        match self.take() {
-            Turn::Passes => self.disk.sync_entry(name),
-            Turn::Made => stopped(self.disk.sync_entry(name)),
-            Turn::Stopped => Err(DiskFault::Device),
-        }
+        let turn = self.take()?;
+        turn.answer(self.disk.sync_entry(name))
     }
 }
 
 impl Folders for StoppingDisk {
     fn make_folder(&mut self, _folder: &str) -> Result<(), DiskFault> {
-        match self.take() {
-            Turn::Passes => Ok(()),
-            Turn::Made | Turn::Stopped => Err(DiskFault::Device),
-        }
+        self.take()?.answer(Ok(()))
     }
 
     fn keys(&mut self, folder: &str, limit: usize) -> Result<Vec<u16>, LoadFault> {
         match self.take() {
-            Turn::Passes => self.keys_of(folder, limit),
-            Turn::Made | Turn::Stopped => Err(LoadFault::Device),
+            Ok(Turn::Passes) => self.keys_of(folder, limit),
+            Ok(Turn::Made) | Err(_) => Err(LoadFault::Device),
         }
     }
 
     fn settle_folder(&mut self, folder: &str) -> Result<(), DiskFault> {
-        match self.take() {
-            Turn::Passes => self.settle_keys(folder),
-            Turn::Made => stopped(self.settle_keys(folder)),
-            Turn::Stopped => Err(DiskFault::Device),
-        }
+        let turn = self.take()?;
+        turn.answer(self.settle_keys(folder))
     }
 }

@@ -2,7 +2,7 @@
 // growth of memory is refused in turn. A call that was refused for lack of memory has changed nothing, and is done
 // when it is made again. After a save that failed the desk is opened again: what was answered is held, and the call
 // that stopped has left the old or the new, and is then made again.
-use super::files::{ALL_THREE, FIRST, THIRD, WHOLE};
+use super::{FIRST, FULL, THIRD, WHOLE};
 use dm_append_label::{FileId, Page, seal};
 use dm_assembly_desk::{Desk, ExportFault, Kind};
 use dm_check_blocks::Size;
@@ -36,64 +36,21 @@ enum Call {
     Forget,
 }
 
-// A call, its answer, its answer again after a save that was made but failed, and the files of the documents 0 and 9
-// after it, where no bytes stand for a document that is not held.
-struct Row {
-    call: Call,
-    answer: &'static str,
-    again: &'static str,
-    held: [&'static [u8]; 2],
-}
+// The files of the documents 0 and 9, where no bytes stand for a document that is not held.
+type Files = [&'static [u8]; 2];
+
+// A call, its answer, its answer again after a save that was made but failed, and what is held after it.
+type Row = (Call, &'static str, &'static str, Files);
 
 const ROWS: &[Row] = &[
-    Row {
-        call: Call::ScanFirst,
-        answer: "new",
-        again: "again",
-        held: [FIRST, THIRD],
-    },
-    Row {
-        call: Call::ScanSecond,
-        answer: "complete",
-        again: "again",
-        held: [WHOLE, THIRD],
-    },
-    Row {
-        call: Call::Document,
-        answer: "done",
-        again: "",
-        held: [WHOLE, THIRD],
-    },
-    Row {
-        call: Call::Export,
-        answer: "done",
-        again: "",
-        held: [WHOLE, THIRD],
-    },
-    Row {
-        call: Call::List,
-        answer: "done",
-        again: "",
-        held: [WHOLE, THIRD],
-    },
-    Row {
-        call: Call::Import(ALL_THREE),
-        answer: "complete",
-        again: "again",
-        held: [WHOLE, ALL_THREE],
-    },
-    Row {
-        call: Call::Forget,
-        answer: "done",
-        again: "NotHeld",
-        held: [WHOLE, b""],
-    },
-    Row {
-        call: Call::Import(THIRD),
-        answer: "new",
-        again: "again",
-        held: [WHOLE, THIRD],
-    },
+    (Call::ScanFirst, "new", "again", [FIRST, THIRD]),
+    (Call::ScanSecond, "complete", "again", [WHOLE, THIRD]),
+    (Call::Document, "done", "", [WHOLE, THIRD]),
+    (Call::Export, "done", "", [WHOLE, THIRD]),
+    (Call::List, "done", "", [WHOLE, THIRD]),
+    (Call::Import(FULL), "complete", "again", [WHOLE, FULL]),
+    (Call::Forget, "done", "NotHeld", [WHOLE, b""]),
+    (Call::Import(THIRD), "new", "again", [WHOLE, THIRD]),
 ];
 
 // The rows that save, in order.
@@ -113,6 +70,22 @@ fn name_of(kind: Kind) -> &'static str {
     }
 }
 
+fn done_if(is_right: bool) -> &'static str {
+    if is_right { "done" } else { "another answer" }
+}
+
+// How the rows are tried: the memory of the desk, what a stopped save leaves, the documents 0 and 9, and the two labels
+// of the former.
+#[derive(Drop)]
+struct Way<'a> {
+    memory: &'a Memory,
+    kept: Kept,
+    zero: FileId,
+    nine: FileId,
+    first: Label<'a>,
+    second: Label<'a>,
+}
+
 fn scanned<'a>(desk: &mut FusedDesk<'a>, label: &Label<'a>) -> &'static str {
     match desk.accept(label) {
         Ok(accepted) => name_of(accepted.kind),
@@ -120,43 +93,8 @@ fn scanned<'a>(desk: &mut FusedDesk<'a>, label: &Label<'a>) -> &'static str {
     }
 }
 
-fn done_if(is_right: bool) -> &'static str {
-    if is_right { "done" } else { "another answer" }
-}
-
-// How the rows are tried: the memory of the desk, what a stopped save leaves, and the two labels of the document 0.
-#[derive(Drop)]
-struct Way<'a> {
-    memory: &'a Memory,
-    kept: Kept,
-    first: Label<'a>,
-    second: Label<'a>,
-}
-
-// What is answered to a call that changes the desk.
-fn changed<'a>(desk: &mut FusedDesk<'a>, way: &Way<'a>, call: &Call) -> &'static str {
-    match call {
-        Call::ScanFirst => scanned(desk, &way.first),
-        Call::ScanSecond => scanned(desk, &way.second),
-        Call::Import(file) => match desk.import(*file) {
-            Ok(imported) => name_of(imported.kind),
-            Err(fault) => fault.name(),
-        },
-        _ => match FileId::of_number(9) {
-            Some(id) => match desk.forget(id) {
-                Ok(()) => "done",
-                Err(fault) => fault.name(),
-            },
-            None => "no number",
-        },
-    }
-}
-
 // Whether a desk holds this file of a document, or none where no bytes are given.
-fn holds(desk: &FusedDesk<'_>, number: u16, file: &[u8]) -> &'static str {
-    let Some(id) = FileId::of_number(number) else {
-        return "no number";
-    };
+fn holds(desk: &FusedDesk<'_>, id: FileId, file: &[u8]) -> &'static str {
     match desk.export(id) {
         Ok(bytes) => done_if(bytes.as_slice() == file),
         Err(ExportFault::NotHeld) => done_if(file.is_empty()),
@@ -164,34 +102,35 @@ fn holds(desk: &FusedDesk<'_>, number: u16, file: &[u8]) -> &'static str {
     }
 }
 
-// What is answered to a call that only looks.
-fn shown(desk: &FusedDesk<'_>, call: &Call) -> &'static str {
+// Whether a desk holds these files.
+fn holds_both(desk: &FusedDesk<'_>, way: &Way<'_>, files: &Files) -> bool {
+    let [zero, nine] = *files;
+    holds(desk, way.zero, zero) == "done" && holds(desk, way.nine, nine) == "done"
+}
+
+// What is answered to a call.
+fn made<'a>(desk: &mut FusedDesk<'a>, way: &Way<'a>, call: &Call) -> &'static str {
     match call {
+        Call::ScanFirst => scanned(desk, &way.first),
+        Call::ScanSecond => scanned(desk, &way.second),
+        Call::Document => match desk.document(way.zero) {
+            Ok(document) => done_if(document.as_slice() == b"1234".as_slice()),
+            Err(fault) => fault.name(),
+        },
+        Call::Export => holds(desk, way.zero, WHOLE),
         Call::List => match desk.held() {
             Ok(held) => done_if(held.len() == 2),
             Err(_) => "Memory",
         },
-        Call::Export => holds(desk, 0, WHOLE),
-        _ => match FileId::of_number(0) {
-            Some(id) => match desk.document(id) {
-                Ok(document) => done_if(document.as_slice() == b"1234".as_slice()),
-                Err(fault) => fault.name(),
-            },
-            None => "no number",
+        Call::Import(file) => match desk.import(*file) {
+            Ok(imported) => name_of(imported.kind),
+            Err(fault) => fault.name(),
+        },
+        Call::Forget => match desk.forget(way.nine) {
+            Ok(()) => "done",
+            Err(fault) => fault.name(),
         },
     }
-}
-
-fn made<'a>(desk: &mut FusedDesk<'a>, way: &Way<'a>, call: &Call) -> &'static str {
-    match call {
-        Call::Document | Call::Export | Call::List => shown(desk, call),
-        _ => changed(desk, way, call),
-    }
-}
-
-// Whether a desk holds these files of the documents 0 and 9.
-fn holds_both(desk: &FusedDesk<'_>, files: &[&'static [u8]; 2]) -> bool {
-    holds(desk, 0, files[0]) == "done" && holds(desk, 9, files[1]) == "done"
 }
 
 // The desk over what a set holds, which stops no more.
@@ -212,23 +151,24 @@ fn made_again<'a>(
     way: &Way<'a>,
     desk: FusedDesk<'a>,
     row: &Row,
-    before: &[&'static [u8]; 2],
+    before: &Files,
     answer: &str,
 ) -> FusedDesk<'a> {
     let mut desk = desk;
-    assert!(rt; holds_both(&desk, before));
+    let (call, wanted, again, after) = row;
+    assert!(rt; holds_both(&desk, way, before));
     if answer == "Save" {
-        assert!(rt; made(&mut desk, way, &row.call) == "Failed");
+        assert!(rt; made(&mut desk, way, call) == "Failed");
         desk = opened(rt, way.memory, desk.close());
     } else {
         assert!(rt; answer == "Memory");
     }
     if answer == "Save" && way.kept == Kept::New {
-        assert!(rt; holds_both(&desk, &row.held));
-        assert!(rt; made(&mut desk, way, &row.call) == row.again);
+        assert!(rt; holds_both(&desk, way, after));
+        assert!(rt; made(&mut desk, way, call) == *again);
     } else {
-        assert!(rt; holds_both(&desk, before));
-        assert!(rt; made(&mut desk, way, &row.call) == row.answer);
+        assert!(rt; holds_both(&desk, way, before));
+        assert!(rt; made(&mut desk, way, call) == *wanted);
     }
     desk
 }
@@ -254,12 +194,13 @@ fn run(rt: &impl Abort, way: &Way<'_>, passes: u32) -> Option<usize> {
     let mut before = [b"".as_slice(), THIRD];
     let mut stopped = None;
     for (place, row) in ROWS.iter().enumerate() {
-        let answer = made(&mut desk, way, &row.call);
-        if answer != row.answer {
+        let (call, wanted, _, after) = row;
+        let answer = made(&mut desk, way, call);
+        if answer != *wanted {
             stopped = Some(place);
             desk = made_again(rt, way, desk, row, &before, answer);
         }
-        before = row.held;
+        before = *after;
     }
     let set = desk.close().into_inner();
     assert!(rt; set.content(0) == Some(WHOLE) && set.content(9) == Some(THIRD));
@@ -276,16 +217,17 @@ fn sealed(memory: &Memory, m: u8) -> Option<Label<'_>> {
 // The same, made again where one growth was refused.
 fn label<'a>(rt: &impl Abort, memory: &'a Memory, m: u8) -> Label<'a> {
     match sealed(memory, m) {
-        Some(label) => Some(label),
-        None => sealed(memory, m),
+        Some(label) => label,
+        None => sealed(memory, m).expect(rt, "a label"),
     }
-    .expect(rt, "a label")
 }
 
 fn way_of<'a>(rt: &impl Abort, memory: &'a Memory, kept: Kept) -> Way<'a> {
     Way {
         memory,
         kept,
+        zero: FileId::of_number(0).expect(rt, "a number"),
+        nine: FileId::of_number(9).expect(rt, "a number"),
         first: label(rt, memory, 1),
         second: label(rt, memory, 2),
     }
@@ -309,9 +251,9 @@ fn the_set_stops_at_each_call(rt: HostRuntime) {
 #[test]
 fn each_growth_is_refused(rt: HostRuntime) {
     let mut refusals = [0u32; 8];
-    let mut is_done = false;
-    for passes in 0..u64::from(MANY) {
-        let memory = Refusing::new(rt.alloc(), passes);
+    for passes in 0..=MANY {
+        assert!(rt; passes < MANY);
+        let memory = Refusing::new(rt.alloc(), u64::from(passes));
         let way = way_of(&rt, &memory, Kept::Old);
         if let Some(place) = run(&rt, &way, MANY) {
             assert!(rt; memory.is_spent());
@@ -320,11 +262,9 @@ fn each_growth_is_refused(rt: HostRuntime) {
             }
         }
         if !memory.is_spent() {
-            is_done = true;
             break;
         }
     }
-    assert!(rt; is_done);
     let [first, second, document, export, list, import, forget, new] = refusals;
     assert!(rt; first > 0 && second > 0 && document > 0 && export > 0 && list > 0 && import > 0);
     assert!(rt; forget == 0 && new > 0, "a forget takes no memory");
@@ -333,21 +273,20 @@ fn each_growth_is_refused(rt: HostRuntime) {
 // Memory for what is held is asked for last: a damaged file is named first.
 #[test]
 fn damage_is_named_where_memory_is_refused(rt: HostRuntime) {
-    let mut is_done = false;
-    for passes in 0..u64::from(MANY) {
+    for passes in 0..=MANY {
+        assert!(rt; passes < MANY);
         // The set has memory of its own, so that it is a growth of the desk that is refused.
         let mut set = MemSet::new(rt.alloc());
         assert!(rt; set.replace(0, WHOLE).is_ok() && set.replace(9, b"DMPG\x02").is_ok());
-        let memory = Refusing::new(rt.alloc(), passes);
+        let memory = Refusing::new(rt.alloc(), u64::from(passes));
         let name = match Desk::open(&memory, set, 4) {
             Ok(_) => "opened",
             Err(refused) => refused.fault.name(),
         };
         assert!(rt; name == "Damaged");
         if !memory.is_spent() {
-            is_done = passes > 0;
+            assert!(rt; passes > 0);
             break;
         }
     }
-    assert!(rt; is_done);
 }

@@ -1,7 +1,7 @@
 // A store and a set that stop at each of the device calls of a move, under both ends of a stopped save, and a move to
 // which each growth of memory is refused in turn: the two hold together what they held, and a second call finishes the
 // first.
-use super::files::{FIRST, JOINT, JOINT_OF_NONE, THIRD};
+use super::{FIRST, JOINT, JOINT_OF_NONE, THIRD};
 use dm_assembly_desk::move_pages;
 use dm_store::{FuseSet, FuseStore, Kept, MemSet, MemStore, Store};
 use std::alloc::Global;
@@ -39,17 +39,9 @@ fn held_by(old: &MemStore<&Memory>, set: &MemSet<&Memory>) -> Option<u16> {
     let mut held = 0u16;
     for (key, file) in [(0, FIRST), (9, THIRD)] {
         match set.content(key) {
-            Some(bytes) => {
-                if bytes != file {
-                    return None;
-                }
-                held = held.saturating_add(1);
-            }
-            None => {
-                if old.content() != Some(JOINT) {
-                    return None;
-                }
-            }
+            Some(bytes) if bytes == file => held = held.saturating_add(1),
+            None if old.content() == Some(JOINT) => {}
+            _ => return None,
         }
     }
     Some(held)
@@ -67,25 +59,15 @@ fn moved_twice(rt: &impl Abort, memory: &Memory, passes: (u32, u32), kept: Kept)
     let is_moved = old.content() == Some(JOINT_OF_NONE);
     let mut old = FuseStore::new(old, MANY, Kept::Old);
     let mut set = FuseSet::new(set, MANY, Kept::Old);
-    let more = if is_moved {
-        0
-    } else {
-        2u16.saturating_sub(held)
-    };
     let mut again = moved(memory, &mut old, &mut set);
     if again == Err("Memory") {
         again = moved(memory, &mut old, &mut set);
     }
-    assert!(rt; again == Ok(more));
+    assert!(rt; again == Ok(2u16.saturating_sub(held)));
     let (old, set) = (old.into_inner(), set.into_inner());
     assert!(rt; held_by(&old, &set) == Some(2) && old.content() == Some(JOINT_OF_NONE));
-    match first {
-        Ok(written) => {
-            assert!(rt; written == 2 && is_moved);
-            "done"
-        }
-        Err(name) => name,
-    }
+    assert!(rt; first.is_err() || first == Ok(2) && is_moved);
+    first.err().unwrap_or("done")
 }
 
 #[test]
@@ -105,8 +87,9 @@ fn a_move_stops_at_each_call(rt: HostRuntime) {
 #[test]
 fn each_growth_of_a_move_is_refused(rt: HostRuntime) {
     let mut refusals = 0u32;
-    for passes in 0..u64::from(MANY) {
-        let memory = Refusing::new(rt.alloc(), passes);
+    for passes in 0..=MANY {
+        assert!(rt; passes < MANY);
+        let memory = Refusing::new(rt.alloc(), u64::from(passes));
         let name = moved_twice(&rt, &memory, (MANY, MANY), Kept::Old);
         if name == "Memory" {
             refusals = refusals.saturating_add(1);
@@ -117,5 +100,5 @@ fn each_growth_of_a_move_is_refused(rt: HostRuntime) {
             break;
         }
     }
-    assert!(rt; refusals > 3 && u64::from(refusals) < u64::from(MANY));
+    assert!(rt; refusals > 3);
 }

@@ -1,7 +1,8 @@
 // Files of pages of which one byte is changed or added, or the end is cut off: each is refused by the name that the
 // table of the format says, with nothing changed, or is another sound file, and then a desk holds exactly that one.
-use super::files::{JOINT, JOINT_OF_NONE};
-use super::table::{answer, identification, length_of, number, page};
+use super::table::{answer, identification, length_of, page};
+use super::{JOINT, JOINT_OF_NONE};
+use crate::printers::number;
 use dm_append_label::FileId;
 use dm_assembly_desk::{Desk, Imported, Kind, move_pages};
 use dm_store::{MemSet, MemStore, StoreSet};
@@ -23,19 +24,18 @@ fn after_version(file: &[u8]) -> &[u8] {
     file.get(5..).unwrap_or(b"")
 }
 
-// Whether the desk exports the document as this file.
-fn exports(desk: &Desk<MemSet>, id: FileId, file: &[u8]) -> bool {
-    match desk.export(id) {
-        Ok(bytes) => bytes.as_slice() == file,
-        Err(_) => false,
-    }
+// How many keys a set has.
+fn keys_of(set: MemSet) -> Option<u32> {
+    let mut set = set;
+    let keys = set.keys(65_535).ok()?;
+    u32::try_from(keys.len()).ok()
 }
 
-// Whether the desk holds one document.
-fn holds_one(desk: &Desk<MemSet>) -> bool {
-    match desk.held() {
-        Ok(held) => held.len() == 1,
-        Err(_) => false,
+fn sound_if(is_right: bool) -> &'static str {
+    if is_right {
+        "sound"
+    } else {
+        "another document"
     }
 }
 
@@ -55,7 +55,9 @@ fn holds(desk: &Desk<MemSet>, file: &[u8]) -> bool {
             return false;
         }
     }
-    document.get(2) == Some(&n) && exports(desk, id, file) && holds_one(desk)
+    document.get(2) == Some(&n)
+        && desk.export(id).is_ok_and(|bytes| bytes.as_slice() == file)
+        && desk.held().is_ok_and(|held| held.len() == 1)
 }
 
 // What is answered to bytes as the file of the document 9, which stays as it is.
@@ -66,11 +68,7 @@ fn opened(alloc: Global, file: &[u8]) -> &'static str {
     }
     let (name, set) = match Desk::open(alloc, set, 4) {
         Ok(desk) => {
-            let name = if holds(&desk, file) {
-                "sound"
-            } else {
-                "another document"
-            };
+            let name = sound_if(holds(&desk, file));
             (name, desk.close())
         }
         Err(refused) => (refused.fault.name(), refused.store),
@@ -85,16 +83,11 @@ fn opened(alloc: Global, file: &[u8]) -> &'static str {
 // Whether the answer to an import by a desk that held nothing is that to this sound file.
 fn is_answer(imported: Imported, file: &[u8]) -> bool {
     let document = after_version(file);
-    let mut kind = Kind::Complete;
-    for m in 1..=imported.n {
-        if page(document, m).is_none() {
-            kind = Kind::New;
-        }
-    }
+    let is_whole = (1..=imported.n).all(|m| page(document, m).is_some());
     imported.id.number() as u32 == identification(document)
         && document.get(2) == Some(&imported.n)
         && imported.added as u32 == number(document, 3)
-        && imported.kind == kind
+        && imported.kind == if is_whole { Kind::Complete } else { Kind::New }
 }
 
 // What is answered to bytes that a desk imports that holds nothing; only a sound file is saved.
@@ -103,13 +96,7 @@ fn imported(alloc: Global, file: &[u8]) -> &'static str {
         return "no desk";
     };
     let name = match desk.import(file) {
-        Ok(imported) => {
-            if is_answer(imported, file) && holds(&desk, file) {
-                "sound"
-            } else {
-                "another document"
-            }
-        }
+        Ok(imported) => sound_if(is_answer(imported, file) && holds(&desk, file)),
         Err(fault) => fault.name(),
     };
     let is_saved = keys_of(desk.close()) == Some(1);
@@ -118,13 +105,6 @@ fn imported(alloc: Global, file: &[u8]) -> &'static str {
     } else {
         "another set"
     }
-}
-
-// How many keys a set has.
-fn keys_of(set: MemSet) -> Option<u32> {
-    let mut set = set;
-    let keys = set.keys(65_535).ok()?;
-    u32::try_from(keys.len()).ok()
 }
 
 // Whether a set has just the files of the documents of a sound joint file.
@@ -146,31 +126,19 @@ fn has_all(set: MemSet, file: &[u8]) -> bool {
 fn moved(alloc: Global, file: &[u8]) -> Result<&'static str, AllocError> {
     let mut old = MemStore::with(alloc, file.to_vec(alloc)?);
     let mut set = MemSet::new(alloc);
-    let (name, left) = match move_pages(alloc, &mut old, &mut set) {
+    let (name, is_right, left) = match move_pages(alloc, &mut old, &mut set) {
         Ok(count) => {
-            if count as u32 == number(file, 5) && has_all(set, file) {
-                ("sound", JOINT_OF_NONE)
-            } else {
-                ("another set", file)
-            }
+            let is_right = count as u32 == number(file, 5) && has_all(set, file);
+            ("sound", is_right, JOINT_OF_NONE)
         }
-        Err(fault) => {
-            if keys_of(set) == Some(0) {
-                (fault.name(), file)
-            } else {
-                ("another set", file)
-            }
-        }
+        Err(fault) => (fault.name(), keys_of(set) == Some(0), file),
     };
-    Ok(if old.content() == Some(left) {
-        name
-    } else {
-        "other bytes"
-    })
+    let is_right = is_right && old.content() == Some(left);
+    Ok(if is_right { name } else { "another set" })
 }
 
 // What is done with bytes.
-#[derive(Clone, Copy)]
+#[derive(Clone, Copy, PartialEq, Eq)]
 enum How {
     Open,
     Import,
@@ -188,14 +156,12 @@ fn answered(alloc: Global, how: How, file: &[u8]) -> Result<&'static str, AllocE
 
 // What is to be answered by the tables.
 fn wanted(how: How, file: &[u8]) -> &'static str {
-    let name = match how {
-        How::Move => answer(file, 1),
-        _ => answer(file, 2),
-    };
     let is_other = identification(after_version(file)) != u32::from(KEY);
-    match how {
-        How::Open if name == "sound" && is_other => "Damaged",
-        _ => name,
+    let name = answer(file, if how == How::Move { 1 } else { 2 });
+    if name == "sound" && how == How::Open && is_other {
+        "Damaged"
+    } else {
+        name
     }
 }
 

@@ -16,13 +16,7 @@
 //
 // and nothing after that.
 
-// The number whose two bytes stand at a place, or one above all numbers where they are not there.
-pub fn number(bytes: &[u8], at: usize) -> u32 {
-    match (bytes.get(at), bytes.get(at.saturating_add(1))) {
-        (Some(high), Some(low)) => 256 * *high as u32 + *low as u32,
-        _ => 65_536,
-    }
-}
+use crate::printers::number;
 
 // The number of the identification with which a document begins, or one above all numbers.
 pub fn identification(document: &[u8]) -> u32 {
@@ -73,44 +67,28 @@ pub fn length_of(bytes: &[u8]) -> Option<usize> {
 }
 
 // Whether bytes are what a file of version 1 has after its version.
-fn are_joint(bytes: &[u8]) -> bool {
-    let Some(documents) = bytes.get(2..) else {
-        return false;
-    };
-    let mut rest = documents;
+fn are_joint(bytes: &[u8]) -> Option<bool> {
+    let mut rest = bytes.get(2..)?;
     let mut least = 0u32;
     for _ in 0..number(bytes, 0) {
         let number = identification(rest);
-        let Some(length) = length_of(rest) else {
-            return false;
-        };
         if number < least {
-            return false;
+            return None;
         }
         least = number.saturating_add(1);
-        rest = rest.get(length..).unwrap_or(b"");
+        rest = rest.get(length_of(rest)?..)?;
     }
-    rest.is_empty()
+    Some(rest.is_empty())
 }
 
 // The name of the first reason for which a file is none of this version, or `sound`.
 pub fn answer(file: &[u8], version: u8) -> &'static str {
-    if !file.starts_with(b"DMPG") {
-        return "NotPages";
-    }
-    let (Some(found), Some(bytes)) = (file.get(4), file.get(5..)) else {
-        return "Damaged";
-    };
-    let is_sound = if version == 1 {
-        are_joint(bytes)
-    } else {
-        length_of(bytes) == Some(bytes.len())
-    };
-    if *found != version {
-        "Version"
-    } else if is_sound {
-        "sound"
-    } else {
-        "Damaged"
+    let bytes = file.get(5..).unwrap_or(b"");
+    match file.get(4) {
+        _ if !file.starts_with(b"DMPG") => "NotPages",
+        Some(found) if *found != version => "Version",
+        Some(1) if are_joint(bytes) == Some(true) => "sound",
+        Some(2) if length_of(bytes) == Some(bytes.len()) => "sound",
+        _ => "Damaged",
     }
 }

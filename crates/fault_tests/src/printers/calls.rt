@@ -29,11 +29,7 @@ enum Call {
 
 // A call, what is answered to it again where its save was made but failed, and what is saved after it. A document whose
 // print failed so is not printed again here: its number is lost.
-struct Row {
-    call: Call,
-    again: Option<&'static str>,
-    saved: &'static [u8],
-}
+type Row = (Call, Option<&'static str>, &'static [u8]);
 
 const RANGE: Range = Range { first: 0, last: 9 };
 
@@ -43,29 +39,24 @@ const TAKEN: [u8; 10] = [0, 1, 0, 0, 0, 0, 0, 20, 0, 21];
 
 const CREATED: &[u8] = b"DMLG\x02\x00\x00\x00\x00\x01\x00\x00\x00\x09\x00\xff\xf5";
 
+const FIRST_PRINT: &[u8] = b"DMLG\x02\x00\x00\x00\x00\x01\x00\x01\x00\x09\x00\xff\xf6";
+
+const AFTER_GIVE: &[u8] =
+    b"DMLG\x02\x00\x00\x00\x01\x02\x00\x01\x00\x04\x00\x07\x00\x09\x00\xff\xf8";
+
+const AFTER_TAKE: &[u8] =
+    b"DMLG\x02\x00\x00\x00\x01\x03\x00\x01\x00\x04\x00\x07\x00\x09\x00\x14\x00\x15\
+    \x01\x00\x01\x00\x00\xff\xf6";
+
+const SECOND_PRINT: &[u8] =
+    b"DMLG\x02\x00\x00\x00\x01\x03\x00\x02\x00\x04\x00\x07\x00\x09\x00\x14\x00\x15\
+    \x01\x00\x01\x00\x00\xff\xf7";
+
 const ROWS: &[Row] = &[
-    Row {
-        call: Call::Print(0),
-        again: None,
-        saved: b"DMLG\x02\x00\x00\x00\x00\x01\x00\x01\x00\x09\x00\xff\xf6",
-    },
-    Row {
-        call: Call::Give,
-        again: Some("NotFree"),
-        saved: b"DMLG\x02\x00\x00\x00\x01\x02\x00\x01\x00\x04\x00\x07\x00\x09\x00\xff\xf8",
-    },
-    Row {
-        call: Call::Take,
-        again: Some("Old"),
-        saved: b"DMLG\x02\x00\x00\x00\x01\x03\x00\x01\x00\x04\x00\x07\x00\x09\x00\x14\x00\x15\
-            \x01\x00\x01\x00\x00\xff\xf6",
-    },
-    Row {
-        call: Call::Print(1),
-        again: None,
-        saved: b"DMLG\x02\x00\x00\x00\x01\x03\x00\x02\x00\x04\x00\x07\x00\x09\x00\x14\x00\x15\
-            \x01\x00\x01\x00\x00\xff\xf7",
-    },
+    (Call::Print(0), None, FIRST_PRINT),
+    (Call::Give, Some("NotFree"), AFTER_GIVE),
+    (Call::Take, Some("Old"), AFTER_TAKE),
+    (Call::Print(1), None, SECOND_PRINT),
 ];
 
 // More growths than all calls together ask for, and more device calls than they make.
@@ -75,23 +66,13 @@ const MANY: u32 = 1000;
 fn made(printer: &mut FusedPrinter<'_>, call: &Call) -> &'static str {
     match call {
         Call::Print(id) => match printer.print(b"1234", Size::Side12, Scheme::Ascii) {
-            Ok(job) => {
-                if job.id().number() == *id {
-                    "done"
-                } else {
-                    "another number"
-                }
-            }
+            Ok(job) if job.id().number() == *id => "done",
+            Ok(_) => "another number",
             Err(fault) => fault.name(),
         },
         Call::Give => match printer.give(3, Range { first: 5, last: 6 }) {
-            Ok(ticket) => {
-                if ticket.bytes() == GIVEN {
-                    "done"
-                } else {
-                    "another ticket"
-                }
-            }
+            Ok(ticket) if ticket.bytes() == GIVEN => "done",
+            Ok(_) => "another ticket",
             Err(fault) => fault.name(),
         },
         Call::Take => match Ticket::of_bytes(&TAKEN) {
@@ -135,24 +116,19 @@ fn created<'a>(
         Ok(printer) => return printer,
         Err(refused) => refused,
     };
-    if is_saved {
-        assert!(rt; refused.fault == CreateFault::Device);
-        let store = FuseStore::new(refused.store.into_inner(), MANY, Kept::Old);
-        let again = Printer::create(memory, store, 0, RANGE).err();
-        let again = again.expect(rt, "something is saved");
-        assert!(rt; again.fault == CreateFault::Exists);
-        return opened(rt, memory, again.store, CREATED);
-    }
+    assert!(rt; !is_saved || refused.fault == CreateFault::Device);
     let store = refused.store.into_inner();
-    assert!(rt; store.content().is_none());
+    assert!(rt; store.content() == is_saved.then_some(CREATED));
     match Printer::create(memory, FuseStore::new(store, MANY, Kept::Old), 0, RANGE) {
-        Ok(printer) => Some(printer),
-        Err(refused) => {
-            let _store = refused.store;
-            None
+        Ok(printer) => {
+            assert!(rt; !is_saved);
+            printer
+        }
+        Err(again) => {
+            assert!(rt; is_saved && again.fault == CreateFault::Exists);
+            opened(rt, memory, again.store, CREATED)
         }
     }
-    .expect(rt, "it is created")
 }
 
 // How a row is tried: the memory of its printer, what a stopped save leaves, and whether a printer that was refused
@@ -174,19 +150,21 @@ fn made_again<'a>(
     answer: &str,
 ) -> FusedPrinter<'a> {
     let mut printer = printer;
-    let is_saved = answer == "Save" && way.kept == Kept::New;
-    if answer == "Save" {
-        assert!(rt; made(&mut printer, &row.call) == "Failed");
+    let (call, again, after) = row;
+    let is_save = answer == "Save";
+    let is_saved = is_save && way.kept == Kept::New;
+    if is_save {
+        assert!(rt; made(&mut printer, call) == "Failed");
     } else {
         assert!(rt; answer == "Memory");
     }
-    if answer == "Save" || way.is_reopened {
-        let saved = if is_saved { row.saved } else { before };
+    if is_save || way.is_reopened {
+        let saved = if is_saved { *after } else { before };
         printer = opened(rt, way.memory, printer.close(), saved);
     }
-    let wanted = if is_saved { row.again } else { Some("done") };
+    let wanted = if is_saved { *again } else { Some("done") };
     if let Some(wanted) = wanted {
-        assert!(rt; made(&mut printer, &row.call) == wanted);
+        assert!(rt; made(&mut printer, call) == wanted);
     }
     printer
 }
@@ -204,12 +182,13 @@ fn run(rt: &impl Abort, way: &Way<'_>, passes: u32) -> Option<usize> {
     let mut before = CREATED;
     let mut stopped = None;
     for (place, row) in ROWS.iter().enumerate() {
-        let answer = made(&mut printer, &row.call);
+        let (call, _, after) = row;
+        let answer = made(&mut printer, call);
         if answer != "done" {
             stopped = Some(place);
             printer = made_again(rt, way, printer, row, before, answer);
         }
-        before = row.saved;
+        before = *after;
     }
     assert!(rt; printer.close().into_inner().content() == Some(before));
     stopped
@@ -238,8 +217,8 @@ fn the_store_stops_at_each_call(rt: HostRuntime) {
 fn each_growth_is_refused(rt: HostRuntime) {
     for is_reopened in [false, true] {
         let mut refusals = [0u32; 4];
-        let mut is_done = false;
-        for passes in 0..MANY {
+        for passes in 0..=MANY {
+            assert!(rt; passes < MANY);
             let memory = Refusing::new(rt.alloc(), u64::from(passes));
             let way = Way {
                 memory: &memory,
@@ -253,11 +232,9 @@ fn each_growth_is_refused(rt: HostRuntime) {
                 }
             }
             if !memory.is_spent() {
-                is_done = true;
                 break;
             }
         }
-        assert!(rt; is_done);
         // Each call takes memory, and a print much more of it than the others.
         let [print, give, take, again] = refusals;
         assert!(rt; print > give && give > 0 && take > 0 && again > 0);

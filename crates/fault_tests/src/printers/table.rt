@@ -26,10 +26,8 @@ pub fn number(bytes: &[u8], at: usize) -> u32 {
 
 // The place of the byte that counts the givers of a ledger.
 pub fn givers_at(ledger: &[u8]) -> usize {
-    match ledger.get(9) {
-        Some(ranges) => 10 + 4 * *ranges as usize,
-        None => 10,
-    }
+    let ranges = ledger.get(9).copied().unwrap_or(0);
+    10 + 4 * ranges as usize
 }
 
 // How many numbers that many ranges of a ledger have, if they are in order.
@@ -64,10 +62,9 @@ fn rise(ledger: &[u8], at: usize, givers: u8) -> bool {
 // Whether bytes that begin as a ledger of version 2 are one.
 fn is_second(ledger: &[u8]) -> bool {
     let at = givers_at(ledger);
-    let (Some(ranges), Some(givers)) = (ledger.get(9), ledger.get(at)) else {
+    let (Some(ranges), Some(givers)) = (ledger.get(9).copied(), ledger.get(at).copied()) else {
         return false;
     };
-    let (ranges, givers) = (*ranges, *givers);
     let length = at.saturating_add(3 + 4 * givers as usize);
     if ranges > 64 || givers > 64 || ledger.len() != length {
         return false;
@@ -90,27 +87,13 @@ fn is_first(ledger: &[u8]) -> bool {
 
 // The name of the first refusal to open bytes as the ledger of a printer, or `opened`.
 pub fn answer(ledger: &[u8], printer: u32) -> &'static str {
-    if !ledger.starts_with(b"DMLG") {
-        return "NotALedger";
-    }
     match ledger.get(4) {
-        Some(1) => {
-            if is_first(ledger) {
-                "opened"
-            } else {
-                "Damaged"
-            }
-        }
-        Some(2) => {
-            if !is_second(ledger) {
-                "Damaged"
-            } else if number(ledger, 5) != printer {
-                "Number"
-            } else {
-                "opened"
-            }
-        }
+        _ if !ledger.starts_with(b"DMLG") => "NotALedger",
+        Some(1) if is_first(ledger) => "opened",
+        Some(2) if !is_second(ledger) => "Damaged",
+        Some(2) if number(ledger, 5) != printer => "Number",
+        Some(2) => "opened",
+        Some(1) | None => "Damaged",
         Some(_) => "Version",
-        None => "Damaged",
     }
 }

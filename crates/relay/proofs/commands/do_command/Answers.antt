@@ -39,7 +39,7 @@ returns-in-Left g c = let beside = c.beside-in-Left.ensures in
     rw c.in-Left.is (rw beside.status (rw beside.store (c.left_command.ensures, beside.set)))
 
 pub returns-in-Scan : goal.returns-in-Scan
-returns-in-Scan g c = rw c.in-Scan.is c.scan_with_notes.ensures
+returns-in-Scan g c = rw c.in-Scan.is c.scan_command.ensures
 
 pub returns-in-Deliver : goal.returns-in-Deliver
 returns-in-Deliver g c = rw c.in-Deliver.is c.deliver_command.ensures

@@ -1,6 +1,6 @@
 use Rattle.std.proofs.Common.{refl, subst}
 use Rattle.dm_pbm_io.specs.Image.{Picture, written}
-use Rattle.relay_shared.specs.Surroundings.{StreamsView}
+use Rattle.relay_shared.specs.Command.{StreamsView}
 use Rattle.relay_desk_commands.specs.Copy.{IsAsked}
 use Rattle.relay_desk_commands.specs.Copy.EndsCopy.{no_id, no_side, no_desk, copied, refused}
 use Rattle.relay_desk_commands.specs.Desks.{TellsBytes}

@@ -1,5 +1,5 @@
 use Rattle.std.proofs.Common.{refl}
-use Rattle.relay_printer_commands.specs.Left.EndsLeft.{shown, refused}
+use Rattle.relay_printer_commands.specs.Printers.EndsLeft.{shown, refused}
 use Rattle.relay_shared.proofs.Telling.{told}
 use Rattle.relay_printer_commands.proofs.left.left_command.Goals as goal
 

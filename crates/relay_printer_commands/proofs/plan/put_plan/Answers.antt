@@ -1,4 +1,4 @@
-use Rattle.relay_shared.specs.PlanLines.{side_line}
+use Rattle.relay_shared.specs.Lines.{side_line}
 use Rattle.relay_shared.proofs.Lines.{puts_before}
 use Rattle.relay_printer_commands.proofs.plan.put_plan.Goals as goal
 

@@ -11,7 +11,7 @@ use Rattle.dm_print_ledger.specs.Ledger.{JobView}
 use Rattle.relay_streams.specs.Streams.{AppendsPart}
 use Rattle.relay_streams.proofs.Parts.{part_after, part_more, part_whole}
 use Rattle.relay_printer_commands.specs.Print.{images_of}
-use Rattle.relay_printer_commands.specs.inner.Images.LosesImages.{memory, write}
+use Rattle.relay_printer_commands.specs.inner.Failing.LosesImages.{memory, write}
 use Rattle.relay_printer_commands.proofs.print.put_images.Goals as goal
 
 -- the labels that were taken, the next one, and the others

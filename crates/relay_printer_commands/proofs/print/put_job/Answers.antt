@@ -1,4 +1,4 @@
-use Rattle.relay_shared.specs.PrinterLines.{printed_line}
+use Rattle.relay_shared.specs.Lines.{printed_line}
 use Rattle.relay_printer_commands.proofs.PrintedLabels.{some_are_lost}
 use Rattle.relay_printer_commands.proofs.print.put_job.Goals as goal
 

@@ -1,6 +1,6 @@
 use Rattle.std.proofs.Common.{◌≡◌}
 use Rattle.std.proofs.lemmas.Result.{err_from_is_err_and}
-use Rattle.relay_script.specs.declared.fault.ScriptFault.TheVariants.{Script}
+use Rattle.relay_script.specs.declared.words.ScriptFault.TheVariants.{Script}
 use Rattle.relay_script.proofs.event_lines.print.Goals as goal
 
 pub returns-in_err-bytes-clause-no_print : goal.returns-in_err-bytes-clause-no_print

@@ -6,7 +6,7 @@ use Rattle.std.proofs.lemmas.Slice.Zip.{AllZip-long}
 use Rattle.relay_script.proofs.Lines.{one_more_read, all_read}
 use Rattle.relay_script.proofs.Refused.{none_at}
 use Rattle.relay_script.proofs.Same.{no_event_line}
-use Rattle.relay_script.specs.declared.fault.ScriptFault.TheVariants.{Script}
+use Rattle.relay_script.specs.declared.words.ScriptFault.TheVariants.{Script}
 use Rattle.relay_script.specs.Scripts.{SpellsEventLine}
 use Rattle.relay_script.proofs.script.read_events.Goals as goal
 

@@ -7,7 +7,7 @@ use Rattle.relay_script.proofs.Ascii.{IsAscii-script}
 use Rattle.relay_script.proofs.Lines.{parts_of}
 use Rattle.relay_script.proofs.Same.{desks_no_range}
 use Rattle.relay_script.proofs.Whole.{its_lines, its_parts, its_ranges, refused_as}
-use Rattle.relay_script.specs.declared.fault.ScriptFault.TheVariants.{Script as Blamed}
+use Rattle.relay_script.specs.declared.words.ScriptFault.TheVariants.{Script as Blamed}
 use Rattle.relay_script.specs.Scripts.{IsScript, SpellsEventLine, SpellsRange}
 use Rattle.relay_script.proofs.script.read_script.Goals as goal
 

@@ -1,5 +1,6 @@
-use Rattle.std.proofs.Common.{Err, ap}
+use Rattle.std.proofs.Common.{Err, ap, arith}
 use Rattle.relay_world_command.specs.World.EndsWorld.{not_read, no_script, no_world, answered}
+use Rattle.relay_world_command.proofs.Played.{tells}
 use Rattle.relay_world_command.proofs.world.world_command.Goals as goal
 
 pub returns-in-Err-clause-ends : goal.returns-in-Err-clause-ends
@@ -17,18 +18,18 @@ returns-in-Err-read_script-clause-ends g c =
     (rw c.deref.ensures.value at c.in-Err-read_script.ensures)
     (rw c.name-in-Err-read_script.ensures at c.refuse-in-Err-read_script.ensures))
 
-pub returns-in-Ok-watch-clause-ends : goal.returns-in-Ok-watch-clause-ends
-returns-in-Ok-watch-clause-ends g c =
-    rw (← c.streams.view_is) (answered c.in-Ok.bytes.items c.in-Ok-read_script.script c.in-Ok-watch.answers.items
+pub returns-in-Ok-play-clause-ends : goal.returns-in-Ok-play-clause-ends
+returns-in-Ok-play-clause-ends g c =
+    let played = c.in-Ok-play.ensures.played in
+    rw (← c.streams.view_is) (answered c.in-Ok.bytes.items c.in-Ok-read_script.script played.0
     c.in-Ok.ensures.read
-    (rw c.deref.ensures.value at c.in-Ok-read_script.ensures)
-    (rw (c.deref-2.ensures.value, c.deref-3.ensures.value, c.deref-4.ensures.value) at c.in-Ok-watch.ensures.headline)
-    (rw c.deref-in-Ok-watch.ensures.value at c.tell.ensures))
+    (rw c.deref.ensures.value at c.in-Ok-read_script.ensures) played.1
+    (tells played.0 _ _ played.3 c.in-Ok-play.refused c.has_failed.result _ played.4 played.2 c.has_failed.ensures
+    (grind (arith, c.from.ensures))))
 
 pub returns-clause-ends : goal.returns-clause-ends
 returns-clause-ends g c =
-    rw (← c.streams.view_is) (no_world c.in-Ok.bytes.items c.in-Ok-read_script.script c.in-Err-watch.fault
+    rw (← c.streams.view_is) (no_world c.in-Ok.bytes.items c.in-Ok-read_script.script c.in-Err-play.fault
     c.in-Ok.ensures.read
-    (rw c.deref.ensures.value at c.in-Ok-read_script.ensures)
-    (rw (c.deref-2.ensures.value, c.deref-3.ensures.value) at c.in-Err-watch.ensures.refused)
-    (rw c.name-in-Err-watch.ensures at c.refuse-in-Err-watch.ensures))
+    (rw c.deref.ensures.value at c.in-Ok-read_script.ensures) c.in-Err-play.ensures.refused
+    (rw (c.name-in-Err-play.ensures, c.in-Err-play.ensures.silent) at c.refuse-in-Err-play.ensures))

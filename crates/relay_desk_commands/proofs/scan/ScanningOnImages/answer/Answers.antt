@@ -1,15 +1,16 @@
 use Rattle.std.proofs.Common.{Ok, Err, ap, refl, sym, ◌∙◌}
 use Rattle.std.proofs.lemmas.Result.{err_from_is_err_and}
-use Rattle.relay_desk_commands.specs.Scan.ScansPicture.{accepted, refused}
-use Rattle.relay_desk_commands.proofs.ScanLaws.{after_scan, no_grid, no_save}
+use Rattle.relay_desk_commands.specs.Desks.ScansPicture.{accepted, no_grid, refused}
+use Rattle.relay_desk_commands.proofs.ScanLaws.{after_scan, has_no_grid, no_save}
 use Rattle.relay_desk_commands.proofs.scan.ScanningOnImages.answer.Goals.{in-Save, in_default}
 use Rattle.relay_desk_commands.proofs.scan.ScanningOnImages.answer.Goals as goal
 
 pub returns-in-Err-clause-answer : goal.returns-in-Err-clause-answer
 returns-in-Err-clause-answer g c = record {
   said = _;
-  answers = no_grid c.in-Err.shape (λ e. c.in-Err.ensures.shape (ap Err e)) (λ e. c.in-Err.ensures.memory (ap Err e));
-  told = (rw c.name.ensures at c.in_ok-put_refusal-in-Err.ensures.written, refl, sym c.requires.running);
+  answers = no_grid c.in-Err.shape (has_no_grid c.in-Err.shape (λ e. c.in-Err.ensures.shape (ap Err e))
+      (λ e. c.in-Err.ensures.memory (ap Err e))) (rw c.name-name.ensures at c.put_note.ensures);
+  told = (rw c.name-name.ensures at c.in_ok-put_refusal-in-Err.ensures.written, refl, sym c.requires.running);
 }
 
 pub returns-in_err-put_refusal-in-Err-clause-answer : goal.returns-in_err-put_refusal-in-Err-clause-answer
@@ -18,8 +19,9 @@ returns-in_err-put_refusal-in-Err-clause-answer g c =
     rw p.1 record {
       said = _;
       answers =
-          no_grid c.in-Err.shape (λ e. c.in-Err.ensures.shape (ap Err e)) (λ e. c.in-Err.ensures.memory (ap Err e));
-      told = (rw c.name.ensures at c.put_refusal.ensures.part, c.in_err-put_refusal-in-Err.ensures.failed);
+          no_grid c.in-Err.shape (has_no_grid c.in-Err.shape (λ e. c.in-Err.ensures.shape (ap Err e))
+          (λ e. c.in-Err.ensures.memory (ap Err e))) (rw c.name-name.ensures at c.put_note.ensures);
+      told = (rw c.name-name.ensures at c.put_refusal.ensures.part, c.in_err-put_refusal-in-Err.ensures.failed);
     }
 
 pub returns-in-Ok-accept-clause-answer : goal.returns-in-Ok-accept-clause-answer
@@ -50,11 +52,12 @@ returns-clause-answer g c =
     let fault = c.in-Err-accept.fault in
     let accepts = c.in-Err-accept.ensures.scanned c.requires.running in
     let inside = c.in-Ok.ensures.grid in
-    let line = rw c.name-in-Err-accept.ensures at c.in_ok-put_refusal-in-Err-accept.ensures.written in
+    let line = rw c.name-name-in-Err-accept.ensures at c.in_ok-put_refusal-in-Err-accept.ensures.written in
     let ends = after_scan accepts.opened _ (Err fault) c.accept.new.self c.requires.running accepts.scans in
     record {
       said = _;
-      answers = refused c.in-Ok.grid fault inside.0 inside.1 accepts;
+      answers = refused c.in-Ok.grid fault c.id_of_label-id.result inside.0 inside.1 accepts c.id_of_label-id.ensures
+          (rw c.name-name-in-Err-accept.ensures at c.put_note-in-Err-accept.ensures);
       told = elim c.match-matches.branch [
         | in-Save w ↦ rw w.result-is (line, refl, rw w.in-Save.is at (sym ends))
         | in_default w ↦ rw w.result-is (line, refl, sym (ends ∙ no_save fault w.in_default.not-Save))
@@ -68,10 +71,11 @@ returns-in_err-put_refusal-in-Err-accept-clause-answer g c =
     let inside = c.in-Ok.ensures.grid in
     rw p.1 record {
       said = _;
-      answers = refused c.in-Ok.grid c.in-Err-accept.fault inside.0 inside.1
-          (c.in-Err-accept.ensures.scanned c.requires.running);
+      answers = refused c.in-Ok.grid c.in-Err-accept.fault c.id_of_label-id.result inside.0 inside.1
+          (c.in-Err-accept.ensures.scanned c.requires.running) c.id_of_label-id.ensures
+          (rw c.name-name-in-Err-accept.ensures at c.put_note-in-Err-accept.ensures);
       told = (
-        rw c.name-in-Err-accept.ensures at c.put_refusal-in-Err-accept.ensures.part,
+        rw c.name-name-in-Err-accept.ensures at c.put_refusal-in-Err-accept.ensures.part,
         c.in_err-put_refusal-in-Err-accept.ensures.failed,
       );
     }

@@ -1,0 +1,68 @@
+//! Each command over memory that is refused, growth by growth.
+
+use crate::calls::{CALLS, Call, Whole, alone, alone_whole, streams_of};
+use std::alloc::Global;
+use std::process::Abort;
+use std::test::Fail;
+use test_helpers::Refusing;
+
+// More growths than any of these commands asks for.
+const MOST_GROWTHS: u64 = 1_000;
+
+const LINE: &[u8] = b"refused Memory\n";
+
+// Whether a print was refused after its save: its line is out, the identification is used, and the labels before the
+// refusal are out.
+fn is_cut_short(ended: &Whole, whole: &Whole, call: Call) -> bool {
+    matches!(call, Call::Print | Call::PrintAuto)
+        && ended.status == 1
+        && whole.writer.starts_with(&ended.writer)
+        && ended.errors.strip_prefix(whole.errors.as_slice()) == Some(LINE)
+        && ended.files == whole.files
+}
+
+fn is_whole(ended: &Whole, whole: &Whole) -> bool {
+    ended.status == 0
+        && ended.writer == whole.writer
+        && ended.errors == whole.errors
+        && ended.files == whole.files
+}
+
+// Refuses the first growth of a command, the second and so on, until none is, and says how many there were. Where one
+// is refused nothing is done, or a print is cut short, or all is done, since std asks for less where its first growth
+// is refused.
+fn refusals_of(rt: &impl Abort, alloc: Global, call: Call) -> Result<u64, Fail> {
+    let whole = alone_whole(alloc, call)?;
+    for passes in 0..MOST_GROWTHS {
+        let memory = Refusing::new(alloc, passes);
+        let ended = alone(&memory, alloc, streams_of(alloc, call.input()), call)?;
+        if !memory.is_spent() {
+            assert!(rt; is_whole(&ended, &whole), "{call:?} {passes}");
+            return Ok(passes);
+        }
+        assert!(rt;
+            ended.is_refused(call, LINE)
+                || is_cut_short(&ended, &whole, call)
+                || is_whole(&ended, &whole),
+            "{call:?} {passes}"
+        );
+    }
+    Err("growths without end".into())
+}
+
+// `ledger`, `give`, `take`, `left`, `ticket` and `held` take no memory of their own. The growths of a world are refused
+// in a test of another crate.
+#[test]
+fn commands_are_refused_by_name(rt: HostRuntime) -> Result<(), Fail> {
+    for call in CALLS {
+        if !matches!(call, Call::World) {
+            let refusals = refusals_of(&rt, rt.alloc(), call)?;
+            let takes_none = matches!(
+                call,
+                Call::Ticket | Call::Ledger | Call::Give | Call::Take | Call::Left | Call::Held(_)
+            );
+            assert!(rt; (refusals == 0) == takes_none, "{call:?} {refusals}");
+        }
+    }
+    Ok(())
+}

@@ -1,0 +1,263 @@
+//! Each command that saves, stopped at each call of the disk, over the worst disk that the contract of disks allows.
+//! Whatever the stop leaves, the next commands find all that was answered, and at most the one save more that was
+//! under way.
+
+use crate::calls::{BOTH, Call, LABEL, LABELS, OTHER, Whole, made};
+use crate::left_files::{LeftFiles, files_on};
+use crate::machine::{MOST_CALLS, Machine};
+use dm_store::Kept;
+use std::alloc::Global;
+use std::process::Abort;
+use std::test::Fail;
+use test_helpers::MemDisk;
+
+// More calls of the disk than the move of an old file makes.
+const MOST_CALLS_OF_A_MOVE: u32 = 24;
+
+// A command that looks at what was saved, and the line that it writes after none of the saves, after the first, and so
+// on.
+type Look = (Call, &'static [&'static [u8]]);
+
+// The commands that are done before, the one that is stopped, and those that look at what is left, one after another.
+struct Case {
+    before: &'static [Call],
+    call: Call,
+    looks: &'static [Look],
+}
+
+const PRINTS: &[&[u8]] = &[b"printed 0102 2 left 8\n", b"printed 0103 2 left 7\n"];
+
+const PRINTERS: &[Case] = &[
+    Case {
+        before: &[],
+        call: Call::Ledger,
+        looks: &[(Call::Ledger, &[b"left 10\n", b"refused Exists\n"])],
+    },
+    Case {
+        before: &[Call::Ledger, Call::Print],
+        call: Call::Print,
+        looks: &[(Call::Print, PRINTS)],
+    },
+    Case {
+        before: &[Call::Ledger, Call::Print],
+        call: Call::PrintAuto,
+        looks: &[(Call::Print, PRINTS)],
+    },
+    Case {
+        before: &[Call::Ledger, Call::Print],
+        call: Call::Give,
+        looks: &[
+            (
+                Call::Print,
+                &[b"printed 0102 2 left 8\n", b"printed 0102 2 left 3\n"],
+            ),
+            (
+                Call::Give,
+                &[b"ticket 00000000000100050009\n", b"refused NotFree\n"],
+            ),
+        ],
+    },
+    Case {
+        before: &[Call::Ledger],
+        call: Call::Take,
+        looks: &[(Call::Take, &[b"taken left 12\n", b"refused Old\n"])],
+    },
+];
+
+// What an import of both pages answers where neither is held, or the second alone, the first alone, or both.
+const ADDED_BOTH: &[u8] = b"0101 2 added 0003 complete\n";
+
+const ADDED_FIRST: &[u8] = b"0101 2 added 0001 complete\n";
+
+const ADDED_SECOND: &[u8] = b"0101 2 added 0002 complete\n";
+
+const ADDED_NONE: &[u8] = b"0101 2 added 0000 again\n";
+
+const OTHER_ADDED_NONE: &[u8] = b"0103 2 added 0000 again\n";
+
+const OTHER_IS_HELD: Look = (Call::Import(OTHER), &[OTHER_ADDED_NONE, OTHER_ADDED_NONE]);
+
+const DESKS: &[Case] = &[
+    Case {
+        before: &[],
+        call: Call::Scan(LABELS),
+        looks: &[(Call::Import(BOTH), &[ADDED_BOTH, ADDED_SECOND, ADDED_NONE])],
+    },
+    Case {
+        before: &[Call::Scan(LABEL)],
+        call: Call::Import(BOTH),
+        looks: &[(Call::Import(BOTH), &[ADDED_SECOND, ADDED_NONE])],
+    },
+    Case {
+        before: &[Call::Import(BOTH)],
+        call: Call::Forget("0101"),
+        looks: &[(Call::Import(BOTH), &[ADDED_NONE, ADDED_BOTH])],
+    },
+    // The documents of the joint file are moved first: the second page of the one, and a page of another.
+    Case {
+        before: &[Call::Joint],
+        call: Call::Import(BOTH),
+        looks: &[
+            (Call::Import(BOTH), &[ADDED_FIRST, ADDED_NONE]),
+            OTHER_IS_HELD,
+        ],
+    },
+    Case {
+        before: &[Call::Joint],
+        call: Call::Forget("0101"),
+        looks: &[
+            (Call::Import(BOTH), &[ADDED_FIRST, ADDED_BOTH]),
+            OTHER_IS_HELD,
+        ],
+    },
+];
+
+// How many saves a command answers: a scan is of two labels.
+fn saves_of(call: Call) -> u8 {
+    if matches!(call, Call::Scan(_)) { 2 } else { 1 }
+}
+
+// How many saves it has answered: those of its lines that are no refusal.
+fn answered(lines: &[u8]) -> u8 {
+    let mut count = 0u8;
+    for line in lines.split(|byte| *byte == b'\n') {
+        if !line.is_empty() && !line.starts_with(b"refused ") {
+            count = count.saturating_add(1);
+        }
+    }
+    count
+}
+
+// Whether a command was done, or else has named a refusal last, and has told of no more than it answered.
+fn ends_well(ended: &Whole, call: Call) -> bool {
+    let (lines, _) = ended.told(call);
+    let count = answered(lines);
+    if ended.status == 0 {
+        return count == saves_of(call);
+    }
+    count <= saves_of(call)
+        && (lines.ends_with(b"refused Save\n") || lines.ends_with(b"refused Device\n"))
+        && (count > 0 || ended.tells_no_more(call))
+}
+
+// A disk on which the commands are done.
+fn disk_after(alloc: Global, calls: &[Call]) -> Result<MemDisk, Fail> {
+    let mut disk = MemDisk::new(alloc);
+    for call in calls {
+        let ended = made(alloc, Machine::whole(alloc, disk)?, *call)?;
+        if ended.status != 0 {
+            return Err("a command before is refused".into());
+        }
+        disk = ended.disk;
+    }
+    Ok(disk)
+}
+
+// After how many of the saves a disk stands, as each look says: bit i for i of them.
+fn saves_on(alloc: Global, disk: MemDisk, looks: &[Look]) -> Result<u8, Fail> {
+    let mut disk = disk;
+    let mut saves = u8::MAX;
+    for (call, written) in looks {
+        let ended = made(alloc, Machine::whole(alloc, disk)?, *call)?;
+        let mut here = 0u8;
+        for (count, line) in written.iter().enumerate() {
+            if ended.told(*call).0 == *line {
+                here |= 1u8 << (count % 8);
+            }
+        }
+        saves &= here;
+        disk = ended.disk;
+    }
+    Ok(saves)
+}
+
+// A stop at a call: whether the command was done before it, and after how many of the saves what is left may stand, as
+// bits; or nothing, where a command ends as it must not, or what was answered is gone.
+fn stop(alloc: Global, case: &Case, passes: u32, kept: Kept) -> Result<Option<(bool, u8)>, Fail> {
+    let disk = disk_after(alloc, case.before)?;
+    let ended = made(alloc, Machine::new(alloc, disk, passes, kept)?, case.call)?;
+    if !ends_well(&ended, case.call) {
+        return Ok(None);
+    }
+    let is_done = ended.status == 0;
+    let allowed = (if is_done { 1u8 } else { 3 }) << (answered(ended.told(case.call).0) % 8);
+    let left = LeftFiles::on(alloc, &ended.disk, &ended.old, &ended.files)?;
+    let mut seen = 0u8;
+    for number in 0..left.count() {
+        let saves = allowed & saves_on(alloc, left.way(alloc, number)?, case.looks)?;
+        if saves == 0 {
+            return Ok(None);
+        }
+        seen |= saves;
+    }
+    Ok(Some((is_done, seen)))
+}
+
+// Stops the command at each call, until it is done; and what is left stands after each number of saves somewhere.
+fn stops(rt: &impl Abort, alloc: Global, case: &Case, kept: Kept) -> Result<(), Fail> {
+    let mut seen = 0u8;
+    for passes in 0..MOST_CALLS {
+        let ended = stop(alloc, case, passes, kept)?;
+        assert!(rt; ended.is_some(), "{:?} {passes} {kept:?}", case.call);
+        if let Some((is_done, saves)) = ended {
+            seen |= saves;
+            if is_done {
+                let all = u8::MAX >> (7 - saves_of(case.call) % 8);
+                assert!(rt; seen == all, "{:?} {kept:?}", case.call);
+                return Ok(());
+            }
+        }
+    }
+    Err("calls without end".into())
+}
+
+#[test]
+fn a_printer_keeps_what_it_answered(rt: HostRuntime) -> Result<(), Fail> {
+    for case in PRINTERS.iter() {
+        for kept in [Kept::Old, Kept::New] {
+            stops(&rt, rt.alloc(), case, kept)?;
+        }
+    }
+    Ok(())
+}
+
+#[test]
+fn a_desk_keeps_what_it_answered(rt: HostRuntime) -> Result<(), Fail> {
+    for case in DESKS.iter() {
+        for kept in [Kept::Old, Kept::New] {
+            stops(&rt, rt.alloc(), case, kept)?;
+        }
+    }
+    Ok(())
+}
+
+// The move of an old file, stopped twice. A file that the first stop left is there for a reader, but a second stop may
+// take it back until the set has listed its keys; both documents of the old file are found whatever is left. The
+// command moves them first, and adds nothing to them.
+fn keeps_both(alloc: Global, first: u32, second: u32) -> Result<bool, Fail> {
+    let mut disk = disk_after(alloc, &[Call::Joint])?;
+    let old = files_on(alloc, &mut disk)?;
+    for passes in [first, second] {
+        let machine = Machine::new(alloc, disk, passes, Kept::Old)?;
+        disk = made(alloc, machine, Call::Import(OTHER))?.disk;
+    }
+    let new = files_on(alloc, &mut disk)?;
+    let left = LeftFiles::on(alloc, &disk, &old, &new)?;
+    let looks: &[Look] = &[(Call::Import(BOTH), &[ADDED_FIRST]), OTHER_IS_HELD];
+    let mut keeps = true;
+    for number in 0..left.count() {
+        keeps &= saves_on(alloc, left.way(alloc, number)?, looks)? & 1 == 1;
+    }
+    Ok(keeps)
+}
+
+#[test]
+fn a_move_stopped_twice_keeps_both_documents(rt: HostRuntime) -> Result<(), Fail> {
+    for first in 0..MOST_CALLS_OF_A_MOVE {
+        for second in 0..MOST_CALLS_OF_A_MOVE {
+            let keeps = keeps_both(rt.alloc(), first, second)?;
+            assert!(rt; keeps, "{first} {second}");
+        }
+    }
+    Ok(())
+}

@@ -1,0 +1,149 @@
+//! The commands of one document of a desk, named by its identification: `relay deliver` gives it back, `relay export`
+//! gives the pages that are held of it, for another desk, and `relay forget` lets it go.
+
+ghost use Rattle.std.specs.Prelude.{MatchResult, ◌≡◌, false, Result};
+ghost use Rattle.std.specs.FinMap as map;
+ghost use Rattle.relay_desk_commands.specs.Desks.{EndsDeliver, EndsExport, EndsGiving, Gives, TellsBytes, Withholds, desk_at, EndsForget};
+ghost use Rattle.dm_assembly_desk.specs.Faults.{forget_fault_name};
+ghost use Rattle.dm_assembly_desk.specs.Adding.{Forgets};
+ghost use Rattle.dm_assembly_desk.specs.declared.fault.ForgetFault.{ForgetFault};
+ghost use Rattle.relay_shared.specs.Lines.{forgotten_line};
+ghost use Rattle.relay_shared.specs.Command.{TellsAnswer};
+
+use crate::desk_opening::{id_of, open_desk};
+use dm_append_label::FileId;
+use dm_assembly_desk::{AskFault, Desk, ExportFault, MOST_CAPACITY};
+use dm_store::{Store, StoreSet};
+use relay_shared::{EndedDesk, Refusal, Streams, put_forgotten, refuse, status_after};
+use relay_streams::{Output, WriteFault};
+use std::alloc::Allocator;
+use std::io::{Read, Write};
+
+/// What is given out of a document.
+#[derive(Clone, Copy, Debug, PartialEq, Eq)]
+pub(crate) enum Given {
+    /// The document itself.
+    Document,
+    /// The file of the pages that are held.
+    File,
+}
+
+fn put_bytes<R: Read, W: Write, E: Write>(streams: &mut Streams<R, W, E>, bytes: &[u8]) -> u8
+    ensures { TellsBytes bytes.now streams.old result streams.new }
+{
+    match streams.output.put(bytes) {
+        Ok(()) => 0,
+        Err(WriteFault::Write) => refuse(&mut streams.errors, WriteFault::Write.name()),
+    }
+}
+
+fn bytes_of<A: Allocator + Copy, T: StoreSet>(
+    desk: &Desk<T, A>,
+    id: FileId,
+    given: Given,
+) -> Result<Vec<u8, A>, &'static str>
+    ensures { MatchResult result
+        (λ bytes. Gives given id (map.get desk.now.held id) bytes.items)
+        (λ name. Withholds given id (map.get desk.now.held id) name.now) }
+{
+    match given {
+        Given::Document => desk.document(id).map_err(AskFault::name),
+        Given::File => desk.export(id).map_err(ExportFault::name),
+    }
+}
+
+fn give_out<A: Allocator + Copy, S: Store, T: StoreSet, R: Read, W: Write, E: Write>(
+    alloc: A,
+    store: S,
+    set: T,
+    streams: &mut Streams<R, W, E>,
+    text: &str,
+    given: Given,
+) -> EndedDesk<S, T>
+    ensures { EndsGiving given text.now (desk_at (S.state store) (T.state set) streams.old) result.status
+        (desk_at (S.state result.store) (T.state result.set) streams.new) }
+{
+    let Some(id) = id_of(text) else {
+        let status = refuse(&mut streams.errors, Refusal::FileId.name());
+        return EndedDesk { status, store, set };
+    };
+    let opened = match open_desk(alloc, store, set, &mut streams.errors, MOST_CAPACITY) {
+        Ok(opened) => opened,
+        Err(ended) => return ended,
+    };
+    let status = match bytes_of(&opened.desk, id, given) {
+        Ok(bytes) => put_bytes(streams, &bytes),
+        Err(name) => refuse(&mut streams.errors, name),
+    };
+    opened.end(status)
+}
+
+/// Writes the document of an identification, whose two words the text has in hexadecimal, where each of its pages is
+/// held, and nothing else. A refusal is a line on `errors`. The text is looked at before the files.
+pub fn deliver_command<A: Allocator + Copy, S: Store, T: StoreSet, R: Read, W: Write, E: Write>(
+    alloc: A,
+    store: S,
+    set: T,
+    streams: &mut Streams<R, W, E>,
+    text: &str,
+) -> EndedDesk<S, T>
+    ensures { EndsDeliver text.now (desk_at (S.state store) (T.state set) streams.old) result.status
+        (desk_at (S.state result.store) (T.state result.set) streams.new) }
+{
+    give_out(alloc, store, set, streams, text, Given::Document)
+}
+
+/// Writes the file of the pages that are held of a document, for `import` at another desk. A refusal is a line on
+/// `errors`. The text, as for `deliver`, is looked at before the files.
+pub fn export_command<A: Allocator + Copy, S: Store, T: StoreSet, R: Read, W: Write, E: Write>(
+    alloc: A,
+    store: S,
+    set: T,
+    streams: &mut Streams<R, W, E>,
+    text: &str,
+) -> EndedDesk<S, T>
+    ensures { EndsExport text.now (desk_at (S.state store) (T.state set) streams.old) result.status
+        (desk_at (S.state result.store) (T.state result.set) streams.new) }
+{
+    give_out(alloc, store, set, streams, text, Given::File)
+}
+
+#[tactic(auto, using(relay_shared::proofs::Telling::told))]
+fn forget<A: Allocator + Copy, T: StoreSet, W: Write>(
+    desk: &mut Desk<T, A>,
+    output: &mut Output<W>,
+    id: FileId,
+) -> u8
+    requires { desk.old.is_failed ≡ false }
+    ensures { (reply : Result (Unit {0}) ForgetFault) × Forgets id desk.old reply desk.new
+        × TellsAnswer (λ _. forgotten_line id) forget_fault_name reply output.old result output.new }
+{
+    match desk.forget(id) {
+        Ok(()) => status_after(put_forgotten(output, id)),
+        Err(fault) => refuse(output, fault.name()),
+    }
+}
+
+/// Lets a document go, and prints `forgotten IIII`, its identification, or the line `refused NAME`. The text, as for
+/// `deliver`, is looked at before the files.
+pub fn forget_command<A: Allocator + Copy, S: Store, T: StoreSet, R: Read, W: Write, E: Write>(
+    alloc: A,
+    store: S,
+    set: T,
+    streams: &mut Streams<R, W, E>,
+    text: &str,
+) -> EndedDesk<S, T>
+    ensures { EndsForget text.now (desk_at (S.state store) (T.state set) streams.old) result.status
+        (desk_at (S.state result.store) (T.state result.set) streams.new) }
+{
+    let Some(id) = id_of(text) else {
+        let status = refuse(&mut streams.output, Refusal::FileId.name());
+        return EndedDesk { status, store, set };
+    };
+    let mut opened = match open_desk(alloc, store, set, &mut streams.output, MOST_CAPACITY) {
+        Ok(opened) => opened,
+        Err(ended) => return ended,
+    };
+    let status = forget(&mut opened.desk, &mut streams.output, id);
+    opened.end(status)
+}

@@ -1,8 +1,0 @@
-use Rattle.std.proofs.Common.{◌≡◌, ◌∷◌, ◌++◌, take, string_bytes}
-use Rattle.std.specs.List.{flat_map}
-use Rattle.std.specs.Fmt.{decimal}
-use Rattle.relay_symbol_commands.proofs.words.push_later.Given as goal
-
-abbrev pub invariant-loop-word : goal.invariant-loop-word
-invariant-loop-word g l = string_bytes l.line ≡ string_bytes l.initial.line ++ flat_map (λ later. 32 ∷ decimal later)
-    (take l.word-index l.words)

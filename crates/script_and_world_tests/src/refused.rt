@@ -1,0 +1,181 @@
+//! Scripts and worlds whose memory is refused, one growth after another. A growth that is refused is asked for once
+//! more by std, in its least size, so two in a row are refused.
+
+use dm_assembly_desk::{AskFault, DeskFault, ExportFault, Kind, ScanFault};
+use dm_event_history::{Event, Reply};
+use dm_event_world::World;
+use dm_print_ledger::{GiveFault, OpenFault, PrintFault, TakeFault};
+use relay_script::{Script, ScriptFault, read_script};
+use std::alloc::Allocator;
+use std::test::Fail;
+use test_helpers::Refusing;
+
+// More growths than any of these scripts and runs asks for.
+const MOST_GROWTHS: u64 = 1_000;
+
+const SCRIPT: &[u8] =
+    b"range 0 9\nrange 10 19\ndesks 2 4\nprint 0 12 ascii 31323334 -\nprint 1 12 ascii - -\n\
+    scan 0 0 - 1,1;2,2\nscan 0 0 - -\ngive 0 1 0 4 -\nask 0 0101\n";
+
+/// Labels are gathered in any order, and twice, and a desk that was shown none holds nothing; then an export and a
+/// ticket leave.
+pub const GATHERING: &str =
+    "range 0 9\ndesks 2 4\nprint 0 12 ascii 31323334 -\nscan 0 1 - -\nscan 0 1 - -\nscan 0 0 - -\n\
+    ask 0 0101\nask 1 0101\nexport 0 0101\ngive 0 1 5 9 -\n";
+
+/// What the replies to its events tell.
+pub const GATHERED: &str = "printed,new,again,complete,document,not held,exported,given";
+
+const FAILING: &str =
+    "range 0 9\ndesks 1 4\nprint 0 12 ascii 31323334 fault-new\nprint 0 12 ascii 31323334 -\n\
+    restart printer 0\nprint 0 12 ascii 31323334 -\n";
+
+const FAILED: &str = "save,failed,restarted,printed";
+
+// Printers that are stopped after their saves: the first identification is used by a label that left, the second by
+// none, so the third label that is there is the second of the third identification.
+const STOPPING_PRINTERS: &str =
+    "range 0 9\nrange 10 19\ndesks 1 4\nprint 0 12 ascii 31323334 after:1\n\
+    restart printer 0\nprint 0 12 ascii 35363738 in-new\nrestart printer 0\nprint 0 12 ascii 35363738 -\n\
+    scan 0 0 - -\nscan 0 1 - -\nscan 0 2 - -\nask 0 0103\ngive 0 1 5 5 after:0\nrestart printer 0\n\
+    give 0 1 5 5 -\ngive 0 1 6 6 -\ntake 1 0 in-new\nrestart printer 1\ntake 1 0 -\n";
+
+const STOPPED_PRINTERS: &str =
+    "stopped,restarted,stopped,restarted,printed,new,new,complete,document,stopped,restarted,\
+    not free,given,stopped,restarted,old";
+
+// Desks that are stopped after their saves: each page is held once they are restarted, and no page after a forget.
+const STOPPING_DESKS: &str =
+    "range 0 9\ndesks 2 4\nprint 0 12 ascii 31323334 -\nscan 0 0 in-new -\n\
+    restart desk 0\nscan 0 0 - -\nscan 0 1 after:0 -\nrestart desk 0\nask 0 0101\nexport 0 0101\n\
+    import 1 0 in-new\nrestart desk 1\nask 1 0101\nforget 1 0101 after:0\nrestart desk 1\nask 1 0101\n";
+
+const STOPPED_DESKS: &str =
+    "printed,stopped,restarted,again,stopped,restarted,document,exported,stopped,restarted,\
+    document,stopped,restarted,not held";
+
+/// What a reply tells, in a word.
+pub fn told<A: Allocator>(reply: &Reply<A>) -> &'static str {
+    match reply {
+        Reply::Printed { .. } => "printed",
+        Reply::Scanned(accepted) => match accepted.kind {
+            Kind::New => "new",
+            Kind::Again => "again",
+            Kind::Complete => "complete",
+        },
+        Reply::Document(_) => "document",
+        Reply::AskRefused(AskFault::NotHeld) => "not held",
+        Reply::PrintRefused(PrintFault::Save) => "save",
+        Reply::PrintRefused(PrintFault::Failed) => "failed",
+        Reply::Given { .. } => "given",
+        Reply::GiveRefused(GiveFault::NotFree) => "not free",
+        Reply::TakeRefused(TakeFault::Old) => "old",
+        Reply::Exported { .. } => "exported",
+        Reply::Restarted => "restarted",
+        Reply::Stopped => "stopped",
+        Reply::Down => "down",
+        Reply::PrinterRefused(OpenFault::Memory) | Reply::DeskRefused(DeskFault::Memory) =>
+            "not restarted",
+        Reply::Memory
+        | Reply::PrintRefused(PrintFault::Memory)
+        | Reply::GiveRefused(GiveFault::Memory)
+        | Reply::TakeRefused(TakeFault::Memory)
+        | Reply::ScanRefused(ScanFault::Memory)
+        | Reply::AskRefused(AskFault::Memory)
+        | Reply::ExportRefused(ExportFault::Memory) => "memory",
+        _ => "other",
+    }
+}
+
+// More refusals than one event meets.
+const MOST_TIMES: u32 = 4;
+
+// Gives an event until it is not refused for memory. After a restart that was refused, what the event after it names is
+// down.
+fn given<A: Allocator + Copy>(
+    world: &mut World<A>,
+    event: &Event<A>,
+    next: &Event<A>,
+) -> &'static str {
+    for _time in 0..MOST_TIMES {
+        let word = told(&world.step(event));
+        if word == "not restarted" && told(&world.step(next)) != "down" {
+            return "not down";
+        }
+        if word != "not restarted" && word != "memory" {
+            return word;
+        }
+    }
+    "memory"
+}
+
+// The script, which is asked for again where memory was refused.
+fn script_of<A: Allocator + Copy>(alloc: A, text: &str) -> Result<Script<A>, Fail> {
+    for _time in 0..MOST_TIMES {
+        if let Ok(script) = read_script(alloc, text.as_bytes()) {
+            return Ok(script);
+        }
+    }
+    Err("no script".into())
+}
+
+/// The world of a script, which is asked for again, too.
+pub fn world_of<A: Allocator + Copy>(alloc: A, script: &Script<A>) -> Result<World<A>, Fail> {
+    for _time in 0..MOST_TIMES {
+        if let Ok(world) = World::new(alloc, &script.ranges, &script.capacities) {
+            return Ok(world);
+        }
+    }
+    Err("no world".into())
+}
+
+// Whether the replies to a script are these words, where each event that is refused for memory is given again. The
+// event after a restart names what was restarted.
+fn tells<A: Allocator + Copy>(alloc: A, text: &str, words: &str) -> Result<bool, Fail> {
+    let script = script_of(alloc, text)?;
+    let mut world = world_of(alloc, &script)?;
+    let mut same = script.events.len() == words.split(',').count();
+    let nexts = script.events.iter().skip(1).chain(script.events.last());
+    for ((event, next), word) in script.events.iter().zip(nexts).zip(words.split(',')) {
+        same = same && given(&mut world, event, next) == word;
+    }
+    Ok(same)
+}
+
+#[test]
+fn refused_growths_of_a_script_are_named(rt: HostRuntime) -> Result<(), Fail> {
+    for growths in 0..MOST_GROWTHS {
+        let second = Refusing::new(rt.alloc(), growths);
+        let memory = Refusing::new(&second, growths);
+        let fault = read_script(&memory, SCRIPT).err();
+        if !memory.is_spent() {
+            assert!(rt; fault.is_none() && growths > 20, "{growths}");
+            return Ok(());
+        }
+        assert!(rt; fault == Some(ScriptFault::Memory), "{growths}");
+    }
+    Err("growths without end".into())
+}
+
+// The replies that remain are those of a world that has all the memory that it asks for.
+#[test]
+fn refused_growths_leave_the_replies(rt: HostRuntime) -> Result<(), Fail> {
+    for (text, words) in [
+        (GATHERING, GATHERED),
+        (FAILING, FAILED),
+        (STOPPING_PRINTERS, STOPPED_PRINTERS),
+        (STOPPING_DESKS, STOPPED_DESKS),
+    ] {
+        let mut refusals = 0u64;
+        for growths in 0..MOST_GROWTHS {
+            let second = Refusing::new(rt.alloc(), growths);
+            let memory = Refusing::new(&second, growths);
+            assert!(rt; tells(&memory, text, words)?, "{growths}");
+            if memory.is_spent() {
+                refusals = growths;
+            }
+        }
+        assert!(rt; refusals > 20 && refusals < MOST_GROWTHS - 1, "{refusals}");
+    }
+    Ok(())
+}
