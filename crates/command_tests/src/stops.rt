@@ -153,6 +153,11 @@ fn disk_after(alloc: Global, calls: &[Call]) -> Result<MemDisk, Fail> {
     Ok(disk)
 }
 
+// Whether a command has written these lines.
+fn has_told(ended: &Whole, call: Call, lines: &[u8]) -> bool {
+    ended.told(call).0 == lines
+}
+
 // After how many of the saves a disk stands, as each look says: bit i for i of them.
 fn saves_on(alloc: Global, disk: MemDisk, looks: &[Look]) -> Result<u8, Fail> {
     let mut disk = disk;
@@ -161,7 +166,7 @@ fn saves_on(alloc: Global, disk: MemDisk, looks: &[Look]) -> Result<u8, Fail> {
         let ended = made(alloc, Machine::whole(alloc, disk)?, *call)?;
         let mut here = 0u8;
         for (count, line) in written.iter().enumerate() {
-            if ended.told(*call).0 == *line {
+            if has_told(&ended, *call, line) {
                 here |= 1u8 << (count % 8);
             }
         }
