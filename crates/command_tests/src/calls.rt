@@ -10,8 +10,7 @@ use relay_desk_commands::{
     import_command, scan_command,
 };
 use relay_printer_commands::{
-    AutoOptions, GiveOptions, LedgerOptions, PrintOptions, TakeOptions, give_command,
-    ledger_command, left_command, plan_command, print_auto_command, print_command, take_command,
+    Labels, give_command, ledger_command, left_command, plan_command, print_command, take_command,
     ticket_command,
 };
 use relay_shared::Streams;
@@ -22,7 +21,7 @@ use std::io::{Read, Write};
 use std::test::Fail;
 use test_helpers::MemDisk;
 
-/// The commands, each with the options below.
+/// The commands.
 #[derive(Clone, Copy, Debug)]
 pub enum Call {
     Words,
@@ -58,36 +57,8 @@ const FORM: Form = Form {
     scheme: Scheme::Ascii,
 };
 
-const LEDGER: LedgerOptions = LedgerOptions {
-    number: 0,
-    range: Range { first: 0, last: 9 },
-};
-
-const PRINT: PrintOptions = PrintOptions {
-    number: 0,
-    side: 12,
-    scheme: Scheme::Ascii,
-};
-
-const PRINT_AUTO: AutoOptions = AutoOptions {
-    number: 0,
-    most_labels: 2,
-    scheme: Scheme::Ascii,
-};
-
-const GIVE: GiveOptions = GiveOptions {
-    number: 0,
-    to: 1,
-    range: Range { first: 5, last: 9 },
-};
-
 // Two identifications of printer 1, for printer 0.
 const TICKET: &str = "00010000000000140015";
-
-const TAKE: TakeOptions<'static> = TakeOptions {
-    number: 0,
-    text: TICKET,
-};
 
 const ID: &str = "0101";
 
@@ -204,11 +175,23 @@ fn filed<A: Allocator + Copy, R: Read, W: Write, E: Write>(
     call: Call,
 ) -> u8 {
     match call {
-        Call::Ledger => ledger_command(memory, store, streams, LEDGER).status,
-        Call::Print => print_command(memory, store, streams, PRINT).status,
-        Call::PrintAuto => print_auto_command(memory, store, streams, PRINT_AUTO).status,
-        Call::Give => give_command(memory, store, streams, GIVE).status,
-        Call::Take => take_command(memory, store, streams, TAKE).status,
+        Call::Ledger => {
+            let range = Range { first: 0, last: 9 };
+            ledger_command(memory, store, streams, 0, range).status
+        }
+        Call::Print => {
+            let labels = Labels::OfSide(12);
+            print_command(memory, store, streams, 0, labels, Scheme::Ascii).status
+        }
+        Call::PrintAuto => {
+            let labels = Labels::AtMost(2);
+            print_command(memory, store, streams, 0, labels, Scheme::Ascii).status
+        }
+        Call::Give => {
+            let range = Range { first: 5, last: 9 };
+            give_command(memory, store, streams, 0, 1, range).status
+        }
+        Call::Take => take_command(memory, store, streams, 0, TICKET).status,
         Call::Left => left_command(store, streams).status,
         Call::Scan(_) => scan_command(memory, store, set, streams, CAPACITY).status,
         Call::Deliver => deliver_command(memory, store, set, streams, ID).status,

@@ -1,10 +1,9 @@
 -- What a command does, from the store and the set of the file that it names, and its streams, to the exit status, the
 -- store, the set and the streams: a line for each command. What a command does not need it leaves as it was.
-use Rattle.std.specs.Prelude.{◌≡◌, ℕ, ◌++◌, ◌||◌, Bool, false, not, IsTrue, IsFalse, codes, string_bytes}
+use Rattle.std.specs.Prelude.{◌≡◌, ℕ, ◌++◌, Bool, true, false, not, IsTrue, IsFalse, codes, string_bytes}
 use Rattle.std.specs.Option.{option_copied}
 use Rattle.relay_line.specs.declared.command.Command.{Command}
 use Rattle.relay_line.specs.declared.command.Command.TheVariants.{Words, Draw, Read, Plan, Ticket, Ledger, Print, Give, Take, Left, Scan, Deliver, Forget, Export, Import, Held, Copy, World}
-use Rattle.relay_line.specs.declared.command.Labels.TheVariants.{OfSide, AtMost}
 use Rattle.relay_streams.specs.Streams.{TakesPart}
 use Rattle.relay_shared.specs.Command.{LeavesErrors, StreamsView}
 use Rattle.relay_shared.specs.declared.command.TheConstants.{DOCUMENT_BYTES}
@@ -14,14 +13,14 @@ use Rattle.relay_symbol_commands.specs.DocumentSymbol.{EndsWords, EndsDraw}
 use Rattle.relay_desk_commands.specs.Desks.{OnDesk, EndsDeliver, EndsExport, EndsForget, EndsImport, EndsScan}
 use Rattle.relay_symbol_commands.specs.Read.{EndsRead}
 use Rattle.relay_printer_commands.specs.Printers.{EndsLeft, OnLedger, EndsLedger, EndsGive, EndsTake, ledger_at}
-use Rattle.relay_printer_commands.specs.Print.{EndsPlan, EndsPrint, EndsPrintAuto}
+use Rattle.relay_printer_commands.specs.Print.{EndsPlan, EndsPrint}
 use Rattle.relay_printer_commands.specs.Tickets.{EndsTicket}
 use Rattle.relay_desk_commands.specs.Copy.{EndsCopy}
 use Rattle.relay_desk_commands.specs.Held.{EndsHeld}
 use Rattle.relay_world_command.specs.World.{EndsWorld}
 use Rattle.dm_store.specs.Disk.{draft_of}
 use Rattle.relay.specs.declared.place.Access.{Access}
-use Rattle.relay.specs.declared.place.Access.TheVariants.{Makes, Saves, Reads, Moves, Looks}
+use Rattle.relay.specs.declared.place.Access.TheVariants.{Creates, Makes, Saves, Reads, Moves, Looks}
 use Rattle.relay.specs.declared.place.Place.{Place}
 use Rattle.relay.specs.declared.locked.Found.{Found}
 
@@ -40,10 +39,11 @@ OnFile Ends old status new = Ends (ledger_at old.files.joint old.streams) status
 
 -- What a command does over the store at the path that it names and the set beside it; `A` is what it allocates in.
 abbrev pub Does : Type 0 → Command → OnDesk → ℕ → OnDesk → Type 0
-Does A (Words side scheme) old status new =
-    OnStreams (EndsWords (record { side = side; scheme = scheme })) old status new
+Does A (Words side scheme) old status new = OnStreams (EndsWords (record { side = side; scheme = scheme })) old status new
+    × ReadsPart DOCUMENT_BYTES old.streams new.streams
 Does A (Draw side scheme plain) old status new =
     OnStreams (EndsDraw (record { side = side; scheme = scheme }) plain) old status new
+    × ReadsPart DOCUMENT_BYTES old.streams new.streams
 Does A Read old status new = OnStreams EndsRead old status new
 Does A (Plan scheme) old status new =
     OnStreams (EndsPlan scheme) old status new × ReadsPart DOCUMENT_BYTES old.streams new.streams
@@ -51,18 +51,12 @@ Does A (Ticket ticket) old status new = OnStreams (EndsTicket ticket.now) old st
 Does A World old status new = OnStreams (EndsWorld A) old status new × LeavesErrors old.streams new.streams
     × ReadsPart INPUT_BYTES old.streams new.streams
 Does A (Ledger file number first last) old status new =
-    OnFile (EndsLedger (record { number = number; range = record { first = first; last = last } })) old status new
-Does A (Print file number (OfSide side) scheme) old status new =
-    OnFile (EndsPrint (record { number = number; side = side; scheme = scheme })) old status new
-    × ReadsPart DOCUMENT_BYTES old.streams new.streams
-Does A (Print file number (AtMost most) scheme) old status new =
-    OnFile (EndsPrintAuto (record { number = number; most_labels = most; scheme = scheme })) old status new
-    × ReadsPart DOCUMENT_BYTES old.streams new.streams
+    OnFile (EndsLedger number (record { first = first; last = last })) old status new
+Does A (Print file number labels scheme) old status new =
+    OnFile (EndsPrint number labels scheme) old status new × ReadsPart DOCUMENT_BYTES old.streams new.streams
 Does A (Give file number to first last) old status new =
-    OnFile (EndsGive (record { number = number; to = to; range = record { first = first; last = last } })) old
-    status new
-Does A (Take file number ticket) old status new =
-    OnFile (EndsTake (record { number = number; text = ticket })) old status new
+    OnFile (EndsGive number to (record { first = first; last = last })) old status new
+Does A (Take file number ticket) old status new = OnFile (EndsTake number ticket.now) old status new
 Does A (Left file) old status new = OnFile EndsLeft old status new
 Does A (Scan file capacity) old status new = EndsScan A capacity old status new
 Does A (Deliver file id) old status new = EndsDeliver id.now old status new
@@ -77,14 +71,15 @@ Does A (Copy file id page side scheme) old status new =
 -- The draft of a file is beside it, and so is the file that is locked: beside a ledger, or beside a desk's folder.
 pub record IsPlaced (place : Place) : Type 0 where
   pub draft : string_bytes place.draft ≡ draft_of (string_bytes place.file)
-  pub of_ledger : IsFalse place.is_desk → string_bytes place.lock ≡ string_bytes place.file ++ codes ".lock"
-  pub of_desk : IsTrue place.is_desk → string_bytes place.lock ≡ string_bytes place.folder ++ codes ".lock"
+  pub of_ledger : IsFalse place.named.is_desk → string_bytes place.lock ≡ string_bytes place.file ++ codes ".lock"
+  pub of_desk : IsTrue place.named.is_desk → string_bytes place.lock ≡ string_bytes place.folder ++ codes ".lock"
 
--- A command locks its files at its first load, by what it does to them and what it finds there: to make a desk, or a
--- ledger where nothing is; to save to what is there; to move the documents of a joint file.
-abbrev pub locks : Access → Bool → Found → Bool
-locks Makes is_desk found = is_desk || not found.is_any
-locks Saves is_desk found = found.is_any
-locks Reads is_desk found = found.has_documents
-locks Moves is_desk found = found.has_documents
-locks Looks is_desk found = false
+-- A command locks its files at its first load, by what it does to them and what it finds there: to make a ledger where
+-- nothing is, or a desk; to save to what is there; to move the documents of a joint file.
+abbrev pub locks : Access → Found → Bool
+locks Creates found = not found.is_any
+locks Makes found = true
+locks Saves found = found.is_any
+locks Reads found = found.has_documents
+locks Moves found = found.has_documents
+locks Looks found = false

@@ -37,8 +37,7 @@ pub use relay_desk_commands::{
 };
 pub use relay_line::{Command, LineFault, command_line};
 pub use relay_printer_commands::{
-    AutoOptions, GiveOptions, LedgerOptions, PrintOptions, TakeOptions, give_command,
-    ledger_command, left_command, plan_command, print_auto_command, print_command, take_command,
+    Labels, give_command, ledger_command, left_command, plan_command, print_command, take_command,
     ticket_command,
 };
 pub use relay_shared::{DOCUMENT_BYTES, Ended, EndedDesk, MOST_IMAGES, Streams};

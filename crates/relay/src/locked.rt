@@ -4,7 +4,7 @@ ghost use Rattle.std.specs.Prelude.{◌≡◌};
 ghost use Rattle.relay.specs.Commands.{locks};
 
 use crate::lock::{Lock, LockFault};
-use crate::place::{Access, Place};
+use crate::place::{Access, Named, Place};
 use dm_store::{Disk, DiskFault, Folders, LoadFault};
 use std::cell::{Cell, OnceCell};
 use std::fs::{File, Metadata};
@@ -46,12 +46,12 @@ pub(crate) struct Found {
 }
 
 // Whether a command locks its files at its first load.
-fn locks_files(access: Access, is_desk: bool, found: Found) -> bool
-    ensures { result ≡ locks access is_desk found }
+fn locks_files(access: Access, found: Found) -> bool
+    ensures { result ≡ locks access found }
 {
     match access {
-        // A ledger is not made where something is.
-        Access::Makes => is_desk || !found.is_any,
+        Access::Creates => !found.is_any,
+        Access::Makes => true,
         Access::Saves => found.is_any,
         Access::Reads | Access::Moves => found.has_documents,
         Access::Looks => false,
@@ -59,7 +59,7 @@ fn locks_files(access: Access, is_desk: bool, found: Found) -> bool
 }
 
 // The plain file of a command, if surely something is there.
-fn file_at<R: Files>(rt: &R, place: &Place) -> Result<Option<Metadata>, Reason> {
+fn file_at<R: Files>(rt: &R, place: &Place<'_>) -> Result<Option<Metadata>, Reason> {
     if place.is_file_lost {
         return Err(Reason::LostLink);
     }
@@ -77,7 +77,7 @@ fn file_at<R: Files>(rt: &R, place: &Place) -> Result<Option<Metadata>, Reason> 
 }
 
 // Whether a file has a name beside its own, and beside that of its draft, which a stop may have left it.
-fn has_second_name<R: Files>(rt: &R, place: &Place, file: &Metadata) -> bool {
+fn has_second_name<R: Files>(rt: &R, place: &Place<'_>, file: &Metadata) -> bool {
     let is_draft = matches!(rt.symlink_metadata(place.draft.as_str()), Ok(draft)
         if (draft.dev(), draft.ino()) == (file.dev(), file.ino()));
     file.nlink() > 1 + u64::from(is_draft)
@@ -88,7 +88,7 @@ fn has_second_name<R: Files>(rt: &R, place: &Place, file: &Metadata) -> bool {
 #[derive(Drop)]
 pub(crate) struct Gate<'a, R> {
     rt: &'a R,
-    pub(crate) place: &'a Place,
+    pub(crate) place: &'a Place<'a>,
     // What came of the first load: the lock, if the command takes one, or why it can't have its files.
     entered: OnceCell<Result<Option<Lock>, Reason>>,
     has_saved: Cell<bool>,
@@ -102,7 +102,7 @@ pub(crate) struct Gate<'a, R> {
 
 impl<'a, R: AllocGlobal + Files<File = File>> Gate<'a, R> {
     /// The files at a place, which were not asked for yet.
-    pub(crate) fn new(rt: &'a R, place: &'a Place) -> Gate<'a, R> {
+    pub(crate) fn new(rt: &'a R, place: &'a Place<'a>) -> Gate<'a, R> {
         Gate {
             rt,
             place,
@@ -127,19 +127,21 @@ impl<'a, R: AllocGlobal + Files<File = File>> Gate<'a, R> {
     // Looks at what is there, and locks it if the command may save.
     fn enter(&self) -> Result<Option<Lock>, Reason> {
         let (rt, place) = (self.rt, self.place);
+        let Named {
+            access,
+            is_desk,
+            ..
+        } = place.named;
         let file = file_at(rt, place)?;
-        let has_folder = place.is_desk && rt.symlink_metadata(place.folder.as_str()).is_ok();
+        let has_folder = is_desk && rt.symlink_metadata(place.folder.as_str()).is_ok();
         let found = Found {
             is_any: file.is_some() || has_folder,
             has_documents: matches!(&file, Some(file) if file.len() > EMPTY_JOINT_FILE_BYTES),
         };
-        if !found.is_any
-            && place.is_desk
-            && !matches!(place.access, Access::Makes | Access::Moves)
-        {
+        if !found.is_any && is_desk && !matches!(access, Access::Makes | Access::Moves) {
             self.reason.set(Some(Reason::NoDesk));
         }
-        if !locks_files(place.access, place.is_desk, found) {
+        if !locks_files(access, found) {
             return Ok(None);
         }
         if !found.is_any
@@ -196,8 +198,9 @@ impl<'a, R: AllocGlobal + Files<File = File>> Gate<'a, R> {
     // Keeps why a rename has failed, if something has come to the place of a new ledger.
     fn look_at_place(&self) {
         let place = self.place;
-        let is_new = place.access == Access::Makes && !place.is_desk;
-        if is_new && self.rt.symlink_metadata(place.file.as_str()).is_ok() {
+        if place.named.access == Access::Creates
+            && self.rt.symlink_metadata(place.file.as_str()).is_ok()
+        {
             self.reason.set(Some(Reason::Taken));
         }
     }

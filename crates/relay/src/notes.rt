@@ -26,14 +26,9 @@ pub(crate) fn note<R: AllocGlobal + Eprint>(rt: &R, name: &str, why: &str) {
     }
 }
 
-/// Notes why a command did not find or did not get its files; `file` is the path that it names.
-pub(crate) fn note_reason<R: AllocGlobal + Eprint>(
-    rt: &R,
-    file: &str,
-    place: &Place,
-    reason: Reason,
-) {
-    let (folder, lock) = (place.folder.as_str(), place.lock.as_str());
+/// Notes why a command did not find or did not get its files.
+pub(crate) fn note_reason<R: AllocGlobal + Eprint>(rt: &R, place: &Place<'_>, reason: Reason) {
+    let (file, folder, lock) = (place.named.file, place.folder.as_str(), place.lock.as_str());
     let (path, why) = match reason {
         Reason::NoDesk => (file, "there is no desk"),
         Reason::LostLink => (file, "a link that leads nowhere"),
@@ -57,7 +52,7 @@ pub(crate) fn note_reason<R: AllocGlobal + Eprint>(
 // The fault of a file of a desk, if it has one: of the joint file, or of one in the folder, whose name is its key.
 fn fault_in<R: AllocGlobal + Files + Clone>(
     rt: &R,
-    place: &Place,
+    place: &Place<'_>,
     path: &str,
 ) -> Result<Option<&'static str>, AllocError> {
     let (alloc, disk) = (rt.alloc(), RealDisk::new(rt.alloc(), rt));
@@ -82,7 +77,7 @@ fn fault_in<R: AllocGlobal + Files + Clone>(
 /// memory is refused nothing is said.
 pub(crate) fn note_faulty_file<R: AllocGlobal + Eprint + Files + Clone>(
     rt: &R,
-    place: &Place,
+    place: &Place<'_>,
     path: &str,
 ) {
     if let Ok(Some(name)) = fault_in(rt, place, path) {
@@ -110,7 +105,7 @@ fn odd_name<R: AllocGlobal + Files>(rt: &R, folder: &str) -> Option<String> {
 }
 
 /// Notes why the files in a desk's folder can't be listed.
-pub(crate) fn note_folder<R: AllocGlobal + Eprint + Files>(rt: &R, place: &Place) {
+pub(crate) fn note_folder<R: AllocGlobal + Eprint + Files>(rt: &R, place: &Place<'_>) {
     let folder = place.folder.as_str();
     match odd_name(rt, folder) {
         Some(why) => note(rt, folder, why.as_str()),

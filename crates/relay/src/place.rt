@@ -1,7 +1,8 @@
 //! The files that a command names, and where they are.
 
-ghost use Rattle.std.specs.Prelude.{IfOk};
+ghost use Rattle.std.specs.Prelude.{◌≡◌, IfOk, IfSome, IsTrue};
 ghost use Rattle.relay.specs.Commands.{IsPlaced};
+ghost use Rattle.relay.specs.declared.place.Access.TheVariants.{Makes};
 
 use dm_assembly_desk::MOST_CAPACITY;
 use relay_line::Command;
@@ -12,7 +13,9 @@ use std::rt::Files;
 /// What a command does to its files.
 #[derive(Clone, Copy, Debug, PartialEq, Eq)]
 pub(crate) enum Access {
-    /// It saves, and makes what isn't there.
+    /// It makes a ledger where nothing is.
+    Creates,
+    /// It saves, and makes the desk if it isn't there.
     Makes,
     /// It saves to what is there.
     Saves,
@@ -44,7 +47,9 @@ fn gathering(capacity: u16) -> Access {
 }
 
 /// The files that a command names, if it names any.
-pub(crate) fn named_by<'a>(command: Command<'a>) -> Option<Named<'a>> {
+pub(crate) fn named_by<'a>(command: Command<'a>) -> Option<Named<'a>>
+    ensures { IfSome result (λ named. named.access ≡ Makes → IsTrue named.is_desk) }
+{
     let (file, is_desk, access) = match command {
         Command::Words { .. }
         | Command::Draw { .. }
@@ -52,7 +57,7 @@ pub(crate) fn named_by<'a>(command: Command<'a>) -> Option<Named<'a>> {
         | Command::Plan { .. }
         | Command::Ticket { .. }
         | Command::World => return None,
-        Command::Ledger { file, .. } => (file, false, Access::Makes),
+        Command::Ledger { file, .. } => (file, false, Access::Creates),
         Command::Print { file, .. } | Command::Give { file, .. } | Command::Take { file, .. } => (
             file,
             false,
@@ -89,9 +94,10 @@ pub(crate) fn refuses_on_errors(command: Command) -> bool {
     )
 }
 
-/// Where the files of a command are. At none of the paths is a link, but of one that leads nowhere.
+/// Where the files that a command names are. At none of the paths is a link, but of one that leads nowhere.
 #[derive(Drop)]
-pub(crate) struct Place {
+pub(crate) struct Place<'a> {
+    pub(crate) named: Named<'a>,
     /// The ledger, or the joint file of a desk.
     pub(crate) file: String,
     /// Whether a link is there that leads nowhere.
@@ -104,8 +110,6 @@ pub(crate) struct Place {
     pub(crate) is_folder_lost: bool,
     /// The file that is locked.
     pub(crate) lock: String,
-    pub(crate) is_desk: bool,
-    pub(crate) access: Access,
 }
 
 // Where the link at a path leads, if one is there, and whether it leads nowhere.
@@ -120,12 +124,12 @@ fn follow<R: AllocGlobal + Files>(rt: &R, path: String) -> Result<(String, bool)
     }
 }
 
-impl Place {
+impl<'a> Place<'a> {
     /// Follows the links at the paths of a command. Nothing is opened.
     ///
     /// # Errors
     /// Memory was refused.
-    pub(crate) fn of<R: AllocGlobal + Files>(rt: &R, named: Named) -> Result<Place, AllocError>
+    pub(crate) fn of<R: AllocGlobal + Files>(rt: &R, named: Named<'a>) -> Result<Self, AllocError>
         ensures { IfOk result IsPlaced }
     {
         let alloc = rt.alloc();
@@ -137,14 +141,13 @@ impl Place {
         let locked = locked.as_str();
         let lock = format!(in alloc; "{locked}.lock")?;
         Ok(Place {
+            named,
             file,
             is_file_lost,
             draft,
             folder,
             is_folder_lost,
             lock,
-            is_desk: named.is_desk,
-            access: named.access,
         })
     }
 }

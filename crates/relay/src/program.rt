@@ -38,18 +38,14 @@ fn answers_each_image(command: Command) -> bool {
 }
 
 // Notes what the line of a refusal can't say of a command's files.
-fn note_files<R: AllocGlobal + Eprint + Files<File = File> + Clone>(
-    rt: &R,
-    named: Named,
-    gate: &Gate<'_, R>,
-) {
+fn note_files<R: AllocGlobal + Eprint + Files<File = File> + Clone>(rt: &R, gate: &Gate<'_, R>) {
     let place = gate.place;
     if let Some(reason) = gate.reason.get() {
-        note_reason(rt, named.file, place, reason);
+        note_reason(rt, place, reason);
     } else if gate.has_no_list.get() {
         note_folder(rt, place);
-    } else if place.is_desk
-        && place.access != Access::Looks
+    } else if place.named.is_desk
+        && place.named.access != Access::Looks
         && let Some(path) = gate.loaded.take()
     {
         note_faulty_file(rt, place, path.as_str());
@@ -57,8 +53,8 @@ fn note_files<R: AllocGlobal + Eprint + Files<File = File> + Clone>(
 }
 
 // The disk of a ledger or of a joint file. A new ledger takes the place of nothing.
-fn disk_of<'a, R: AllocGlobal + Files>(rt: &'a R, place: &Place) -> RealDisk<'a, R> {
-    if place.access == Access::Makes && !place.is_desk {
+fn disk_of<'a, R: AllocGlobal + Files>(rt: &'a R, named: Named) -> RealDisk<'a, R> {
+    if named.access == Access::Creates {
         RealDisk::of_new_files(rt.alloc(), rt)
     } else {
         RealDisk::new(rt.alloc(), rt)
@@ -121,7 +117,7 @@ impl<'a, R: AllocGlobal + Input + Eprint + Files<File = File> + Clone, W: Write>
         let place = Place::of(rt, named)?;
         let gate = Gate::new(rt, &place);
         let status = {
-            let (gate, within) = (&gate, disk_of(rt, &place));
+            let (gate, within) = (&gate, disk_of(rt, named));
             let store = FileStore::new(alloc, Locked { gate, within }, place.file.clone()?);
             let within = RealDisk::new(alloc, rt);
             let set = FileSet::new(alloc, Locked { gate, within }, place.folder.clone()?);
@@ -130,7 +126,7 @@ impl<'a, R: AllocGlobal + Input + Eprint + Files<File = File> + Clone, W: Write>
         };
         let status = self.finish(status);
         if status != 0 || gate.reason.get().is_some() {
-            note_files(rt, named, &gate);
+            note_files(rt, &gate);
         }
         gate.close();
         Ok(status)
@@ -232,11 +228,6 @@ fn show_word_fault<R: AllocGlobal + Eprint>(rt: &R, error: &io::Error) -> u8 {
     2
 }
 
-// Whether a command names a file by the empty path.
-fn has_empty_path(command: Command) -> bool {
-    matches!(named_by(command), Some(named) if named.file.is_empty())
-}
-
 /// Does what the program's own words say over its own streams, and answers the exit status: that of the command, or 2
 /// where the line or the words were refused, or 0 where help was asked for.
 pub fn run<R: AllocGlobal + Input + Print + Eprint + Env + Files<File = File> + Clone>(
@@ -252,10 +243,6 @@ pub fn run<R: AllocGlobal + Input + Print + Eprint + Env + Files<File = File> + 
         Err(error) => return show_word_fault(rt, &error),
     };
     match command_line(rt.alloc(), words.as_slice()) {
-        Ok(command) if has_empty_path(command) => {
-            let _ = eprint!(rt; "error: the path of '--file <PATH>' is empty\n");
-            2
-        }
         Ok(command) => {
             let mut work = Work::new(rt, command, io::writer(rt));
             match work.do_on_each(words.as_slice()) {

@@ -1,20 +1,21 @@
 -- Copies of pages that a desk holds, and what they open as.
-use Rattle.std.proofs.Common.{◌≡◌, ℕ, List, Result, Ok, Err, refl, sym, ap, subst, ◌∙◌, arith}
+use Rattle.std.proofs.Common.{◌≡◌, ℕ, List, Option, Some, Result, Ok, Err, refl, sym, ap, subst, ◌∙◌, arith}
 use Rattle.dm_gf256.specs.Field.{differ}
 use Rattle.dm_gf256.proofs.OneBlockWord.{differ-self}
 use Rattle.dm_check_blocks.specs.Sizes.{block_of}
+use Rattle.dm_check_blocks.specs.declared.size.Size.{Size}
+use Rattle.dm_encodation.specs.declared.scheme.Scheme.{Scheme}
 use Rattle.dm_finder_frame.specs.Frame.{FrameHasNoWrongModule, wrong_frame_modules, GridView}
 use Rattle.dm_symbol.specs.Correction.{CorrectedView, CarriesItsWords, IsNear, words_of_grid}
 use Rattle.dm_symbol.proofs.NearGrids.{near_gives}
 use Rattle.dm_append_label.specs.Labels.{Carries, PageView}
-use Rattle.dm_append_label.specs.Opening.{LabelOpens, Opens, OpensAs, OpensNear}
+use Rattle.dm_append_label.specs.Opening.{LabelOpens, OpensAs}
 use Rattle.dm_append_label.specs.declared.fault.LabelFault.{LabelFault}
 use Rattle.dm_append_label.specs.declared.fault.LabelFault.TheVariants as labels
 use Rattle.dm_append_label.specs.declared.opening.Opened.{Opened}
-use Rattle.dm_assembly_desk.specs.Documents.{Documents}
+use Rattle.std.specs.FinMap.{get}
+use Rattle.dm_assembly_desk.specs.Documents.{Documents, Pages, page, page_at}
 use Rattle.relay_desk_commands.specs.Copy.{Copies, OpensAsHeld, OpensAsNoOther}
-use Rattle.relay_desk_commands.specs.declared.copy.AskedPage.{AskedPage}
-use Rattle.relay_desk_commands.specs.declared.copy.LabelForm.{LabelForm}
 
 near_itself : (grid : GridView) → IsNear grid grid
 near_itself grid = record {
@@ -45,30 +46,28 @@ module _ (page : PageView) (grid : GridView) (label : Carries page grid) where
       opens.changed ∙ ap (λ (w : List ℕ). differ (words_of_grid grid) w)
       (same ∙ sym (ap words_of_grid label.drawn ∙ there)) ∙ differ-self (words_of_grid grid)
 
--- a copy is opened as the page that is held
-pub opens_as_held : {A : Type 0} (held : Documents) (asked : AskedPage) (form : LabelForm) (grid : GridView)
-    (result : Result (Opened A) LabelFault) → Copies held asked form grid → CarriesItsWords grid.size
-    → FrameHasNoWrongModule grid.size → LabelOpens grid result → OpensAsHeld held asked result
-opens_as_held {A} held asked form grid result c words frame opened =
-    cases result (opened.near grid c.page c.label.carries (near_itself grid)) opened.opens
-  where
-    no_wrong : wrong_frame_modules grid ≡ 0
-    no_wrong = none_wrong c.page grid c.label.carries frame
+module _ {held : Documents} {id m : ℕ} {size : Size} {scheme : Scheme} (grid : GridView) where
+  -- a copy is opened as the page that is held
+  pub opens_as_held : {A : Type 0} (result : Result (Opened A) LabelFault) → Copies held id m size scheme grid
+      → CarriesItsWords grid.size → FrameHasNoWrongModule grid.size → LabelOpens grid result
+      → OpensAsHeld held id m result
+  opens_as_held (Ok o) c words frame opened = (
+    rw (opened.near grid c.page c.carries (near_itself grid)) c.is_held,
+    none_corrected c.page grid c.carries words opened.opens,
+    opened.opens.wrong_is ∙ none_wrong c.page grid c.carries frame,
+  )
+  opens_as_held (Err labels.Memory) c words frame opened = tt
+  opens_as_held (Err (labels.Border wrong)) c words frame opened =
+      absurd (omega (arith, opened.opens.0, none_wrong c.page grid c.carries frame))
+  opens_as_held (Err _) c words frame opened = opened.near grid c.page c.carries (near_itself grid)
 
-    cases : (r : Result (Opened A) LabelFault) → OpensNear c.page r → Opens grid r → OpensAsHeld held asked r
-    cases (Ok o) same opens = (
-      rw same c.is_held,
-      none_corrected c.page grid c.label.carries words opens,
-      opens.wrong_is ∙ no_wrong,
-    )
-    cases (Err labels.Memory) near opens = tt
-    cases (Err (labels.Border wrong)) near opens = absurd (omega (arith, opens.0, no_wrong))
-    cases (Err _) near opens = near
+  -- a grid near a copy is opened as no other page
+  pub opens_as_no_other : {A : Type 0} (copy : GridView) (result : Result (Opened A) LabelFault)
+      → Copies held id m size scheme copy → IsNear grid copy → LabelOpens grid result → OpensAsNoOther held id m result
+  opens_as_no_other copy (Ok o) c near opened = rw (opened.near copy c.page c.carries near) c.is_held
+  opens_as_no_other copy (Err fault) c near opened = tt
 
--- a grid near a copy is opened as no other page
-pub opens_as_no_other : {A : Type 0} (held : Documents) (asked : AskedPage) (form : LabelForm)
-    (grid copy : GridView) (result : Result (Opened A) LabelFault) → Copies held asked form copy
-    → IsNear grid copy → LabelOpens grid result → OpensAsNoOther held asked result
-opens_as_no_other held asked form grid copy (Ok o) c near opened =
-    rw (opened.near copy c.page c.label.carries near) c.is_held
-opens_as_no_other held asked form grid copy (Err fault) c near opened = tt
+-- what is lent of a page that is asked for
+pub lent_page : (held : Documents) (id m : ℕ) {pages : Pages} {lent : Option (List ℕ)} → Some pages ≡ get held id
+    → lent ≡ page pages m → page_at held id m ≡ lent
+lent_page held id m there is = rw (← there) (sym is)

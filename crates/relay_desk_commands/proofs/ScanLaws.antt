@@ -5,10 +5,7 @@ use Rattle.dm_append_label.specs.declared.fault.LabelFault.{LabelFault}
 use Rattle.dm_append_label.specs.declared.fault.LabelFault.TheVariants as labels
 use Rattle.dm_append_label.specs.declared.opening.Opened.{Opened}
 use Rattle.dm_append_label.specs.Labels.{PageView}
-use Rattle.dm_pbm_io.specs.Image.{Picture, HasShape}
-use Rattle.dm_pbm_io.specs.declared.fault.ShapeFault.{ShapeFault}
-use Rattle.dm_pbm_io.specs.declared.fault.ShapeFault.TheVariants.{Shape, Memory}
-use Rattle.dm_assembly_desk.specs.Adding.{lone, scan_of, Accepts, Scans}
+use Rattle.dm_assembly_desk.specs.Adding.{lone, scan_of, Scans}
 use Rattle.dm_assembly_desk.specs.Faults.{scan_fault}
 use Rattle.dm_assembly_desk.specs.Documents.{DeskView}
 use Rattle.dm_assembly_desk.specs.declared.adding.AddFault.{AddFault}
@@ -18,7 +15,6 @@ use Rattle.dm_assembly_desk.specs.declared.fault.ScanFault.TheVariants as scans
 use Rattle.dm_assembly_desk.specs.declared.reply.Accepted.{Accepted}
 use Rattle.dm_assembly_desk.specs.declared.reply.Imported.{Imported}
 use Rattle.dm_assembly_desk.proofs.AddLaws.{says_save, adds_failed}
-use Rattle.relay_desk_commands.specs.Desks.{HasNoGrid}
 
 -- the answer says that a save failed
 abbrev pub is_save : Result Accepted ScanFault → Bool
@@ -36,12 +32,6 @@ same_save p (Err adds.Full) = refl
 same_save p (Err adds.Memory) = refl
 same_save p (Err adds.Save) = refl
 
-after_page : (p : PageView) (before : DeskView) (reply : Result Accepted ScanFault) (after : DeskView)
-    → before.is_failed ≡ false → Accepts p before reply after → after.is_failed ≡ is_save reply
-after_page p before reply after running done =
-    adds_failed p.id (lone p) before after running done.0 done.2
-    ∙ sym (ap is_save done.1 ∙ same_save p done.0)
-
 label_is_no_save : (fault : LabelFault) → is_save (Err (scan_fault fault)) ≡ false
 label_is_no_save labels.Memory = refl
 label_is_no_save _ = refl
@@ -49,11 +39,7 @@ label_is_no_save _ = refl
 pub after_scan : {A : Type 0} (opened : Result (Opened A) LabelFault) (before : DeskView)
     (reply : Result Accepted ScanFault) (after : DeskView) → before.is_failed ≡ false
     → Scans opened before reply after → after.is_failed ≡ is_save reply
-after_scan (Ok opened) before reply after running done = after_page opened.page before reply after running done
+after_scan (Ok opened) before reply after running done =
+    adds_failed opened.page.id (lone opened.page) before after running done.0 done.2
+    ∙ sym (ap is_save done.1 ∙ same_save opened.page done.0)
 after_scan (Err fault) before reply after running done = cc (ap is_save done.0, label_is_no_save fault)
-
--- why an image has no grid
-pub has_no_grid : {p : Picture} (fault : ShapeFault) → (fault ≡ Shape → HasShape p → ⊥) → (fault ≡ Memory → HasShape p)
-    → HasNoGrid p fault
-has_no_grid Shape none there = none refl
-has_no_grid Memory none there = there refl

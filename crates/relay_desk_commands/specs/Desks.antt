@@ -1,35 +1,28 @@
 -- What `deliver`, `export`, `forget`, `import` and `scan` do to the files of a desk, and what they write. `scan` prints
 -- a line for each image, in order, up to the end of the input, a plain image, bytes that are no image, a save that
 -- failed, or the greatest number of images.
-use Rattle.std.specs.Prelude.{◌≡◌, ◌⊎◌, ℕ, List, [], ◌∷◌, ◌++◌, codes, Option, None, Some, IfSome, true, Result, Ok, Err, false}
+use Rattle.std.specs.Prelude.{◌≡◌, ◌<◌, ℕ, List, [], ◌∷◌, ◌++◌, codes, Option, None, Some, IfSome, Result, Ok, Err, MatchResult, false}
 use Rattle.std.specs.Fmt.{decimal}
 use Rattle.std.specs.FinMap as map
-use Rattle.std.specs.Io.KnownBytes.{Appends}
 use Rattle.hex.specs.Hex.{decode_sized}
 use Rattle.dm_store.specs.Saved.{Saved, SavedSet}
-use Rattle.dm_append_label.specs.Labels.{IsIdWord, id_words, PageView}
+use Rattle.dm_append_label.specs.Labels.{id_words, PageView}
 use Rattle.dm_append_label.specs.Opening.{OpensAs}
 use Rattle.dm_assembly_desk.specs.Adding.{Asks, Exports, Forgets, ImportsBytes, AcceptsGrid}
 use Rattle.dm_assembly_desk.specs.Faults.{ask_fault_name, desk_fault_name, export_fault_name, forget_fault_name, import_fault_name, move_fault_name, scan_fault_name}
 use Rattle.dm_assembly_desk.specs.Opening.{Moves, HasDeskFault, Opens}
-use Rattle.dm_assembly_desk.specs.Documents.{Pages, DeskView, KeepsPages, IsInOrder}
+use Rattle.dm_assembly_desk.specs.Documents.{Documents, DeskView, KeepsPages, IsInOrder}
 use Rattle.dm_assembly_desk.specs.declared.limits.TheConstants.{MOST_CAPACITY}
-use Rattle.dm_assembly_desk.specs.declared.fault.AskFault.{AskFault}
 use Rattle.dm_assembly_desk.specs.declared.fault.DeskFault.{DeskFault}
-use Rattle.dm_assembly_desk.specs.declared.fault.ExportFault.{ExportFault}
-use Rattle.dm_assembly_desk.specs.declared.fault.ForgetFault.{ForgetFault}
-use Rattle.dm_assembly_desk.specs.declared.fault.ImportFault.{ImportFault}
 use Rattle.dm_assembly_desk.specs.declared.fault.MoveFault.{MoveFault}
-use Rattle.dm_assembly_desk.specs.declared.reply.Imported.{Imported}
-use Rattle.relay_streams.specs.Streams.{input_fault_name, write_fault_name, AppendsPart, InputView, OutputView, ReadsFirst}
+use Rattle.relay_streams.specs.Streams.{input_fault_name, OutputView, ReadsFirst}
 use Rattle.relay_streams.specs.declared.fault.InputFault.{InputFault}
 use Rattle.relay_streams.specs.declared.fault.WriteFault.{WriteFault}
-use Rattle.relay_streams.specs.declared.fault.WriteFault.TheVariants.{Write}
 use Rattle.relay_desk_commands.specs.declared.documents.Given.{Given}
 use Rattle.relay_desk_commands.specs.declared.documents.Given.TheVariants.{Document, File}
 use Rattle.relay_desk_commands.specs.declared.import.TheConstants.{IMPORT_BYTES}
 use Rattle.relay_shared.specs.Lines.{forgotten_line, imported_line, accepted_line, id_text}
-use Rattle.relay_shared.specs.Command.{HasInputFault, refusal_name, LeavesErrors, OnlyOutput, Puts, ReadsNothing, RefusesOnErrors, RefusesOnOutput, StreamsView, TellsAnswer, TellsRefusal}
+use Rattle.relay_shared.specs.Command.{HasInputFault, refusal_name, LeavesErrors, OnlyOutput, Puts, RefusesOnErrors, RefusesOnOutput, StreamsView, TellsAnswer, TellsBytes, TellsRefusal}
 use Rattle.relay_shared.specs.declared.command.Refusal.TheVariants as refusals
 use Rattle.dm_finder_frame.specs.Frame.{GridView}
 use Rattle.dm_pbm_io.specs.FaultNames.{shape_fault_name}
@@ -64,105 +57,96 @@ pub record OpensDesk (before : DeskFiles) (capacity : ℕ) (joint : Saved) (desk
   pub moves : MovesFiles before (record { joint = joint; set = desk.saved })
   pub opens : Opens desk.saved capacity desk
 
--- There is no desk with this room, and this is the name of the reason: the joint file could not be moved; or the desk was
--- not opened.
+-- There is no desk with this room, and this is the name of the reason: the joint file could not be moved; or the desk
+-- was not opened.
 pub data HasNoDesk (before : DeskFiles) (capacity : ℕ) (name : List ℕ) (after : DeskFiles) : Type 0 where
   not_moved : (fault : MoveFault) → Moves before.joint before.set (Err fault) after.joint after.set
       → name ≡ move_fault_name fault → HasNoDesk before capacity name after
   not_opened : (fault : DeskFault) → MovesFiles before after → HasDeskFault after.set capacity fault
       → name ≡ desk_fault_name fault → HasNoDesk before capacity name after
 
--- ---- identifications
+-- How a command ends that opens a desk with this room: there is none, and the line that says why is told so; or it was
+-- opened, and the rest is done there.
+pub data EndsAtDesk (Refuses : List ℕ → StreamsView → ℕ → StreamsView → Type 0) (capacity : ℕ)
+    (Rest : DeskView → StreamsView → ℕ → OnDesk → Type 0) (old : OnDesk) (status : ℕ) (new : OnDesk) : Type 0 where
+  no_desk : (name : List ℕ) → HasNoDesk old.files capacity name new.files → Refuses name old.streams status new.streams
+      → EndsAtDesk Refuses capacity Rest old status new
+  opened : (desk : DeskView) → OpensDesk old.files capacity new.files.joint desk → Rest desk old.streams status new
+      → EndsAtDesk Refuses capacity Rest old status new
+
+-- ---- the document of an identification
 
 -- the text is the two words of this identification in hexadecimal
 abbrev pub IsTextOfId : List ℕ → ℕ → Type 0
-IsTextOfId text id = decode_sized text 2 ≡ Ok (id_words id)
+IsTextOfId text id = (id < 64516) × (decode_sized text 2 ≡ Ok (id_words id))
 
--- the text is two bytes in hexadecimal that are the words of an identification
-abbrev pub HasId : List ℕ → Type 0
-HasId text = (first second : ℕ) × (decode_sized text 2 ≡ Ok (first ∷ second ∷ [])) × IsIdWord first × IsIdWord second
+-- How a command ends that names a document by a text: that is the text of no identification, and nothing is done; or it
+-- ends so for the identification.
+pub data EndsOnId (Refuses : List ℕ → StreamsView → ℕ → StreamsView → Type 0) (text : List ℕ)
+    (Ends : ℕ → OnDesk → ℕ → OnDesk → Type 0) (old : OnDesk) (status : ℕ) (new : OnDesk) : Type 0 where
+  no_id : ((id : ℕ) → ¬ IsTextOfId text id) → new.files ≡ old.files
+      → Refuses (refusal_name refusals.FileId) old.streams status new.streams
+      → EndsOnId Refuses text Ends old status new
+  of_id : (id : ℕ) → IsTextOfId text id → Ends id old status new → EndsOnId Refuses text Ends old status new
 
 -- ---- what is given out
 
--- The bytes were written to the output, and nothing happened to the other streams; or the output has failed, a part of
--- the bytes is out from their first on, nothing was read, and the line that says so was written to the standard error,
--- or that has failed too.
-abbrev pub TellsBytes : List ℕ → StreamsView → ℕ → StreamsView → Type 0
-TellsBytes bytes old status new =
-    (Appends old.output.contents new.output.contents bytes × OnlyOutput old new × (status ≡ 0))
-    ⊎ ((new.output.has_failed ≡ true) × AppendsPart old.output.contents new.output.contents bytes
-    × ReadsNothing old new × TellsRefusal (write_fault_name Write) old.errors status new.errors)
+-- The desk gives out these bytes by what it holds, or nothing, for a reason of this name: so it was told, and its set
+-- stays as it was.
+abbrev pub GivesOut : (Documents → Result (List ℕ) (List ℕ) → Type 0) → DeskView → StreamsView → ℕ → OnDesk → Type 0
+GivesOut Gives desk old status new = (given : Result (List ℕ) (List ℕ)) × Gives desk.held given
+    × MatchResult given (λ bytes. TellsBytes bytes old status new.streams)
+    (λ name. RefusesOnErrors name old status new.streams)
+    × (new.files.set ≡ desk.saved)
 
--- these bytes are what the desk gives out by what is held of the document
-abbrev pub Gives : Given → ℕ → Option Pages → List ℕ → Type 0
-Gives Document id found bytes = Asks (λ (given : List ℕ). given) found (Ok bytes)
-Gives File id found bytes = Exports (λ (given : List ℕ). given) id found (Ok bytes)
+-- an answer, a fault of which goes by its name
+abbrev pub ByName : {F : Type 0} → (F → List ℕ) → (Result (List ℕ) F → Type 0) → Result (List ℕ) (List ℕ) → Type 0
+ByName {F} name Answers (Ok bytes) = Answers (Ok bytes)
+ByName {F} name Answers (Err named) = (fault : F) × Answers (Err fault) × (named ≡ name fault)
 
--- the desk gives out nothing by what is held of the document, and this is the name of its fault
-abbrev pub Withholds : Given → ℕ → Option Pages → List ℕ → Type 0
-Withholds Document id found name =
-    (fault : AskFault) × Asks (λ (given : List ℕ). given) found (Err fault) × (name ≡ ask_fault_name fault)
-Withholds File id found name =
-    (fault : ExportFault) × Exports (λ (given : List ℕ). given) id found (Err fault) × (name ≡ export_fault_name fault)
+-- what a desk gives out of a document: the document, or the file of its pages
+abbrev pub Gives : Given → ℕ → Documents → Result (List ℕ) (List ℕ) → Type 0
+Gives Document id held given = ByName ask_fault_name (Asks (λ (bytes : List ℕ). bytes) (map.get held id)) given
+Gives File id held given = ByName export_fault_name (Exports (λ (bytes : List ℕ). bytes) id (map.get held id)) given
 
--- How a command that gives out something of a document ends: what the desk gives goes out; or the text is no
--- identification's, there is no desk, or there is a reason that it gives nothing.
-pub data EndsGiving (what : Given) (text : List ℕ) (old : OnDesk) (status : ℕ) (new : OnDesk) : Type 0 where
-  no_id : ¬ HasId text → new.files ≡ old.files
-      → RefusesOnErrors (refusal_name refusals.FileId) old.streams status new.streams
-      → EndsGiving what text old status new
-  no_desk : (name : List ℕ) → HasId text → HasNoDesk old.files MOST_CAPACITY name new.files
-      → RefusesOnErrors name old.streams status new.streams → EndsGiving what text old status new
-  given : (id : ℕ) (desk : DeskView) (bytes : List ℕ) → HasId text → IsTextOfId text id
-      → OpensDesk old.files MOST_CAPACITY new.files.joint desk → new.files.set ≡ desk.saved
-      → Gives what id (map.get desk.held id) bytes → TellsBytes bytes old.streams status new.streams
-      → EndsGiving what text old status new
-  refused : (id : ℕ) (desk : DeskView) (name : List ℕ) → HasId text → IsTextOfId text id
-      → OpensDesk old.files MOST_CAPACITY new.files.joint desk → new.files.set ≡ desk.saved
-      → Withholds what id (map.get desk.held id) name → RefusesOnErrors name old.streams status new.streams
-      → EndsGiving what text old status new
+-- how a command ends that gives out something of a document
+abbrev pub EndsGiving : Given → List ℕ → OnDesk → ℕ → OnDesk → Type 0
+EndsGiving what text =
+    EndsOnId RefusesOnErrors text (λ id. EndsAtDesk RefusesOnErrors MOST_CAPACITY (GivesOut (Gives what id)))
 
 -- how `deliver` ends, which gives out the document
 abbrev pub EndsDeliver : List ℕ → OnDesk → ℕ → OnDesk → Type 0
-EndsDeliver text old status new = EndsGiving Document text old status new
+EndsDeliver text = EndsGiving Document text
 
 -- how `export` ends, which gives out the file of the pages that are held
 abbrev pub EndsExport : List ℕ → OnDesk → ℕ → OnDesk → Type 0
-EndsExport text old status new = EndsGiving File text old status new
+EndsExport text = EndsGiving File text
 
 -- ---- what is let go, and what is taken in
 
--- how `forget` ends: the desk was opened and has answered; or the text is no identification's, or there is no desk
-pub data EndsForget (text : List ℕ) (old : OnDesk) (status : ℕ) (new : OnDesk) : Type 0 where
-  no_id : ¬ HasId text → new.files ≡ old.files
-      → RefusesOnOutput (refusal_name refusals.FileId) old.streams status new.streams → EndsForget text old status new
-  no_desk : (name : List ℕ) → HasId text → HasNoDesk old.files MOST_CAPACITY name new.files
-      → RefusesOnOutput name old.streams status new.streams → EndsForget text old status new
-  opened : (id : ℕ) (desk after : DeskView) (reply : Result (Unit {0}) ForgetFault) → HasId text → IsTextOfId text id
-      → OpensDesk old.files MOST_CAPACITY new.files.joint desk → Forgets id desk reply after
-      → new.files.set ≡ after.saved
-      → TellsAnswer (λ _. forgotten_line id) forget_fault_name reply old.streams.output status new.streams.output
-      → OnlyOutput old.streams new.streams → EndsForget text old status new
+-- a desk that was opened has answered to a call, and this was told
+abbrev pub AnswersCall : {X F : Type 0} → (X → List ℕ) → (F → List ℕ) → (DeskView → Result X F → DeskView → Type 0)
+    → DeskView → StreamsView → ℕ → OnDesk → Type 0
+AnswersCall {X} {F} line name Call desk old status new =
+    (after : DeskView) × (reply : Result X F) × Call desk reply after × (new.files.set ≡ after.saved)
+    × TellsAnswer line name reply old.output status new.streams.output
 
--- no read failed, and these bytes were read, and no other: one more than the greatest file has, or all if they are
--- fewer
-abbrev pub ReadsFile : InputView → InputView → List ℕ → Type 0
-ReadsFile old new bytes = ReadsFirst old new IMPORT_BYTES bytes
+-- how `forget` ends, by what the desk has answered
+abbrev pub EndsForget : List ℕ → OnDesk → ℕ → OnDesk → Type 0
+EndsForget text = EndsOnId RefusesOnOutput text (λ id. EndsAtDesk RefusesOnOutput MOST_CAPACITY
+    (λ desk old status new. OnlyOutput old new.streams
+    × AnswersCall (λ _. forgotten_line id) forget_fault_name (Forgets id) desk old status new))
 
--- How `import` ends: the input was read, then the desk was opened, and it has answered; or the input could not be read;
--- or it was read, and there is no desk. Nothing was written to the standard error.
+-- How `import` ends: the input could not be read; or no read failed, and these bytes were read, and no other, one more
+-- than the greatest file has, or all if they are fewer, and then the desk was opened, and has answered. Nothing was
+-- written to the standard error.
 pub data EndsImport (capacity : ℕ) (old : OnDesk) (status : ℕ) (new : OnDesk) : Type 0 where
   not_read : (fault : InputFault) → HasInputFault old.streams.input new.streams.input fault → new.files ≡ old.files
       → TellsRefusal (input_fault_name fault) old.streams.output status new.streams.output
       → LeavesErrors old.streams new.streams → EndsImport capacity old status new
-  no_desk : (bytes name : List ℕ) → ReadsFile old.streams.input new.streams.input bytes
-      → HasNoDesk old.files capacity name new.files
-      → TellsRefusal name old.streams.output status new.streams.output
-      → LeavesErrors old.streams new.streams → EndsImport capacity old status new
-  opened : (bytes : List ℕ) (desk after : DeskView) (reply : Result Imported ImportFault)
-      → ReadsFile old.streams.input new.streams.input bytes → OpensDesk old.files capacity new.files.joint desk
-      → ImportsBytes bytes desk reply after → new.files.set ≡ after.saved
-      → TellsAnswer imported_line import_fault_name reply old.streams.output status new.streams.output
+  read : (bytes : List ℕ) → ReadsFirst old.streams.input new.streams.input IMPORT_BYTES bytes
+      → EndsAtDesk (λ name before told after. TellsRefusal name before.output told after.output) capacity
+      (AnswersCall imported_line import_fault_name (ImportsBytes bytes)) old status new
       → LeavesErrors old.streams new.streams → EndsImport capacity old status new
 
 -- ---- what is scanned
@@ -189,8 +173,7 @@ IsIdOn grid id = (page : PageView) × (corrected wrong : ℕ) × OpensAs grid pa
 
 -- why a picture has no grid
 abbrev pub HasNoGrid : Picture → ShapeFault → Type 0
-HasNoGrid p Shape = ¬ HasShape p
-HasNoGrid p Memory = HasShape p
+HasNoGrid p fault = (fault ≡ Shape → ¬ HasShape p) × (fault ≡ Memory → HasShape p)
 
 -- What is said of a picture, and the desk and the standard error afterwards: its grid is handed to the desk, or it has
 -- none; a refusal is noted. `A` is what the desk allocates in.
@@ -216,15 +199,15 @@ scan_images A = record {
   has_ended = λ at. at.desk.is_failed;
 }
 
--- How `scan` ends: there is no desk, and nothing was read; or the desk was opened before anything was read, and the
--- whole input was scanned, or the output has refused a line and the images up to that were. Either way each page that
--- was held is held with the same bytes, and what the desk holds is in order with its set.
-pub data EndsScan (A : Type 0) (capacity : ℕ) (old : OnDesk) (status : ℕ) (new : OnDesk) : Type 0 where
-  no_desk : (name : List ℕ) → HasNoDesk old.files capacity name new.files
-      → RefusesOnOutput name old.streams status new.streams → EndsScan A capacity old status new
-  opened : (desk after : DeskView) → OpensDesk old.files capacity new.files.joint desk
-      → TellsImages (scan_images A)
-      (progress_at (record { desk = desk; errors = old.streams.errors }) old.streams.input old.streams.output) status
-      (progress_at (record { desk = after; errors = new.streams.errors }) new.streams.input new.streams.output)
-      → KeepsPages desk.held after.held → IsInOrder after → new.files.set ≡ after.saved
-      → EndsScan A capacity old status new
+-- A desk that was opened before anything was read has scanned the whole input, or the output has refused a line and the
+-- images up to that were scanned. Either way each page that was held is held with the same bytes, and what the desk
+-- holds is in order with its set.
+abbrev pub ScansAll : Type 0 → DeskView → StreamsView → ℕ → OnDesk → Type 0
+ScansAll A desk old status new = (after : DeskView) × TellsImages (scan_images A)
+    (progress_at (record { desk = desk; errors = old.errors }) old.input old.output) status
+    (progress_at (record { desk = after; errors = new.streams.errors }) new.streams.input new.streams.output)
+    × KeepsPages desk.held after.held × IsInOrder after × (new.files.set ≡ after.saved)
+
+-- how `scan` ends; if there is no desk, nothing was read
+abbrev pub EndsScan : Type 0 → ℕ → OnDesk → ℕ → OnDesk → Type 0
+EndsScan A capacity = EndsAtDesk RefusesOnOutput capacity (ScansAll A)

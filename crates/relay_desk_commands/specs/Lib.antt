@@ -1,4 +1,3 @@
 pub mod Desks
 pub mod Held
-pub mod inner
 pub mod Copy

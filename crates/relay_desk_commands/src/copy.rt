@@ -1,26 +1,22 @@
 //! `relay copy`: the label of a page that a desk holds, again.
 
-ghost use Rattle.std.specs.Prelude.{◌≡◌, ◌≤◌, ◌*◌, true, false, length, IfOk, MatchResult};
+ghost use Rattle.std.specs.Prelude.{◌≡◌, ◌≤◌, ◌*◌, true, false, length, IfOk, MatchResult, Ok, Err, Some};
 ghost use Rattle.dm_append_label.specs.Labels.{Fits, IsTooLong};
 ghost use Rattle.dm_append_label.specs.declared.opening.TheConstants.{MOST_PAGE_BYTES};
-ghost use Rattle.dm_assembly_desk.specs.Documents.{lent_bytes, page};
-ghost use Rattle.dm_finder_frame.specs.Frame.{GridView};
-ghost use Rattle.dm_pbm_io.specs.Image.{picture, image_with_quiet_zone, written};
-ghost use Rattle.relay_desk_commands.specs.Copy.{Copies, EndsCopy, HasCopyFault, copy_fault_name};
-ghost use Rattle.relay_desk_commands.specs.Desks.{TellsBytes, desk_at};
-ghost use Rattle.relay_desk_commands.specs.declared.copy.CopyFault.TheVariants as copy_faults;
+ghost use Rattle.dm_assembly_desk.specs.Documents.{Documents, count_at, lent_bytes, page, page_at};
+ghost use Rattle.dm_pbm_io.specs.Image.{picture, written};
+ghost use Rattle.relay_desk_commands.specs.Copy.{EndsCopy, GivesCopy};
+ghost use Rattle.relay_desk_commands.specs.Desks.{desk_at};
 
 use crate::desk_opening::{id_of, open_desk};
 use dm_append_label::{FileId, Page, SealFault, seal};
 use dm_assembly_desk::{Desk, MOST_CAPACITY, Pages};
 use dm_check_blocks::Size;
 use dm_encodation::{Scheme, need};
-use dm_finder_frame::Grid;
 use dm_pbm_io::{Image, image_of};
 use dm_store::{Store, StoreSet};
-use relay_shared::{EndedDesk, Refusal, Streams, refuse};
-use relay_streams::WriteFault;
-use std::alloc::{AllocError, Allocator};
+use relay_shared::{EndedDesk, Refusal, Streams, refuse, status_after_bytes};
+use std::alloc::Allocator;
 use std::io::{Read, Write};
 
 /// Which page is copied, and in what form.
@@ -35,69 +31,7 @@ pub struct CopyOptions<'a> {
     pub scheme: Scheme,
 }
 
-/// Which page of which document is copied.
-#[derive(Clone, Copy)]
-pub(crate) struct AskedPage {
-    pub(crate) id: FileId,
-    /// Which page it is, if the document has as many.
-    pub(crate) m: u16,
-}
-
-/// The size and the encodation of a label.
-#[derive(Clone, Copy)]
-pub(crate) struct LabelForm {
-    pub(crate) size: Size,
-    pub(crate) scheme: Scheme,
-}
-
-/// Why a page isn't copied: the first of these, in this order, that applies.
-#[derive(Clone, Copy, Debug, PartialEq, Eq)]
-pub(crate) enum CopyFault {
-    /// No page of the document is held.
-    NotHeld,
-    /// The page isn't held.
-    Incomplete,
-    /// A label of this size has no room for the page in this encodation.
-    TooLong,
-    /// Memory was refused for the label or its image.
-    Memory,
-}
-
-impl CopyFault {
-    /// The variant's name.
-    pub(crate) fn name(self) -> &'static str
-        ensures { result.now ≡ copy_fault_name self }
-    {
-        match self {
-            CopyFault::NotHeld => "NotHeld",
-            CopyFault::Incomplete => "Incomplete",
-            CopyFault::TooLong => "TooLong",
-            CopyFault::Memory => "Memory",
-        }
-    }
-}
-
-impl From<AllocError> for CopyFault {
-    ghost from_gives = { λ _ fault. fault ≡ copy_faults.Memory };
-
-    fn from(_: AllocError) -> Self {
-        CopyFault::Memory
-    }
-}
-
 const HEAD_WORDS: usize = 4;
-
-fn has_room(size: Size, scheme: Scheme, bytes: &[u8]) -> bool
-    requires { length bytes.now ≤ MOST_PAGE_BYTES }
-    ensures room { result ≡ true → Fits size scheme bytes.now }
-    ensures none { result ≡ false → IsTooLong size scheme bytes.now }
-{
-    let words = size.data_words();
-    if words < HEAD_WORDS {
-        return false;
-    }
-    need(scheme, bytes) <= words - HEAD_WORDS
-}
 
 // Page m, if it is held. There is none above the last.
 fn held_page<'a, A: Allocator>(pages: &Pages<'a, A>, m: u16) -> Option<&'a [u8]>
@@ -109,61 +43,64 @@ fn held_page<'a, A: Allocator>(pages: &Pages<'a, A>, m: u16) -> Option<&'a [u8]>
     pages.get(m as u8)
 }
 
-fn copy_of<A: Allocator + Copy, T: StoreSet>(
-    alloc: A,
-    desk: &Desk<T, A>,
-    asked: AskedPage,
-    form: LabelForm,
-) -> Result<Grid<A>, CopyFault>
-    ensures { MatchResult result
-        (λ grid. Copies desk.now.held asked form grid)
-        (λ fault. HasCopyFault desk.now.held asked form fault) }
+fn has_room(size: Size, scheme: Scheme, bytes: &[u8]) -> bool
+    requires { length bytes.now ≤ MOST_PAGE_BYTES }
+    ensures room { result ≡ true → Fits size scheme bytes.now }
+    ensures none { result ≡ false → IsTooLong size scheme bytes.now }
 {
-    let Some(pages) = desk.pages(asked.id) else {
-        return Err(CopyFault::NotHeld);
-    };
-    let Some(bytes) = held_page(&pages, asked.m) else {
-        return Err(CopyFault::Incomplete);
-    };
-    if !has_room(form.size, form.scheme, bytes) {
-        return Err(CopyFault::TooLong);
-    }
-    let Some(page) = Page::new(asked.id, asked.m as u8, pages.n(), bytes.to_vec(alloc)?) else {
-        unreachable!()
-    };
-    match seal(alloc, &page, form.size, form.scheme) {
-        Ok(grid) => Ok(grid),
-        Err(SealFault::TooLong) => unreachable!(),
-        Err(SealFault::Memory) => Err(CopyFault::Memory),
-    }
+    let words = size.data_words();
+    words >= HEAD_WORDS && need(scheme, bytes) <= words - HEAD_WORDS
 }
 
-fn image_of_copy<A: Allocator + Copy, T: StoreSet>(
+// The image of the label of page m of n with these bytes, for which there is room.
+fn image_of_label<A: Allocator + Copy>(
     alloc: A,
-    desk: &Desk<T, A>,
-    asked: AskedPage,
-    form: LabelForm,
-) -> Result<Image<A>, CopyFault>
-    ensures result { MatchResult result
-        (λ image. (grid : GridView) × Copies desk.now.held asked form grid
-        × (picture image ≡ image_with_quiet_zone grid false))
-        (λ fault. HasCopyFault desk.now.held asked form fault) }
+    id: FileId,
+    m: u8,
+    n: u8,
+    bytes: &[u8],
+    size: Size,
+    scheme: Scheme,
+) -> Result<Image<A>, SealFault>
+    requires { (2 ≤ n) × (n ≤ 16) × (1 ≤ m) × (m ≤ n) }
+    ensures label { IfOk result (λ image. (held : Documents) → page_at held id m ≡ Some bytes.now
+        → count_at held id ≡ n → Fits size scheme bytes.now
+        → GivesCopy id m size scheme held (Ok (written (picture image)))) }
     ensures count { IfOk result (λ image. length image.pixels.items ≡ image.width * image.height) }
 {
-    let grid = copy_of(alloc, desk, asked, form)?;
+    let Some(page) = Page::new(id, m, n, bytes.to_vec(alloc)?) else {
+        unreachable!()
+    };
+    let grid = seal(alloc, &page, size, scheme)?;
     Ok(image_of(alloc, &grid, false)?)
 }
 
-fn put_image<A: Allocator, R: Read, W: Write, E: Write>(
-    streams: &mut Streams<R, W, E>,
-    image: &Image<A>,
-) -> u8
-    requires { length image.now.pixels.items ≡ image.now.width * image.now.height }
-    ensures { TellsBytes (written (picture image.now)) streams.old result streams.new }
+// The image of the label of page m of a document; or why there is none, by name.
+fn copy_of<A: Allocator + Copy, T: StoreSet>(
+    alloc: A,
+    desk: &Desk<T, A>,
+    id: FileId,
+    m: u16,
+    size: Size,
+    scheme: Scheme,
+) -> Result<Image<A>, &'static str>
+    ensures given { MatchResult result
+        (λ image. GivesCopy id m size scheme desk.now.held (Ok (written (picture image))))
+        (λ name. GivesCopy id m size scheme desk.now.held (Err name.now)) }
+    ensures count { IfOk result (λ image. length image.pixels.items ≡ image.width * image.height) }
 {
-    match image.write(&mut streams.output) {
-        Ok(()) => 0,
-        Err(WriteFault::Write) => refuse(&mut streams.errors, WriteFault::Write.name()),
+    let Some(pages) = desk.pages(id) else {
+        return Err("NotHeld");
+    };
+    let Some(bytes) = held_page(&pages, m) else {
+        return Err("Incomplete");
+    };
+    if !has_room(size, scheme, bytes) {
+        return Err("TooLong");
+    }
+    match image_of_label(alloc, id, m as u8, pages.n(), bytes, size, scheme) {
+        Ok(image) => Ok(image),
+        Err(_) => Err("Memory"),
     }
 }
 
@@ -192,17 +129,12 @@ pub fn copy_command<A: Allocator + Copy, S: Store, T: StoreSet, R: Read, W: Writ
         Ok(opened) => opened,
         Err(ended) => return ended,
     };
-    let asked = AskedPage {
-        id,
-        m: options.page,
-    };
-    let form = LabelForm {
-        size,
-        scheme: options.scheme,
-    };
-    let status = match image_of_copy(alloc, &opened.desk, asked, form) {
-        Ok(image) => put_image(streams, &image),
-        Err(reason) => refuse(&mut streams.errors, reason.name()),
+    let status = match copy_of(alloc, &opened.desk, id, options.page, size, options.scheme) {
+        Ok(image) => {
+            let put = image.write(&mut streams.output);
+            status_after_bytes(&mut streams.errors, put)
+        }
+        Err(name) => refuse(&mut streams.errors, name),
     };
     opened.end(status)
 }

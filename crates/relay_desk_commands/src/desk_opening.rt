@@ -1,7 +1,7 @@
 //! What a command of a desk begins with: the identification of a text, and the desk.
 
 ghost use Rattle.std.specs.Prelude.{MatchOption, ◌≡◌, ℕ, List, MatchResult};
-ghost use Rattle.relay_desk_commands.specs.Desks.{HasId, IsTextOfId, HasNoDesk, OpensDesk};
+ghost use Rattle.relay_desk_commands.specs.Desks.{IsTextOfId, HasNoDesk, OpensDesk};
 ghost use Rattle.dm_assembly_desk.specs.Documents.{IsInOrder};
 ghost use Rattle.relay_shared.specs.Command.{TellsRefusal};
 
@@ -15,7 +15,7 @@ use std::io::Write;
 
 /// The identification of a text, its two words in hexadecimal.
 pub(crate) fn id_of(text: &str) -> Option<FileId>
-    ensures { MatchOption result (¬ HasId text.now) (λ id. HasId text.now × IsTextOfId text.now id) }
+    ensures { MatchOption result ((id : ℕ) → ¬ IsTextOfId text.now id) (λ id. IsTextOfId text.now id) }
 {
     let mut words = [0u8; 2];
     hex::decode_to_slice(text, &mut words).ok()?;

@@ -1,21 +1,16 @@
 //! The commands of one document of a desk, named by its identification: `relay deliver` gives it back, `relay export`
 //! gives the pages that are held of it, for another desk, and `relay forget` lets it go.
 
-ghost use Rattle.std.specs.Prelude.{MatchResult, ◌≡◌, false, Result};
-ghost use Rattle.std.specs.FinMap as map;
-ghost use Rattle.relay_desk_commands.specs.Desks.{EndsDeliver, EndsExport, EndsGiving, Gives, TellsBytes, Withholds, desk_at, EndsForget};
-ghost use Rattle.dm_assembly_desk.specs.Faults.{forget_fault_name};
-ghost use Rattle.dm_assembly_desk.specs.Adding.{Forgets};
-ghost use Rattle.dm_assembly_desk.specs.declared.fault.ForgetFault.{ForgetFault};
-ghost use Rattle.relay_shared.specs.Lines.{forgotten_line};
-ghost use Rattle.relay_shared.specs.Command.{TellsAnswer};
+ghost use Rattle.std.specs.Prelude.{MatchResult, Ok, Err};
+ghost use Rattle.relay_desk_commands.specs.Desks.{EndsDeliver, EndsExport, EndsForget, EndsGiving, Gives, desk_at};
 
 use crate::desk_opening::{id_of, open_desk};
 use dm_append_label::FileId;
 use dm_assembly_desk::{AskFault, Desk, ExportFault, MOST_CAPACITY};
 use dm_store::{Store, StoreSet};
-use relay_shared::{EndedDesk, Refusal, Streams, put_forgotten, refuse, status_after};
-use relay_streams::{Output, WriteFault};
+use relay_shared::{
+    EndedDesk, Refusal, Streams, put_forgotten, refuse, status_after, status_after_bytes,
+};
 use std::alloc::Allocator;
 use std::io::{Read, Write};
 
@@ -28,23 +23,14 @@ pub(crate) enum Given {
     File,
 }
 
-fn put_bytes<R: Read, W: Write, E: Write>(streams: &mut Streams<R, W, E>, bytes: &[u8]) -> u8
-    ensures { TellsBytes bytes.now streams.old result streams.new }
-{
-    match streams.output.put(bytes) {
-        Ok(()) => 0,
-        Err(WriteFault::Write) => refuse(&mut streams.errors, WriteFault::Write.name()),
-    }
-}
-
 fn bytes_of<A: Allocator + Copy, T: StoreSet>(
     desk: &Desk<T, A>,
     id: FileId,
     given: Given,
 ) -> Result<Vec<u8, A>, &'static str>
     ensures { MatchResult result
-        (λ bytes. Gives given id (map.get desk.now.held id) bytes.items)
-        (λ name. Withholds given id (map.get desk.now.held id) name.now) }
+        (λ bytes. Gives given id desk.now.held (Ok bytes.items))
+        (λ name. Gives given id desk.now.held (Err name.now)) }
 {
     match given {
         Given::Document => desk.document(id).map_err(AskFault::name),
@@ -72,7 +58,10 @@ fn give_out<A: Allocator + Copy, S: Store, T: StoreSet, R: Read, W: Write, E: Wr
         Err(ended) => return ended,
     };
     let status = match bytes_of(&opened.desk, id, given) {
-        Ok(bytes) => put_bytes(streams, &bytes),
+        Ok(bytes) => {
+            let put = streams.output.put(&bytes);
+            status_after_bytes(&mut streams.errors, put)
+        }
         Err(name) => refuse(&mut streams.errors, name),
     };
     opened.end(status)
@@ -108,22 +97,6 @@ pub fn export_command<A: Allocator + Copy, S: Store, T: StoreSet, R: Read, W: Wr
     give_out(alloc, store, set, streams, text, Given::File)
 }
 
-#[tactic(auto, using(relay_shared::proofs::Telling::told))]
-fn forget<A: Allocator + Copy, T: StoreSet, W: Write>(
-    desk: &mut Desk<T, A>,
-    output: &mut Output<W>,
-    id: FileId,
-) -> u8
-    requires { desk.old.is_failed ≡ false }
-    ensures { (reply : Result (Unit {0}) ForgetFault) × Forgets id desk.old reply desk.new
-        × TellsAnswer (λ _. forgotten_line id) forget_fault_name reply output.old result output.new }
-{
-    match desk.forget(id) {
-        Ok(()) => status_after(put_forgotten(output, id)),
-        Err(fault) => refuse(output, fault.name()),
-    }
-}
-
 /// Lets a document go, and prints `forgotten IIII`, its identification, or the line `refused NAME`. The text, as for
 /// `deliver`, is looked at before the files.
 pub fn forget_command<A: Allocator + Copy, S: Store, T: StoreSet, R: Read, W: Write, E: Write>(
@@ -144,6 +117,9 @@ pub fn forget_command<A: Allocator + Copy, S: Store, T: StoreSet, R: Read, W: Wr
         Ok(opened) => opened,
         Err(ended) => return ended,
     };
-    let status = forget(&mut opened.desk, &mut streams.output, id);
+    let status = match opened.desk.forget(id) {
+        Ok(()) => status_after(put_forgotten(&mut streams.output, id)),
+        Err(fault) => refuse(&mut streams.output, fault.name()),
+    };
     opened.end(status)
 }

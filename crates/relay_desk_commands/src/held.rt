@@ -1,17 +1,14 @@
 //! `relay held`: what the files of a desk hold, told without a desk.
 
-ghost use Rattle.std.specs.Prelude.{◌≡◌, ◌+◌, ◌<◌, false, Option, None, Result, IfOk, IfSome, IsTrue, OnErr, take};
+ghost use Rattle.std.specs.Prelude.{◌≡◌, ◌+◌, ◌++◌, ◌<◌, ◌≤◌, false, Option, None, Some, IfOk, IfSome, IsTrue, List, ℕ};
 ghost use Rattle.std.specs.FinMap as map;
 ghost use Rattle.std.specs.Option.{option_copied};
 ghost use Rattle.dm_store.specs.Saved.{Loads, Saved};
-ghost use Rattle.dm_assembly_desk.specs.Documents.{Documents};
 ghost use Rattle.dm_assembly_desk.specs.Opening.{IsFirstFrom};
-ghost use Rattle.dm_assembly_desk.specs.declared.fault.MoveFault.{MoveFault};
+ghost use Rattle.relay_streams.specs.Streams.{OutputView};
 ghost use Rattle.relay_shared.specs.Command.{Puts};
 ghost use Rattle.relay_desk_commands.specs.Desks.{desk_at};
-ghost use Rattle.relay_desk_commands.specs.Held.{EndsHeld, SeesJoint, SeesNumber, TellsAll, TellsHeld, TellsOne};
-ghost use Rattle.relay_desk_commands.specs.Held.{documents_in, joint_line, seen_line};
-ghost use Rattle.relay_desk_commands.specs.inner.Listing.{CutsList, HasCount, WritesList};
+ghost use Rattle.relay_desk_commands.specs.Held.{EndsHeld, SeenJoint, SeesJoint, SeesNumber, TellsHeld, documents_in, joint_line, seen_line};
 
 use crate::desk_opening::id_of;
 use dm_append_label::FileId;
@@ -40,21 +37,19 @@ fn joint_in<A: Allocator>(loaded: &Result<Option<Vec<u8, A>>, LoadFault>) -> See
             Some(bytes) => Ok(Some(JointFile::read(bytes)?)),
             None => Ok(None),
         },
-        Err(LoadFault::Device) => Err(MoveFault::Device),
-        Err(LoadFault::Memory) => Err(MoveFault::Memory),
+        Err(fault) => Err(MoveFault::from(*fault)),
     }
 }
 
 // What is held of the first document in the file of an older version from a number on.
+#[tactic(auto, using(crate::proofs::LoadedJoint::none_held))]
 fn first_from(joint: &SeenJoint<'_>, number: u32) -> Option<Held>
     ensures first { IsFirstFrom (documents_in joint.now) number result }
-    ensures count { IfSome result HasCount }
+    ensures count { IfSome result (λ held. held.n ≤ 16) }
 {
     match joint {
-        Ok(found) => match found {
-            Some(documents) => documents.first_from(number),
-            None => None,
-        },
+        Ok(Some(documents)) => documents.first_from(number),
+        Ok(None) => None,
         Err(_) => None,
     }
 }
@@ -69,11 +64,11 @@ fn seen_at<T: StoreSet>(
 ) -> Result<Option<Held>, DeskFault>
     requires absent { is_there ≡ false → IsTrue (T.state set.old).is_honest
         → map.get (T.state set.old).content number ≡ None }
-    requires count { IfSome first HasCount }
+    requires count { IfSome first (λ held. held.n ≤ 16) }
     ensures same { T.state set.new ≡ T.state set.old }
-    ensures sees { (joint : Documents) → IsFirstFrom joint number first
+    ensures sees { (joint : SeenJoint) → IsFirstFrom (documents_in joint) number first
         → SeesNumber (T.state set.old) joint number result }
-    ensures count { IfOk result (λ seen. IfSome seen HasCount) }
+    ensures count { IfOk result (λ seen. IfSome seen (λ held. held.n ≤ 16)) }
 {
     if is_there && let Some(held) = held_at(set, number)? {
         return Ok(Some(held));
@@ -81,14 +76,18 @@ fn seen_at<T: StoreSet>(
     Ok(first.filter(|held| held.id.number() == number))
 }
 
+// Writes the line of what was seen of a number, if those before it were written.
 fn put_seen<W: Write>(
     output: &mut Output<W>,
+    before: Result<(), WriteFault>,
     number: u16,
     seen: Result<Option<Held>, DeskFault>,
 ) -> Result<(), WriteFault>
-    requires { IfOk seen (λ found. IfSome found HasCount) }
-    ensures { Puts (seen_line number seen) output.old result output.new }
+    requires { IfOk seen (λ found. IfSome found (λ held. held.n ≤ 16)) }
+    ensures { (text : List ℕ) (old : OutputView) → Puts text old before output.old
+        → Puts (text ++ seen_line number seen) old result output.new }
 {
+    before?;
     match seen {
         Ok(Some(held)) => put_held(output, held),
         Ok(None) => Ok(()),
@@ -100,9 +99,9 @@ fn put_seen<W: Write>(
 fn next_from(joint: &SeenJoint<'_>, first: Option<Held>, number: u32) -> Option<Held>
     requires fits { number < 65536 }
     requires first { IsFirstFrom (documents_in joint.now) number first }
-    requires count { IfSome first HasCount }
+    requires count { IfSome first (λ held. held.n ≤ 16) }
     ensures first { IsFirstFrom (documents_in joint.now) (number + 1) result }
-    ensures count { IfSome result HasCount }
+    ensures count { IfSome result (λ held. held.n ≤ 16) }
 {
     let Some(held) = first else {
         return None;
@@ -122,58 +121,41 @@ fn put_joint<W: Write>(output: &mut Output<W>, joint: &SeenJoint<'_>) -> Result<
     }
 }
 
-// Writes the line of each number, as they rise, and says whether one is of a file that is not sound.
-fn put_list<T: StoreSet, W: Write>(
-    set: &mut T,
-    keys: &[u16],
-    output: &mut Output<W>,
-    joint: &SeenJoint<'_>,
-) -> Result<bool, WriteFault>
-    requires { IsTrue (T.state set.old).is_honest
-        → keys.now ≡ take (65536 + 1) (map.keys (T.state set.old).content) }
+// Tells of each number, as they rise. Nothing more is written once the output has refused a line.
+fn tell_all<T: StoreSet, W: Write>(set: &mut T, output: &mut Output<W>, joint: &SeenJoint<'_>) -> u8
     ensures same { T.state set.new ≡ T.state set.old }
-    ensures written { IfOk result (λ unsound. WritesList (record { set = T.state set.old; joint = joint.now })
-        65536 unsound output.old output.new) }
-    ensures cut { OnErr result
-        (CutsList (record { set = T.state set.old; joint = joint.now }) output.old output.new) }
+    ensures tells { TellsHeld (T.state set.old) joint.now None output.old result output.new }
 {
-    put_joint(output, joint)?;
+    let keys = match set.keys(65_536) {
+        Ok(keys) => keys,
+        Err(fault) => return refuse(output, MoveFault::from(fault).name()),
+    };
+    let mut put = put_joint(output, joint);
     let mut unsound = joint.is_err();
     let mut first = first_from(joint, 0);
     for number in 0..65_536u32 {
         let key = number as u16;
-        let seen = seen_at(set, is_listed(keys, key), first, key);
-        unsound |= matches!(seen, Err(_));
-        put_seen(output, key, seen)?;
+        let seen = seen_at(set, is_listed(&keys, key), first, key);
+        unsound |= seen.is_err();
+        put = put_seen(output, put, key, seen);
         first = next_from(joint, first, number);
     }
-    Ok(unsound)
+    u8::from(unsound || put.is_err())
 }
 
-fn tell_all<T: StoreSet, W: Write>(set: &mut T, output: &mut Output<W>, joint: &SeenJoint<'_>) -> u8
-    ensures same { T.state set.new ≡ T.state set.old }
-    ensures tells { TellsAll (record { set = T.state set.old; joint = joint.now }) output.old result output.new }
-{
-    let keys = match set.keys(65_536) {
-        Ok(keys) => keys,
-        Err(LoadFault::Device) => return refuse(output, DeskFault::Device.name()),
-        Err(LoadFault::Memory) => return refuse(output, DeskFault::Memory.name()),
-    };
-    match put_list(set, &keys, output, joint) {
-        Ok(unsound) => u8::from(unsound),
-        Err(WriteFault::Write) => 1,
-    }
-}
-
-fn tell_one<T: StoreSet, W: Write>(
+// Tells of the document of an identification, or of all.
+fn tell<T: StoreSet, W: Write>(
     set: &mut T,
     output: &mut Output<W>,
     joint: &SeenJoint<'_>,
-    id: FileId,
+    id: Option<FileId>,
 ) -> u8
     ensures same { T.state set.new ≡ T.state set.old }
-    ensures tells { TellsOne (record { set = T.state set.old; joint = joint.now }) id output.old result output.new }
+    ensures tells { TellsHeld (T.state set.old) joint.now id output.old result output.new }
 {
+    let Some(id) = id else {
+        return tell_all(set, output, joint);
+    };
     let number = id.number();
     let first = first_from(joint, number as u32);
     match seen_at(set, true, first, number) {
@@ -192,33 +174,14 @@ fn tell_one<T: StoreSet, W: Write>(
     }
 }
 
-// Loads the file of an older version, and tells what is held of one document, or of all.
-fn load_and_tell<S: Store, T: StoreSet, W: Write>(
-    store: &mut S,
-    set: &mut T,
-    output: &mut Output<W>,
-    id: Option<FileId>,
-) -> u8
-    ensures store { S.state store.new ≡ S.state store.old }
-    ensures same { T.state set.new ≡ T.state set.old }
-    ensures tells { (joint : Result (Option Documents) MoveFault) × SeesJoint (S.state store.old) joint
-        × TellsHeld (record { set = T.state set.old; joint = joint }) id output.old result output.new }
-{
-    let loaded = store.load(MOST_JOINT_FILE_BYTES);
-    let joint = joint_in(&loaded);
-    match id {
-        None => tell_all(set, output, &joint),
-        Some(id) => tell_one(set, output, &joint, id),
-    }
-}
-
 /// Prints a line for each document of which a page is held, by rising identification: `IIII N complete`, or
 /// `IIII N lacks 3 7 12`, its identification, how many pages it has, and which of them are missing. With the text of an
 /// identification, as for `deliver`, it prints that line alone, or `refused NotHeld`.
 ///
 /// In the place of a file that can't be read stands `file NAME FAULT`, and the others are listed all the same; for the
 /// file of an older version that line is the first, and its name is `joint`. The exit status is then 1. No desk is
-/// opened, nothing is saved or moved, and one document is in memory at a time.
+/// opened, nothing is saved or moved, and one document is in memory at a time. Once the output has failed nothing more
+/// is written, but the files are read to the end all the same.
 pub fn held_command<S: Store, T: StoreSet, R: Read, W: Write, E: Write>(
     store: S,
     set: T,
@@ -240,6 +203,8 @@ pub fn held_command<S: Store, T: StoreSet, R: Read, W: Write, E: Write>(
             }
         },
     };
-    let status = load_and_tell(&mut store, &mut set, &mut streams.output, id);
+    let loaded = store.load(MOST_JOINT_FILE_BYTES);
+    let joint = joint_in(&loaded);
+    let status = tell(&mut set, &mut streams.output, &joint, id);
     EndedDesk { status, store, set }
 }

@@ -1,41 +1,16 @@
 //! `relay import`: pages from another desk.
 
-ghost use Rattle.std.specs.Prelude.{◌≡◌, false, Result};
-ghost use Rattle.dm_assembly_desk.specs.Faults.{import_fault_name};
-ghost use Rattle.dm_assembly_desk.specs.Adding.{ImportsBytes};
-ghost use Rattle.dm_assembly_desk.specs.declared.fault.ImportFault.{ImportFault};
-ghost use Rattle.dm_assembly_desk.specs.declared.reply.Imported.{Imported};
 ghost use Rattle.relay_streams.specs.Streams.{TakesPart};
-ghost use Rattle.relay_shared.specs.Lines.{imported_line};
-ghost use Rattle.relay_shared.specs.Command.{TellsAnswer};
 ghost use Rattle.relay_desk_commands.specs.Desks.{EndsImport, desk_at};
 
 use crate::desk_opening::open_desk;
-use dm_assembly_desk::Desk;
 use dm_store::{Store, StoreSet};
 use relay_shared::{EndedDesk, Streams, put_imported, refuse, status_after};
-use relay_streams::Output;
 use std::alloc::Allocator;
 use std::io::{Read, Write};
 
 /// One byte more than the greatest file of a document.
 pub const IMPORT_BYTES: usize = 41_643;
-
-#[tactic(auto, using(relay_shared::proofs::Telling::told))]
-fn import<A: Allocator + Copy, T: StoreSet, W: Write>(
-    desk: &mut Desk<T, A>,
-    output: &mut Output<W>,
-    bytes: &[u8],
-) -> u8
-    requires { desk.old.is_failed ≡ false }
-    ensures { (reply : Result Imported ImportFault) × ImportsBytes bytes.now desk.old reply desk.new
-        × TellsAnswer imported_line import_fault_name reply output.old result output.new }
-{
-    match desk.import(bytes) {
-        Ok(imported) => status_after(put_imported(output, imported)),
-        Err(fault) => refuse(output, fault.name()),
-    }
-}
 
 /// Reads the file that `export` has written, at most 41,643 bytes of it, holds and saves its pages that were not held,
 /// and prints `IIII n added MASK KIND`: the identification, how many pages the document has, which of them were added
@@ -63,6 +38,9 @@ pub fn import_command<A: Allocator + Copy, S: Store, T: StoreSet, R: Read, W: Wr
         Ok(opened) => opened,
         Err(ended) => return ended,
     };
-    let status = import(&mut opened.desk, &mut streams.output, &bytes);
+    let status = match opened.desk.import(&bytes) {
+        Ok(imported) => status_after(put_imported(&mut streams.output, imported)),
+        Err(fault) => refuse(&mut streams.output, fault.name()),
+    };
     opened.end(status)
 }

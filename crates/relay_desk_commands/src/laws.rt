@@ -1,12 +1,12 @@
 //! Laws of what stands here: the function's contract is the law.
 
-ghost use Rattle.std.specs.Prelude.{◌≡◌};
+ghost use Rattle.std.specs.Prelude.{◌≡◌, ℕ};
 ghost use Rattle.dm_finder_frame.specs.Frame.{GridView};
 ghost use Rattle.dm_symbol.specs.Correction.{IsNear};
 ghost use Rattle.dm_assembly_desk.specs.Documents.{Documents};
 ghost use Rattle.relay_desk_commands.specs.Copy.{Copies, OpensAsHeld, OpensAsNoOther};
-ghost use Rattle.relay_desk_commands.specs.declared.copy.AskedPage.{AskedPage};
-ghost use Rattle.relay_desk_commands.specs.declared.copy.LabelForm.{LabelForm};
+ghost use Rattle.dm_check_blocks.specs.declared.size.Size.{Size};
+ghost use Rattle.dm_encodation.specs.declared.scheme.Scheme.{Scheme};
 
 use crate::import::IMPORT_BYTES;
 use dm_append_label::{LabelFault, Opened, open_label};
@@ -26,10 +26,10 @@ pub fn copies_open_as_the_page_held<A: Allocator + Copy>(
     alloc: A,
     grid: &Grid<A>,
 ) -> Result<Opened<A>, LabelFault>
-    ensures itself { (held : Documents) (asked : AskedPage) (form : LabelForm)
-        → Copies held asked form grid.now → OpensAsHeld held asked result }
-    ensures near { (held : Documents) (asked : AskedPage) (form : LabelForm) (copy : GridView)
-        → Copies held asked form copy → IsNear grid.now copy → OpensAsNoOther held asked result }
+    ensures itself { (held : Documents) (id m : ℕ) (size : Size) (scheme : Scheme)
+        → Copies held id m size scheme grid.now → OpensAsHeld held id m result }
+    ensures near { (held : Documents) (id m : ℕ) (size : Size) (scheme : Scheme) (copy : GridView)
+        → Copies held id m size scheme copy → IsNear grid.now copy → OpensAsNoOther held id m result }
 {
     let size = grid.size();
     grid_carries_its_words(size);

@@ -1,7 +1,9 @@
 //! `relay scan`: labels gathered at a desk.
 
-ghost use Rattle.std.specs.Prelude.{◌≡◌, false, IfSome};
+ghost use Rattle.std.specs.Prelude.{◌≡◌, false, true, IfSome, MatchResult};
+ghost use Rattle.std.specs.Io.KnownBytes.{Appends};
 ghost use Rattle.dm_assembly_desk.specs.Documents.{KeepsPages, IsInOrder};
+ghost use Rattle.relay_streams.specs.Streams.{AppendsPart, refused_line};
 ghost use Rattle.relay_desk_commands.specs.Desks.{desk_at, EndsScan, IsIdOn, Notes, scan_images};
 
 use crate::desk_opening::{OpenDesk, open_desk};
@@ -44,6 +46,22 @@ fn put_note<E: Write>(errors: &mut Output<E>, number: u32, id: Option<FileId>, n
     };
 }
 
+// Writes the line of a refusal, after which the scan may have ended.
+fn put_refused<W: Write>(
+    output: &mut Output<W>,
+    name: &str,
+    last: bool,
+) -> Result<Answered, WriteFault>
+    ensures { MatchResult result
+        (λ answered. Appends output.old.contents output.new.contents (refused_line name.now)
+        × (answered.refused ≡ true) × (answered.last ≡ last))
+        (λ _. AppendsPart output.old.contents output.new.contents (refused_line name.now)
+        × (output.new.has_failed ≡ true)) }
+{
+    output.put_refusal(name)?;
+    Ok(Answered { last, ..REFUSED })
+}
+
 // Hands the grid of each image to the desk, writes the line of the answer, and notes of which image a refusal is.
 #[derive(Drop)]
 struct Scanning<T: StoreSet, A: Allocator + Copy> {
@@ -71,8 +89,7 @@ impl<T: StoreSet, A: Allocator + Copy> OnImages<A> for Scanning<T, A> {
             Err(shape) => {
                 let name = shape.name();
                 put_note(errors, number, None, name);
-                output.put_refusal(name)?;
-                return Ok(REFUSED);
+                return put_refused(output, name, false);
             }
         };
         match self.desk.accept(&grid) {
@@ -84,9 +101,7 @@ impl<T: StoreSet, A: Allocator + Copy> OnImages<A> for Scanning<T, A> {
                 let id = id_of_label(alloc, &grid);
                 let name = fault.name();
                 put_note(errors, number, id, name);
-                output.put_refusal(name)?;
-                let last = matches!(fault, ScanFault::Save);
-                Ok(Answered { last, ..REFUSED })
+                put_refused(output, name, matches!(fault, ScanFault::Save))
             }
         }
     }

@@ -3,6 +3,7 @@
 /// What the help of a command says above its options and below them.
 #[derive(Clone, Copy)]
 pub struct Page {
+    pub name: &'static str,
     pub about: &'static str,
     pub usage: &'static str,
     pub more: &'static str,
@@ -19,7 +20,9 @@ pub const SCHEME: &str = "how the bytes are encoded: ascii, c40, text or\nbase25
 pub const HEX: &str =
     "the 20 digits that `give` printed, or the form with\ncheck digits that `ticket` printed";
 
+/// That of the program itself.
 pub const PROGRAM: Page = Page {
+    name: "relay",
     about: "Relays documents printed as Data Matrix labels",
     usage: "relay [COMMAND] [OPTIONS]",
     more: "\
@@ -31,22 +34,25 @@ Exit status: 0 where all was done; 1 where something was refused, which a line
 says what a refusal means.",
 };
 
-pub const WORDS: Page = Page {
-    about: "Prints the words of a document's symbol, in decimal",
-    usage: "relay words [--side SIDE] [--scheme SCHEME] < DOCUMENT",
-    more: "\
+/// Those of the commands, in the order in which the program's help lists them.
+pub static COMMANDS: [Page; 20] = [
+    Page {
+        name: "words",
+        about: "Prints the words of a document's symbol, in decimal",
+        usage: "relay words [--side SIDE] [--scheme SCHEME] < DOCUMENT",
+        more: "\
 A word is one of the numbers from 0 to 255 that a symbol holds. Side 10 holds 6
 digits or 1 byte, side 132 holds 2608 digits or 1301 bytes; docs/SYMBOLS.md has
 the whole table. A refusal goes to standard output.
 
 Example:
   printf 123456 | relay words",
-};
-
-pub const DRAW: Page = Page {
-    about: "Draws a document's symbol as a PBM image",
-    usage: "relay draw [--side SIDE] [--scheme SCHEME] [--plain] < DOCUMENT > IMAGE",
-    more: "\
+    },
+    Page {
+        name: "draw",
+        about: "Draws a document's symbol as a PBM image",
+        usage: "relay draw [--side SIDE] [--scheme SCHEME] [--plain] < DOCUMENT > IMAGE",
+        more: "\
 The image has one pixel per module, and around the symbol a quiet zone of one
 light pixel, which a scanner needs. Side 10 holds 6 digits or 1 byte, side 132
 holds 2608 digits or 1301 bytes; docs/SYMBOLS.md has the whole table, and
@@ -54,12 +60,12 @@ docs/RECIPES.md says how to print images. A refusal goes to standard error.
 
 Example:
   printf 123456 | relay draw --side 18 > symbol.pbm",
-};
-
-pub const READ: Page = Page {
-    about: "Prints what the symbols in PBM images carry",
-    usage: "relay read [IMAGES ..] < IMAGES",
-    more: "\
+    },
+    Page {
+        name: "read",
+        about: "Prints what the symbols in PBM images carry",
+        usage: "relay read [IMAGES ..] < IMAGES",
+        more: "\
 An image has one pixel per module, and around the symbol a quiet zone of one
 pixel. Packed images may follow one another. Each gives a line:
   label IIII m/n corrected C wrong W HEX
@@ -73,24 +79,36 @@ Where files are named, each is read as if the command were given for it alone.
 
 Example:
   relay read < symbol.pbm",
-};
-
-pub const LEDGER: Page = Page {
-    about: "Makes the ledger of a printer",
-    usage: "relay ledger --file PATH --first N --last N [--number N]",
-    more: "\
+    },
+    Page {
+        name: "ledger",
+        about: "Makes the ledger of a printer",
+        usage: "relay ledger --file PATH --first N --last N [--number N]",
+        more: "\
 A ledger is what a printer remembers: which identifications are free. Give no
 identification to two ledgers. Prints `left N`, how many are free. A refusal
 goes to standard output, and a file that holds something is not written over.
 
 Example:
   relay ledger --file north.ledger --first 0 --last 9999 --number 1",
-};
+    },
+    Page {
+        name: "plan",
+        about: "Prints for each side how many labels a document takes",
+        usage: "relay plan [--scheme SCHEME] < DOCUMENT",
+        more: "\
+Prints a line `side N labels K` for each side for which the document can be cut
+into labels, the smallest side first: `print` with that side prints K labels.
+Nothing is printed or saved. A refusal goes to standard output.
 
-pub const PRINT: Page = Page {
-    about: "Prints a document as labels that carry one identification",
-    usage: "relay print --file PATH (--side SIDE | --labels K) [--scheme SCHEME]\n         [--number N] < DOCUMENT > IMAGES",
-    more: "\
+Example:
+  relay plan < letter",
+    },
+    Page {
+        name: "print",
+        about: "Prints a document as labels that carry one identification",
+        usage: "relay print --file PATH (--side SIDE | --labels K) [--scheme SCHEME]\n         [--number N] < DOCUMENT > IMAGES",
+        more: "\
 The document is cut into 2 to 16 labels, which carry the least identification
 that is free. It is saved as used, then `printed IIII n left N` goes to standard
 error (the identification, the number of labels, how many are left), and then
@@ -103,49 +121,24 @@ at side 132 2600 digits or 1297 bytes. A refusal goes to standard error.
 
 Example:
   relay print --file north.ledger --number 1 --side 52 < letter > labels.pbm",
-};
-
-pub const PLAN: Page = Page {
-    about: "Prints for each side how many labels a document takes",
-    usage: "relay plan [--scheme SCHEME] < DOCUMENT",
-    more: "\
-Prints a line `side N labels K` for each side for which the document can be cut
-into labels, the smallest side first: `print` with that side prints K labels.
-Nothing is printed or saved. A refusal goes to standard output.
-
-Example:
-  relay plan < letter",
-};
-
-pub const GIVE: Page = Page {
-    about: "Gives free identifications to another printer, by a ticket",
-    usage: "relay give --file PATH --number N --to N --first N --last N",
-    more: "\
+    },
+    Page {
+        name: "give",
+        about: "Gives free identifications to another printer, by a ticket",
+        usage: "relay give --file PATH --number N --to N --first N --last N",
+        more: "\
 The identifications are saved as gone, and then `ticket HEX` is printed. Only
 the printer that it is for can take it, and only once. A ticket that is lost
 takes its identifications with it. A refusal goes to standard output.
 
 Example:
   relay give --file north.ledger --number 1 --to 2 --first 5000 --last 5999",
-};
-
-pub const TAKE: Page = Page {
-    about: "Takes the identifications of a ticket",
-    usage: "relay take --file PATH --number N --ticket HEX",
-    more: "\
-Prints `taken left N`, how many identifications are free then. A ticket is
-taken once. Take the tickets of one giver in the order in which they were
-given: after a later one an earlier one is refused `Old`. A refusal goes to
-standard output.
-
-Example:
-  relay take --file south.ledger --number 2 --ticket 0001000000021388176f",
-};
-
-pub const TICKET: Page = Page {
-    about: "Prints what a ticket gives, and its form to copy by hand",
-    usage: "relay ticket --ticket HEX",
-    more: "\
+    },
+    Page {
+        name: "ticket",
+        about: "Prints what a ticket gives, and its form to copy by hand",
+        usage: "relay ticket --ticket HEX",
+        more: "\
 Prints, a line each:
   from P to Q serial S first A last B
                     printer P gives the identifications from A to B to
@@ -158,12 +151,25 @@ refusal goes to standard output.
 
 Example:
   relay ticket --ticket 0001000000021388176f",
-};
+    },
+    Page {
+        name: "take",
+        about: "Takes the identifications of a ticket",
+        usage: "relay take --file PATH --number N --ticket HEX",
+        more: "\
+Prints `taken left N`, how many identifications are free then. A ticket is
+taken once. Take the tickets of one giver in the order in which they were
+given: after a later one an earlier one is refused `Old`. A refusal goes to
+standard output.
 
-pub const LEFT: Page = Page {
-    about: "Prints what a ledger holds",
-    usage: "relay left --file PATH",
-    more: "\
+Example:
+  relay take --file south.ledger --number 2 --ticket 0001000000021388176f",
+    },
+    Page {
+        name: "left",
+        about: "Prints what a ledger holds",
+        usage: "relay left --file PATH",
+        more: "\
 Prints, a line each:
   printer P         the printer's number, or `-` for a ledger of version 1
   left N            how many identifications are free
@@ -176,12 +182,12 @@ standard output.
 
 Example:
   relay left --file north.ledger",
-};
-
-pub const SCAN: Page = Page {
-    about: "Gathers the pages of scanned labels at a desk",
-    usage: "relay scan --file PATH [--capacity N] [IMAGES ..] < IMAGES",
-    more: "\
+    },
+    Page {
+        name: "scan",
+        about: "Gathers the pages of scanned labels at a desk",
+        usage: "relay scan --file PATH [--capacity N] [IMAGES ..] < IMAGES",
+        more: "\
 An image has one pixel per module, as for `read`. Its page is saved, and then a
 line says what it was:
   IIII m/n new       page m of n, with the file identification IIII, is held now
@@ -199,44 +205,44 @@ The capacity is not remembered: a desk that holds more documents is refused
 
 Example:
   relay scan --file desk < labels.pbm",
-};
-
-pub const DELIVER: Page = Page {
-    about: "Gives back a document when all its pages are held",
-    usage: "relay deliver --file PATH --id IIII > DOCUMENT",
-    more: "\
+    },
+    Page {
+        name: "deliver",
+        about: "Gives back a document when all its pages are held",
+        usage: "relay deliver --file PATH --id IIII > DOCUMENT",
+        more: "\
 Writes the document, which stays at the desk, and nothing else. Where a page is
 missing nothing is written but `refused Incomplete`, on standard error.
 
 Example:
   relay deliver --file desk --id 0101 > letter",
-};
-
-pub const FORGET: Page = Page {
-    about: "Forgets a document",
-    usage: "relay forget --file PATH --id IIII",
-    more: "\
+    },
+    Page {
+        name: "forget",
+        about: "Forgets a document",
+        usage: "relay forget --file PATH --id IIII",
+        more: "\
 Prints `forgotten IIII`. A refusal goes to standard output.
 
 Example:
   relay forget --file desk --id 0101",
-};
-
-pub const EXPORT: Page = Page {
-    about: "Writes the pages of a document for another desk",
-    usage: "relay export --file PATH --id IIII > PAGES",
-    more: "\
+    },
+    Page {
+        name: "export",
+        about: "Writes the pages of a document for another desk",
+        usage: "relay export --file PATH --id IIII > PAGES",
+        more: "\
 The pages stay at the desk. `relay import` takes them in at another. A refusal
 goes to standard error.
 
 Example:
   relay export --file desk --id 0101 > 0101.pages",
-};
-
-pub const IMPORT: Page = Page {
-    about: "Takes in the pages that another desk has exported",
-    usage: "relay import --file PATH [--capacity N] < PAGES",
-    more: "\
+    },
+    Page {
+        name: "import",
+        about: "Takes in the pages that another desk has exported",
+        usage: "relay import --file PATH [--capacity N] < PAGES",
+        more: "\
 Prints `IIII n added MASK KIND`: the identification, how many pages the document
 has, which of them were added (bit m - 1 for page m, in hexadecimal), and
 whether the document is `complete` now, or `new` pages were added, or all were
@@ -245,12 +251,12 @@ output. `relay scan --help` says more of --capacity.
 
 Example:
   relay import --file other-desk < 0101.pages",
-};
-
-pub const HELD: Page = Page {
-    about: "Prints which pages a desk holds",
-    usage: "relay held --file PATH [--id IIII]",
-    more: "\
+    },
+    Page {
+        name: "held",
+        about: "Prints which pages a desk holds",
+        usage: "relay held --file PATH [--id IIII]",
+        more: "\
 Prints a line for each document of which a page is held: `IIII N complete`, or
 `IIII N lacks 3 7 12`, its identification, how many pages it has, and which are
 missing. With --id it prints the line of that document alone, or a refusal.
@@ -262,12 +268,12 @@ may gather meanwhile. A refusal goes to standard output.
 
 Example:
   relay held --file desk",
-};
-
-pub const COPY: Page = Page {
-    about: "Draws again the label of a page that a desk holds",
-    usage: "relay copy --file PATH --id IIII --page M --side SIDE [--scheme SCHEME]\n         > IMAGE",
-    more: "\
+    },
+    Page {
+        name: "copy",
+        about: "Draws again the label of a page that a desk holds",
+        usage: "relay copy --file PATH --id IIII --page M --side SIDE [--scheme SCHEME]\n         > IMAGE",
+        more: "\
 Draws the label of one page that is held, as a packed PBM image: whatever reads
 it gathers the same page of the same document. The side need not be that of the
 label that is lost. An old file of pages at PATH is moved first. A refusal goes
@@ -275,12 +281,12 @@ to standard error.
 
 Example:
   relay copy --file desk --id 0101 --page 2 --side 52 > label.pbm",
-};
-
-pub const WORLD: Page = Page {
-    about: "Plays printers and desks by a script, in memory",
-    usage: "relay world < SCRIPT",
-    more: "\
+    },
+    Page {
+        name: "world",
+        about: "Plays printers and desks by a script, in memory",
+        usage: "relay world < SCRIPT",
+        more: "\
 The script names printers, desks, and events: prints, scans, restarts and so on,
 each of which may be stopped where power could fail, or meet a failing save.
 Each event gives a line; the line begins with `! ` where a scanned copy has more
@@ -289,14 +295,23 @@ file is read or written. A refusal goes to standard output.
 
 Example:
   printf 'range 0 9\\ndesks 1 4\\nprint 0 12 ascii 31323334 -\\n' | relay world",
-};
-
-pub const EXPLAIN: Page = Page {
-    about: "Prints what a refusal means, and what to do",
-    usage: "relay explain [NAME]",
-    more: "\
+    },
+    Page {
+        name: "explain",
+        about: "Prints what a refusal means, and what to do",
+        usage: "relay explain [NAME]",
+        more: "\
 It prints what docs/REFUSALS.md says.
 
 Example:
   relay explain Border",
-};
+    },
+    Page {
+        name: "version",
+        about: "Prints the version, and by which toolchain it was proved",
+        usage: "relay version",
+        more: "\
+Example:
+  relay version",
+    },
+];

@@ -60,20 +60,30 @@ fn plain<'a>(alloc: Global) -> Arg<'a> {
         .action(ArgAction::SetTrue)
 }
 
+fn path<'a>(alloc: Global, text: &'a str) -> Arg<'a> {
+    option(alloc, "file", "PATH", text)
+        .value_parser(ValueParser::NonEmptyString)
+        .required(true)
+}
+
 // The file of a ledger.
 fn file<'a>(alloc: Global) -> Arg<'a> {
-    option(alloc, "file", "PATH", "the file that holds the ledger").required(true)
+    path(alloc, "the file that holds the ledger")
 }
 
 // The files of a desk.
 fn desk<'a>(alloc: Global) -> Arg<'a> {
-    let text = "the desk; its files stand in the folder PATH.pages";
-    option(alloc, "file", "PATH", text).required(true)
+    path(alloc, "the desk; its files stand in the folder PATH.pages")
 }
 
 // An option whose value is a number from 0 to 65,535.
 fn number_option<'a>(alloc: Global, name: &'a str, text: &'a str) -> Arg<'a> {
     option(alloc, name, "N", text).value_parser(value_parser!(u16))
+}
+
+// The number of the other printer.
+fn to<'a>(alloc: Global) -> Arg<'a> {
+    number_option(alloc, "to", "the number of the other printer").required(true)
 }
 
 // The printer's own number.
@@ -124,90 +134,48 @@ fn refusal<'a>(alloc: Global) -> Arg<'a> {
         .help("the name of a refusal; without one, prints all names")
 }
 
-// A command of this name, with its help and its options.
-fn command<'a>(
-    alloc: Global,
-    name: &'a str,
-    page: Page,
-    options: Vec<Arg<'a>>,
-) -> Result<Command<'a>, AllocError> {
-    Command::new(alloc, name)
+// The options of a command.
+fn options_of<'a>(alloc: Global, name: &str) -> Result<Vec<Arg<'a>>, AllocError> {
+    let least_side = side(alloc).default_value("10");
+    let own = number(alloc).default_value("0");
+    let needed = number(alloc).required(true);
+    let options = match name {
+        "words" => vec![in alloc; least_side, scheme(alloc)]?,
+        "draw" => vec![in alloc; least_side, scheme(alloc), plain(alloc)]?,
+        "read" => vec![in alloc; images(alloc)]?,
+        "ledger" => vec![in alloc; file(alloc), first(alloc), last(alloc), own]?,
+        "plan" => vec![in alloc; scheme(alloc)]?,
+        "print" => vec![in alloc; file(alloc), side(alloc), labels(alloc), scheme(alloc), own]?,
+        "give" => vec![in alloc; file(alloc), needed, to(alloc), first(alloc), last(alloc)]?,
+        "ticket" => vec![in alloc; ticket(alloc)]?,
+        "take" => vec![in alloc; file(alloc), needed, ticket(alloc)]?,
+        "left" => vec![in alloc; file(alloc)]?,
+        "scan" => vec![in alloc; desk(alloc), capacity(alloc), images(alloc)]?,
+        "deliver" | "forget" | "export" => vec![in alloc; desk(alloc), id(alloc)]?,
+        "import" => vec![in alloc; desk(alloc), capacity(alloc)]?,
+        "held" => vec![in alloc; desk(alloc), id(alloc).required(false)]?,
+        "copy" => {
+            let side = side(alloc).required(true);
+            vec![in alloc; desk(alloc), id(alloc), page(alloc), side, scheme(alloc)]?
+        }
+        "explain" => vec![in alloc; refusal(alloc)]?,
+        _ => Vec::new(alloc),
+    };
+    Ok(options)
+}
+
+// A command of no options yet, with its help.
+fn command<'a>(alloc: Global, page: Page) -> Command<'a> {
+    Command::new(alloc, page.name)
         .about(page.about)
         .override_usage(page.usage)
         .after_help(page.more)
-        .args(options)
 }
 
-// Adds a command, if it could be made.
-fn with<'a>(
-    program: Command<'a>,
-    command: Result<Command<'a>, AllocError>,
-) -> Result<Command<'a>, AllocError> {
-    program.subcommand(command?)
-}
-
-// The commands of symbols, added to the program.
-fn with_symbols<'a>(alloc: Global, program: Command<'a>) -> Result<Command<'a>, AllocError> {
-    let options = vec![in alloc; side(alloc).default_value("10"), scheme(alloc)]?;
-    let program = with(program, command(alloc, "words", help::WORDS, options))?;
-    let options = vec![in alloc;
-        side(alloc).default_value("10"),
-        scheme(alloc),
-        plain(alloc),
-    ]?;
-    let program = with(program, command(alloc, "draw", help::DRAW, options))?;
-    let options = vec![in alloc; images(alloc)]?;
-    with(program, command(alloc, "read", help::READ, options))
-}
-
-// The command that prints, by a side or by a number of labels.
-fn print<'a>(alloc: Global) -> Result<Command<'a>, AllocError> {
-    let form = ArgGroup::new(alloc, "form")
-        .arg("side")?
-        .arg("labels")?
-        .required(true);
-    let own = number(alloc).default_value("0");
-    let options = vec![in alloc; file(alloc), side(alloc), labels(alloc), scheme(alloc), own]?;
-    command(alloc, "print", help::PRINT, options)?.group(form)
-}
-
-// The commands of printers, added to those of symbols.
-fn with_printers<'a>(alloc: Global, program: Command<'a>) -> Result<Command<'a>, AllocError> {
-    let own = number(alloc).default_value("0");
-    let options = vec![in alloc; file(alloc), first(alloc), last(alloc), own]?;
-    let program = with(program, command(alloc, "ledger", help::LEDGER, options))?;
-    let options = vec![in alloc; scheme(alloc)]?;
-    let program = with(program, command(alloc, "plan", help::PLAN, options))?;
-    let program = with(program, print(alloc))?;
-    let own = number(alloc).required(true);
-    let to = number_option(alloc, "to", "the number of the other printer").required(true);
-    let options = vec![in alloc; file(alloc), own, to, first(alloc), last(alloc)]?;
-    let program = with(program, command(alloc, "give", help::GIVE, options))?;
-    let options = vec![in alloc; ticket(alloc)]?;
-    let program = with(program, command(alloc, "ticket", help::TICKET, options))?;
-    let options = vec![in alloc; file(alloc), number(alloc).required(true), ticket(alloc)]?;
-    let program = with(program, command(alloc, "take", help::TAKE, options))?;
-    let options = vec![in alloc; file(alloc)]?;
-    with(program, command(alloc, "left", help::LEFT, options))
-}
-
-// The commands of desks, added to those of symbols and printers.
-fn with_desks<'a>(alloc: Global, program: Command<'a>) -> Result<Command<'a>, AllocError> {
-    let options = vec![in alloc; desk(alloc), capacity(alloc), images(alloc)]?;
-    let program = with(program, command(alloc, "scan", help::SCAN, options))?;
-    let options = vec![in alloc; desk(alloc), id(alloc)]?;
-    let program = with(program, command(alloc, "deliver", help::DELIVER, options))?;
-    let options = vec![in alloc; desk(alloc), id(alloc)]?;
-    let program = with(program, command(alloc, "forget", help::FORGET, options))?;
-    let options = vec![in alloc; desk(alloc), id(alloc)]?;
-    let program = with(program, command(alloc, "export", help::EXPORT, options))?;
-    let options = vec![in alloc; desk(alloc), capacity(alloc)]?;
-    let program = with(program, command(alloc, "import", help::IMPORT, options))?;
-    let options = vec![in alloc; desk(alloc), id(alloc).required(false)]?;
-    let program = with(program, command(alloc, "held", help::HELD, options))?;
-    let side = side(alloc).required(true);
-    let options = vec![in alloc; desk(alloc), id(alloc), page(alloc), side, scheme(alloc)]?;
-    with(program, command(alloc, "copy", help::COPY, options))
+// `print` is by a side or by a number of labels.
+fn form<'a>(alloc: Global) -> Result<ArgGroup<'a>, AllocError> {
+    let form = ArgGroup::new(alloc, "form").required(true);
+    form.arg("side")?.arg("labels")
 }
 
 /// The whole program.
@@ -215,18 +183,15 @@ fn with_desks<'a>(alloc: Global, program: Command<'a>) -> Result<Command<'a>, Al
 /// # Errors
 /// Where the allocator refuses its memory.
 pub fn relay<'a>(alloc: Global) -> Result<Command<'a>, AllocError> {
-    let program = command(alloc, "relay", help::PROGRAM, Vec::new(alloc))?
+    let mut program = command(alloc, help::PROGRAM)
         .bin_name("relay")?
         .disable_help_subcommand(true);
-    let program = with_symbols(alloc, program)?;
-    let program = with_printers(alloc, program)?;
-    let program = with_desks(alloc, program)?;
-    let options = Vec::new(alloc);
-    let program = with(program, command(alloc, "world", help::WORLD, options))?;
-    let options = vec![in alloc; refusal(alloc)]?;
-    let program = with(program, command(alloc, "explain", help::EXPLAIN, options))?;
-    let version = Command::new(alloc, "version")
-        .about("Prints the version, and by which toolchain it was proved")
-        .override_usage("relay version");
-    program.subcommand(version)
+    for page in &help::COMMANDS {
+        let mut command = command(alloc, *page).args(options_of(alloc, page.name)?)?;
+        if page.name == "print" {
+            command = command.group(form(alloc)?)?;
+        }
+        program = program.subcommand(command)?;
+    }
+    Ok(program)
 }

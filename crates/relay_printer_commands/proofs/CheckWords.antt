@@ -1,17 +1,17 @@
--- Two check words: ten bytes have one pair of them, and they tell apart twelve bytes that differ in one or two places.
-use borrow.Rule.Slice.PartMut.{put_mid}
-use Rattle.std.proofs.Common.{◌≡◌, ◌∙◌, ◌<◌, ◌≤◌, ℕ, List, [], ◌∷◌, ◌++◌, inl, inr, length, take, drop, get_or, refl, ap, sym, subst, arith}
+-- Two check words: ten bytes have one pair of them, and they tell apart twelve bytes that differ in one or two places;
+-- and the check form of twelve bytes, by its places.
+use Rattle.std.proofs.Common.{◌≡◌, ◌∙◌, ◌+◌, ◌*◌, ◌<◌, ◌≤◌, ℕ, List, [], ◌∷◌, ◌++◌, Ok, inl, inr, length, take, drop, get_or, refl, ap, sym, subst, arith, below_more}
+use borrow.Author.Count.{below_none}
 use Rattle.std.specs.List.{All}
 use Rattle.std.proofs.lemmas.Bool.{cases_lt}
-use Rattle.std.proofs.lemmas.List.{append-nil, take-append-drop, length-append, length-drop, take_at, drop_at, get_or_past}
+use Rattle.std.proofs.lemmas.List.{take-append-drop, length-drop, get_or_past}
 use Rattle.std.proofs.lemmas.List.Elements.{All-get_or, All-drop, recursion_from_All}
 use Rattle.dm_gf256.specs.Field.{differ, IsBlockWord}
 use Rattle.dm_gf256.proofs.OneBlockWord.{one_block_word}
-use Rattle.hex.specs.Hex.{encode_lower, IsBytes}
+use Rattle.hex.specs.Hex.{decode_sized, encode_lower, encode_with, IsBytes}
 use Rattle.hex.proofs.HexLemmas.{decode_sized-ok, decode_sized-encode_lower}
-use Rattle.relay_shared.specs.Lines.{check_text}
-use Rattle.relay_printer_commands.specs.Tickets.{HasTicket, IsCheckText, IsChecked, IsGroupedText}
-use Rattle.relay_printer_commands.proofs.CheckForm.{length-text, same_whole}
+use Rattle.relay_shared.specs.Lines.{check_text, grouped}
+use Rattle.relay_printer_commands.specs.Tickets.{HasTicket, IsCheckText, IsChecked, IsGroupedText, digits_in_groups}
 
 -- twelve bytes that differ in at most two places, and have their check words, are the same
 pub same_checked : (bytes whole other_bytes other : List ℕ) → IsChecked bytes whole → IsChecked other_bytes other
@@ -31,27 +31,12 @@ only_checked bytes checks only whole c =
     (subst (λ (t : List ℕ). IsBlockWord 2 t) (sym parts) c.block_word) in
     sym parts ∙ ap (λ t. bytes ++ t) same
 
--- ten bytes and two that make a block word
-pub are_checked : (bytes checks : List ℕ) → length bytes ≡ 10 → length checks ≡ 2
-    → All (λ word. word < 256) (bytes ++ checks) → IsBlockWord 2 (bytes ++ checks) → IsChecked bytes (bytes ++ checks)
-are_checked bytes checks ten two words block = record {
-  count = omega (arith, length-append bytes checks);
-  words = words;
-  begins = take_at bytes checks 10 ten;
-  block_word = block;
-}
-
--- two bytes are written after ten
-pub put_at_end : (bytes checks : List ℕ) → length bytes ≡ 10 → put_mid 10 2 (bytes ++ 0 ∷ 0 ∷ []) checks ≡ bytes ++ checks
-put_at_end bytes checks ten =
-    rw (take_at bytes (0 ∷ 0 ∷ []) 10 ten, drop_at bytes (0 ∷ 0 ∷ []) 10 ten)
-    (ap (λ t. bytes ++ t) (append-nil checks))
-
 -- a text in groups is the check form of the ten bytes with which its twelve begin alone
 pub begins_with : (text whole bytes : List ℕ) → IsGroupedText text whole → IsCheckText text bytes
     → (take 10 whole ≡ bytes) × IsChecked bytes whole
 begins_with text whole bytes g form =
-    let same : form.whole ≡ whole = same_whole text form.whole whole form.in_groups g in (
+    let read : Ok form.whole ≡ Ok whole = sym form.in_groups.decoded ∙ g.decoded in
+    let same : form.whole ≡ whole = cc in (
       ap (take 10) (sym same) ∙ form.checked.begins,
       subst (λ (t : List ℕ). IsChecked bytes t) same form.checked,
     )
@@ -62,7 +47,7 @@ pub changed_is_refused : (text bytes other changed : List ℕ) (check : IsCheckT
     → IsGroupedText other changed → differ check.whole changed ≤ 2 → (check.whole ≡ changed → ⊥)
     → HasTicket other → ⊥
 changed_is_refused text bytes other changed check g near apart (ten, inl bare, is) =
-    omega (arith, length-text other changed g, decode_sized-ok other 10 ten bare)
+    omega (arith, g.size, decode_sized-ok other 10 ten bare)
 changed_is_refused text bytes other changed check g near apart (ten, inr form, is) =
     apart (same_checked bytes check.whole ten changed check.checked (begins_with other changed ten g form).1 near)
 
@@ -76,14 +61,30 @@ are_bytes xs all i =
           rw none (omega arith)
     ]
 
+-- the check form of twelve bytes has its hyphens and digits in their places
+places : (whole : List ℕ) → length whole ≡ 12 → (length (check_text whole) ≡ 29)
+    × ((j : ℕ) → j < 5 → get_or (check_text whole) (5 * j + 4) 0 ≡ 45)
+    × (digits_in_groups (check_text whole) ≡ encode_lower whole)
+unfolding grouped encode_with digits_in_groups
+places (a ∷ b ∷ c ∷ d ∷ e ∷ f ∷ g ∷ h ∷ i ∷ j ∷ k ∷ l ∷ []) twelve =
+    let whole : List ℕ = a ∷ b ∷ c ∷ d ∷ e ∷ f ∷ g ∷ h ∷ i ∷ j ∷ k ∷ l ∷ [] in
+    let Hyphen : ℕ → Type 0 = λ j. get_or (check_text whole) (5 * j + 4) 0 ≡ 45 in (
+      refl,
+      below_more Hyphen 4 (below_more Hyphen 3 (below_more Hyphen 2 (below_more Hyphen 1 (below_more Hyphen 0
+          (below_none Hyphen) refl) refl) refl) refl) refl,
+      refl,
+    )
+places _ twelve = absurd (omega arith)
+
 -- the check form that is shown is read
 pub check_text_reads : (bytes whole : List ℕ) → IsChecked bytes whole → IsCheckText (check_text whole) bytes
-check_text_reads bytes whole c = record {
+check_text_reads bytes whole c = let at = places whole c.count in record {
   whole = whole;
   in_groups = record {
-    spelled = encode_lower whole;
-    in_groups = refl;
-    decoded = decode_sized-encode_lower whole 12 c.count (are_bytes whole c.words);
+    size = at.0;
+    hyphens = at.1;
+    decoded = ap (λ t. decode_sized t 12) at.2
+        ∙ decode_sized-encode_lower whole 12 c.count (are_bytes whole c.words);
   };
   checked = c;
 }

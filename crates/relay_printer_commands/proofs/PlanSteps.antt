@@ -1,16 +1,17 @@
 -- The sides of which a document has labels, one after another.
-use Rattle.std.proofs.Common.{◌≡◌, ◌≢◌, ◌==◌, ℕ, ◌+◌, ◌<◌, ◌≤◌, Bool, false, List, [], ◌∷◌, ◌++◌, length, refl, sym, subst, ◌∙◌, arith, below_more, length-append}
-use Rattle.std.specs.List.{All, AllPairs, Contains}
-use Rattle.std.proofs.lemmas.Bool.{false≢true}
-use Rattle.std.proofs.lemmas.List.Elements.{All-push, Contains-append_left, Contains-push}
+use Rattle.std.proofs.Common.{◌≡◌, ◌≢◌, ◌==◌, ℕ, ◌+◌, ◌<◌, ◌≤◌, Bool, false, List, [], ◌∷◌, ◌++◌, inl, inr, length, refl, sym, ap, subst, ◌∙◌, arith, length-append}
+use Rattle.std.specs.Prelude.{◌↔◌}
+use Rattle.std.specs.List.{AllPairs, Contains}
+use Rattle.std.proofs.lemmas.Bool.{cases_lt, false≢true}
+use Rattle.std.proofs.lemmas.List.Elements.{Contains-append_left, Contains-get_or, Contains-push, Contains-push_cases}
 use Rattle.std.proofs.lemmas.List.Quantifiers.{all_pairs_push}
 use Rattle.dm_check_blocks.specs.declared.size.Size.{Size}
 use Rattle.dm_check_blocks.specs.Sizes.{side}
+use Rattle.dm_check_blocks.proofs.Sound.{sound}
 use Rattle.dm_encodation.specs.declared.scheme.Scheme.{Scheme}
 use Rattle.dm_print_ledger.specs.Verdicts.{HasLabels}
 use Rattle.relay_shared.specs.declared.printer_lines.PlannedSide.{PlannedSide}
 use Rattle.relay_printer_commands.specs.Print.{IsPlan, IsPlanned}
-use Rattle.relay_printer_commands.proofs.Sizes.{greatest_side}
 
 -- a number of labels of a side
 abbrev pub planned_at : ℕ → ℕ → PlannedSide
@@ -19,22 +20,23 @@ planned_at side count = record { side = side; count = count }
 module _ (scheme : Scheme) (document : List ℕ) where
   -- the plan has the sides below this number, and no other
   pub record PlanBelow (n : ℕ) (plan : List PlannedSide) : Type 0 where
-    pub all : (m : ℕ) → m < n → (count : ℕ) → IsPlanned scheme document (planned_at m count)
-        → Contains plan (planned_at m count)
-    pub only : All (IsPlanned scheme document) plan
+    pub names : (planned : PlannedSide)
+        → Contains plan planned ↔ (IsPlanned scheme document planned × (planned.side < n))
     pub rising : AllPairs (λ before after. before.side < after.side) plan
-    pub below : All (λ planned. planned.side < n) plan
     pub few : length plan ≤ n
 
   -- a side of which the document has no labels
   pub passed_over : (n : ℕ) (plan : List PlannedSide) → PlanBelow n plan
       → ((count : ℕ) → ¬ IsPlanned scheme document (planned_at n count)) → PlanBelow (n + 1) plan
   passed_over n plan so_far none = record {
-    all = below_more (λ (m : ℕ). (count : ℕ) → IsPlanned scheme document (planned_at m count)
-        → Contains plan (planned_at m count)) n so_far.all (λ count is. absurd (none count is));
-    only = so_far.only;
+    names = λ planned. (
+      λ there. let is = (so_far.names planned).0 there in (is.0, omega (arith, is.1)),
+      λ is. elim (cases_lt planned.side n) [
+        | inl before ↦ (so_far.names planned).1 (is.0, before)
+        | inr past ↦ absurd (none planned.count (is.0.0, omega (arith, is.0.1, is.1, past), is.0.2))
+      ],
+    );
     rising = so_far.rising;
-    below = λ k d there. omega (arith, so_far.below k d there);
     few = let few = so_far.few in omega arith;
   }
 
@@ -45,27 +47,35 @@ module _ (scheme : Scheme) (document : List ℕ) where
       → PlanBelow (n + 1) (plan ++ planned_at n count ∷ [])
   one_more n count plan so_far is one =
       let new : PlannedSide = planned_at n count in
-      let longer : List PlannedSide = plan ++ new ∷ [] in
       record {
-        all = below_more (λ (m : ℕ). (other : ℕ) → IsPlanned scheme document (planned_at m other)
-            → Contains longer (planned_at m other)) n
-            (λ m before other found. Contains-append_left plan (new ∷ []) (planned_at m other)
-            (so_far.all m before other found))
-            (λ other found. subst (λ (k : ℕ). Contains longer (planned_at n k)) (one other found)
-            (Contains-push plan new));
-        only = All-push (IsPlanned scheme document) plan new so_far.only is;
+        names = λ planned. (
+          λ there. elim (Contains-push_cases plan new planned there) [
+            | inl before ↦ let old = (so_far.names planned).0 before in (old.0, omega (arith, old.1))
+            | inr same ↦ subst (λ (p : PlannedSide). IsPlanned scheme document p × (p.side < n + 1)) same
+                (is, omega arith)
+          ],
+          λ found. elim (cases_lt planned.side n) [
+            | inl before ↦ Contains-append_left plan (new ∷ []) planned ((so_far.names planned).1 (found.0, before))
+            | inr past ↦
+                let here : n ≡ planned.side = omega (arith, found.1, past) in
+                let same : count ≡ planned.count = one planned.count (found.0.0, found.0.1 ∙ sym here, found.0.2) in
+                let is_new : new ≡ planned =
+                ap (λ s. planned_at s count) here ∙ ap (planned_at planned.side) same in
+                subst (Contains (plan ++ new ∷ [])) is_new (Contains-push plan new)
+          ],
+        );
         rising = all_pairs_push (λ (before after : PlannedSide). before.side < after.side) plan new so_far.rising
-            so_far.below;
-        below = All-push (λ (planned : PlannedSide). planned.side < n + 1) plan new
-            (λ k d there. omega (arith, so_far.below k d there)) (omega arith);
+            (λ k d there. ((so_far.names _).0 (Contains-get_or plan k d there)).1);
         few = let few = so_far.few in omega (arith, length-append plan (new ∷ []));
       }
 
   -- all sides
   pub all_planned : (n : ℕ) (plan : List PlannedSide) → 133 ≤ n → PlanBelow n plan → IsPlan scheme document plan
   all_planned n plan all so_far = record {
-    all = λ planned is. so_far.all planned.side (omega (arith, all, is.1, greatest_side is.0)) planned.count is;
-    only = so_far.only;
+    names = λ planned. (
+      λ there. ((so_far.names planned).0 there).0,
+      λ is. (so_far.names planned).1 (is, let most = (sound is.0).greatest_side in omega (arith, all, is.1, most)),
+    );
     rising = so_far.rising;
   }
 
@@ -73,7 +83,7 @@ module _ (scheme : Scheme) (document : List ℕ) where
   pub no_plan : (plan : List PlannedSide) → IsPlan scheme document plan → length plan ≡ 0
       → (size : Size) (count : ℕ) → ¬ HasLabels size scheme document count
   no_plan plan is empty size count labels =
-      let there = is.all (planned_at (side size) count) (size, refl, labels) in
+      let there = (is.names (planned_at (side size) count)).1 (size, refl, labels) in
       omega (arith, empty, there.1)
 
 -- a plan that is not empty

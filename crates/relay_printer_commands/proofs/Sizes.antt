@@ -1,5 +1,5 @@
--- Each side of a size is that of one size, and none is above 132.
-use Rattle.std.proofs.Common.{◌≡◌, ◌∙◌, ◌==◌, ◌≤◌, ℕ, List, [], ◌∷◌, Option, Some, refl, sym, ap, lit≤}
+-- Each side of a size is that of one size.
+use Rattle.std.proofs.Common.{◌≡◌, ◌∙◌, ◌==◌, ℕ, List, [], ◌∷◌, Option, Some, refl, sym, ap}
 use Rattle.std.specs.List.{find}
 use Rattle.dm_check_blocks.specs.declared.size.Size.{Size}
 use Rattle.dm_check_blocks.specs.declared.size.Size.TheVariants.{Side10, Side12, Side14, Side16, Side18, Side20, Side22, Side24, Side26, Side32, Side36, Side40, Side44, Side48, Side52, Side64, Side72, Side80, Side88, Side96, Side104, Side120, Side132}
@@ -21,8 +21,3 @@ is_found _ = refl
 
 pub same_size : (a b : Size) → side a ≡ side b → a ≡ b
 same_size a b is = let same : Some a ≡ Some b = sym (is_found a) ∙ ap size_of is ∙ is_found b in cc
-
-pub greatest_side : (size : Size) → side size ≤ 132
-unfolding row
-greatest_side Side10 = lit≤ tt
-greatest_side _ = lit≤ tt

@@ -1,4 +1,3 @@
 pub mod Printers
 pub mod Print
 pub mod Tickets
-pub mod inner

@@ -1,11 +1,11 @@
 -- The text of a ticket, in its two forms, which this project lays down, and what `ticket` says of one.
-use Rattle.std.specs.Prelude.{◌≡◌, ◌⊎◌, ◌<◌, ◌++◌, ℕ, List, Ok, length, take}
-use Rattle.std.specs.List.{All}
+use Rattle.std.specs.Prelude.{◌≡◌, ◌⊎◌, ◌<◌, ◌+◌, ◌*◌, ◌/◌, ◌++◌, ℕ, List, Ok, length, map, slice_index, take}
+use Rattle.std.specs.List.{All, range_with_len}
 use Rattle.hex.specs.Hex.{decode_sized}
 use Rattle.dm_gf256.specs.Field.{IsBlockWord}
 use Rattle.dm_print_ledger.specs.Ledger.{AreOfTicket, ticket_bytes, TicketView}
 use Rattle.relay_shared.specs.Command.{refusal_name, RefusesOnOutput, StreamsView, TellsOnOutput}
-use Rattle.relay_shared.specs.Lines.{check_line, from_line, grouped}
+use Rattle.relay_shared.specs.Lines.{check_line, from_line}
 use Rattle.relay_shared.specs.declared.command.Refusal.TheVariants.{Ticket}
 
 -- ---- twelve bytes: ten, and two check words of them
@@ -22,11 +22,15 @@ pub record IsChecked (bytes whole : List ℕ) : Type 0 where
 abbrev pub IsBareText : List ℕ → List ℕ → Type 0
 IsBareText text bytes = decode_sized text 10 ≡ Ok bytes
 
+-- the 24 digits of a text in groups of four, without what stands between the groups
+unfoldable pub digits_in_groups : List ℕ → List ℕ
+digits_in_groups text = map (λ k. slice_index text (k + k / 4)) (range_with_len 0 24)
+
 -- the text is 24 digits in groups of four, joined by hyphens, and they are those of these twelve bytes
 pub record IsGroupedText (text whole : List ℕ) : Type 0 where
-  pub spelled : List ℕ
-  pub in_groups : text ≡ grouped 5 spelled
-  pub decoded : decode_sized spelled 12 ≡ Ok whole
+  pub size : length text ≡ 29
+  pub hyphens : (j : ℕ) → j < 5 → slice_index text (5 * j + 4) ≡ 45
+  pub decoded : decode_sized (digits_in_groups text) 12 ≡ Ok whole
 
 -- the check form: these ten bytes and two check words of them are spelled in groups
 pub record IsCheckText (text bytes : List ℕ) : Type 0 where

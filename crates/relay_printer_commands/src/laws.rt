@@ -1,6 +1,6 @@
 //! Laws of the texts of tickets. The functions do nothing: their contracts are the laws.
 
-ghost use Rattle.std.specs.Prelude.{◌≡◌, ◌≢◌, ◌≤◌, List, ℕ};
+ghost use Rattle.std.specs.Prelude.{◌≢◌, ◌≤◌, List, ℕ};
 ghost use Rattle.dm_gf256.specs.Field.{differ};
 ghost use Rattle.relay_shared.specs.Lines.{check_text};
 ghost use Rattle.relay_printer_commands.specs.Tickets.{HasTicket, IsCheckText, IsChecked, IsGroupedText};

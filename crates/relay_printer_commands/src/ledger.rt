@@ -1,12 +1,11 @@
-//! `relay ledger`, a printer that is new, and `relay give`, identifications for another printer; and the printer that
-//! other commands work with.
+//! `relay ledger`, a new printer; `relay give`, identifications for another; and the printer that other commands open.
 
-ghost use Rattle.std.specs.Prelude.{◌≡◌, Ok, IfErr, MatchResult};
-ghost use Rattle.dm_print_ledger.specs.Verdicts.{Opens, give_fault_name};
-ghost use Rattle.relay_printer_commands.specs.inner.Failing.{TellsNotOpened};
+ghost use Rattle.std.specs.Prelude.{◌≡◌, Ok, Err, IfErr, MatchResult};
+ghost use Rattle.dm_print_ledger.specs.Verdicts.{Opens, give_fault_name, open_fault_name};
+ghost use Rattle.dm_print_ledger.specs.declared.fault.OpenFault.{OpenFault};
 ghost use Rattle.relay_printer_commands.specs.Printers.{EndsLedger, ledger_at, EndsGive};
 ghost use Rattle.relay_shared.specs.Lines.{ticket_line};
-ghost use Rattle.relay_shared.specs.Command.{TellsAnswer};
+ghost use Rattle.relay_shared.specs.Command.{TellsAnswer, TellsRefusal};
 
 use dm_print_ledger::{CreateRefused, GiveFault, OpenRefused, Printer, Range, Ticket};
 use dm_store::Store;
@@ -24,7 +23,8 @@ pub(crate) fn open_printer<A: Allocator + Copy, S: Store, W: Write>(
 ) -> Result<Printer<S, A>, Ended<S>>
     ensures opens { MatchResult result
         (λ printer. Opens (S.state store) number (Ok printer) × (output.new ≡ output.old))
-        (λ ended. TellsNotOpened (S.state store) number output.old ended.status output.new) }
+        (λ ended. (fault : OpenFault) × Opens (S.state store) number (Err fault)
+        × TellsRefusal (open_fault_name fault) output.old ended.status output.new) }
     ensures same { IfErr result (λ ended. S.state ended.store ≡ S.state store) }
 {
     match Printer::open(alloc, store, number) {
@@ -36,25 +36,19 @@ pub(crate) fn open_printer<A: Allocator + Copy, S: Store, W: Write>(
     }
 }
 
-/// Which printer is made, and what is free to it.
-#[derive(Clone, Copy, Debug, PartialEq, Eq)]
-pub struct LedgerOptions {
-    pub number: u16,
-    pub range: Range,
-}
-
-/// Makes the ledger of the printer of a number on a store that holds nothing, and prints `left N`, how many
-/// identifications are free, or the line `refused NAME`.
+/// Makes the ledger of the printer of a number, to which a range is free, on a store that holds nothing, and prints
+/// `left N`, how many identifications are free, or the line `refused NAME`.
 pub fn ledger_command<A: Allocator + Copy, S: Store, R: Read, W: Write, E: Write>(
     alloc: A,
     store: S,
     streams: &mut Streams<R, W, E>,
-    options: LedgerOptions,
+    number: u16,
+    range: Range,
 ) -> Ended<S>
-    ensures { EndsLedger options (ledger_at (S.state store) streams.old) result.status
+    ensures { EndsLedger number range (ledger_at (S.state store) streams.old) result.status
         (ledger_at (S.state result.store) streams.new) }
 {
-    match Printer::create(alloc, store, options.number, options.range) {
+    match Printer::create(alloc, store, number, range) {
         Ok(printer) => {
             let status = status_after(put_left(&mut streams.output, printer.left()));
             let store = printer.close();
@@ -67,16 +61,6 @@ pub fn ledger_command<A: Allocator + Copy, S: Store, R: Read, W: Write, E: Write
     }
 }
 
-/// Which printer gives, to which other, and what.
-#[derive(Clone, Copy, Debug, PartialEq, Eq)]
-pub struct GiveOptions {
-    /// The number of the printer that gives.
-    pub number: u16,
-    /// The number of the printer that is to take.
-    pub to: u16,
-    pub range: Range,
-}
-
 #[tactic(auto, using(relay_shared::proofs::Telling::told))]
 fn tell_give<W: Write>(output: &mut Output<W>, answer: Result<Ticket, GiveFault>) -> u8
     ensures { TellsAnswer ticket_line give_fault_name answer output.old result output.new }
@@ -87,23 +71,24 @@ fn tell_give<W: Write>(output: &mut Output<W>, answer: Result<Ticket, GiveFault>
     }
 }
 
-/// Gives the identifications of a range to another printer, and prints `ticket HEX`, the ten bytes of the ticket, after
-/// they were saved as gone; or the line `refused NAME`.
+/// Gives the identifications of a range from the printer of a number to another, and prints `ticket HEX`, the ten bytes
+/// of the ticket, after they were saved as gone; or the line `refused NAME`.
 pub fn give_command<A: Allocator + Copy, S: Store, R: Read, W: Write, E: Write>(
     alloc: A,
     store: S,
     streams: &mut Streams<R, W, E>,
-    options: GiveOptions,
+    number: u16,
+    to: u16,
+    range: Range,
 ) -> Ended<S>
-    ensures { EndsGive options (ledger_at (S.state store) streams.old) result.status
+    ensures { EndsGive number to range (ledger_at (S.state store) streams.old) result.status
         (ledger_at (S.state result.store) streams.new) }
 {
-    let mut printer = match open_printer(alloc, store, &mut streams.output, options.number) {
+    let mut printer = match open_printer(alloc, store, &mut streams.output, number) {
         Ok(printer) => printer,
         Err(ended) => return ended,
     };
-    let answer = printer.give(options.to, options.range);
-    let status = tell_give(&mut streams.output, answer);
+    let status = tell_give(&mut streams.output, printer.give(to, range));
     let store = printer.close();
     Ended { status, store }
 }

@@ -47,13 +47,12 @@ fn put_shown<W: Write>(output: &mut Output<W>, shown: &Shown) -> Result<(), Writ
 /// Prints what the ledger in a store holds, a line for each fact, or the line `refused NAME`. Nothing is saved, and no
 /// memory is taken but the store's.
 pub fn left_command<S: Store, R: Read, W: Write, E: Write>(
-    store: S,
+    mut store: S,
     streams: &mut Streams<R, W, E>,
 ) -> Ended<S>
     ensures { EndsLeft (ledger_at (S.state store) streams.old) result.status
         (ledger_at (S.state result.store) streams.new) }
 {
-    let mut store = store;
     match Shown::load(&mut store) {
         Ok(shown) => {
             let status = status_after(put_shown(&mut streams.output, &shown));

@@ -1,15 +1,13 @@
-//! The commands of printers: `ledger` makes a ledger, `print` prints a document as labels, `give` and `take` move
-//! identifications from one printer to another; `left` says what a ledger holds, `plan` how many labels a document has
-//! of each side, and `ticket` what a ticket is.
+//! The commands of printers: `ledger` makes a ledger, `print` prints labels, `give` and `take` move identifications;
+//! `left` says what a ledger holds, `plan` how many labels of each side a document has, `ticket` what a ticket is.
 //!
 //! Proved: `ledger` creates the printer, where the store holds nothing; `print`, `give` and `take` open the printer
 //! whose ledger the store holds, do the printer's call, write the line of its answer, and leave the store as the call
 //! left it. `print` writes the labels of the job, in order, after that line; a side that it chooses is the smallest of
 //! which the document has few enough labels. `left` opens no printer: it writes the lines of what the store holds, and
-//! leaves the store as it was. `plan` and `ticket` have no store: `plan` writes the line of each side of which the
-//! document has labels, and of no other. `ticket` and `take` take the same texts: the bare digits of a ticket, and the
-//! check form, which has two check words, so that one or two wrong bytes of it are found. A stream that a command
-//! doesn't need it leaves as it was.
+//! leaves the store as it was. `plan` writes the line of each side of which the document has labels, and of no other.
+//! `ticket` and `take` take the same texts: the bare digits of a ticket, and the check form, which has two check words,
+//! so that one or two wrong bytes of it are found. A stream that a command doesn't need it leaves as it was.
 #![tactic(auto)]
 
 pub mod laws;
@@ -19,8 +17,9 @@ mod plan;
 mod print;
 mod tickets;
 
-pub use ledger::{GiveOptions, LedgerOptions, give_command, ledger_command};
+pub use ledger::{give_command, ledger_command};
 pub use left::left_command;
 pub use plan::plan_command;
-pub use print::{AutoOptions, PrintOptions, print_auto_command, print_command};
-pub use tickets::{TakeOptions, take_command, ticket_command};
+pub use print::print_command;
+pub use relay_line::Labels;
+pub use tickets::{take_command, ticket_command};

@@ -1,8 +1,7 @@
 //! `relay plan`: the sides at which a document can be cut into labels.
 
-ghost use Rattle.std.specs.Prelude.{◌≡◌, ℕ, IfSome, MatchOption};
-ghost use Rattle.dm_check_blocks.specs.declared.size.Size.{Size};
-ghost use Rattle.relay_printer_commands.specs.Print.{IsPlan, IsPlanned, EndsPlan, HasAtMost, IsSmallestSide};
+ghost use Rattle.std.specs.Prelude.{◌≡◌, ◌↔◌, ℕ, Some};
+ghost use Rattle.relay_printer_commands.specs.Print.{IsPlan, IsPlanned, EndsPlan};
 ghost use Rattle.std.specs.List.{flat_map};
 ghost use Rattle.relay_streams.specs.Streams.{TakesPart};
 ghost use Rattle.relay_shared.specs.Lines.{side_line};
@@ -21,9 +20,8 @@ use std::io::{Read, Write};
 
 // How many labels of a side a document has: none, where the number is no side.
 fn count_of(document: &[u8], side: u16, scheme: Scheme) -> Option<u8>
-    ensures planned { IfSome result (λ count. IsPlanned scheme document.now (record { side = side; count = count })) }
-    ensures exact { (count : ℕ) → IsPlanned scheme document.now (record { side = side; count = count })
-        → result ≡ Some count }
+    ensures { (count : ℕ) → (result ≡ Some count)
+        ↔ IsPlanned scheme document.now (record { side = side; count = count }) }
 {
     label_count(document, Size::of_side(side)?, scheme)
 }
@@ -39,21 +37,6 @@ fn plan_of(document: &[u8], scheme: Scheme) -> ArrayVec<PlannedSide, 133>
         }
     }
     plan
-}
-
-pub(crate) fn smallest_side(document: &[u8], scheme: Scheme, most: u16) -> Option<Size>
-    ensures { MatchOption result
-        ((size : Size) → ¬ HasAtMost most size scheme document.now)
-        (IsSmallestSide most scheme document.now) }
-{
-    for side in 0..133 {
-        if let Some(count) = count_of(document, side, scheme) {
-            if u16::from(count) <= most {
-                return Size::of_side(side);
-            }
-        }
-    }
-    None
 }
 
 fn put_plan<W: Write>(output: &mut Output<W>, plan: &[PlannedSide]) -> Result<(), WriteFault>

@@ -1,13 +1,12 @@
-//! `relay take`, identifications from another printer, and `relay ticket`, what a ticket says.
-//!
-//! The text of a ticket has two forms: twenty hexadecimal digits, those of its ten bytes; or the check form, 24 digits
-//! in groups of four, joined by hyphens, those of the ten bytes and of two check words.
+//! `relay take`, identifications from another printer, and `relay ticket`, what a ticket says. The text of a ticket has
+//! two forms: twenty hexadecimal digits, those of its ten bytes; or the check form, 24 digits in groups of four, joined
+//! by hyphens, those of the ten bytes and of two check words.
 
-ghost use Rattle.std.specs.Prelude.{◌≡◌, ◌≢◌, ◌+◌, ◌++◌, ◌*◌, ◌/◌, ◌<◌, ◌↔◌, ℕ, List, length, slice_index, IsTrue, MatchOption};
+ghost use Rattle.std.specs.Prelude.{◌≡◌, ◌+◌, ◌*◌, ◌<◌, ◌↔◌, ℕ, List, length, slice_index, IsTrue, MatchOption};
 ghost use Rattle.std.specs.List.{All};
 ghost use Rattle.dm_print_ledger.specs.Ledger.{AreOfTicket, ticket_bytes};
-ghost use Rattle.relay_shared.specs.Lines.{grouped, taken_line};
-ghost use Rattle.relay_printer_commands.specs.Tickets.{HasTicket, IsBareText, IsCheckText, IsChecked, IsGroupedText, IsTextOf, EndsTicket, ticket_lines};
+ghost use Rattle.relay_shared.specs.Lines.{taken_line};
+ghost use Rattle.relay_printer_commands.specs.Tickets.{HasTicket, IsBareText, IsCheckText, IsChecked, IsTextOf, EndsTicket, digits_in_groups, ticket_lines};
 ghost use Rattle.relay_shared.specs.Command.{Puts, TellsAnswer};
 ghost use Rattle.dm_print_ledger.specs.Verdicts.{take_fault_name};
 ghost use Rattle.relay_printer_commands.specs.Printers.{ledger_at, EndsTake};
@@ -22,27 +21,22 @@ use relay_streams::{Output, WriteFault};
 use std::alloc::Allocator;
 use std::io::{Read, Write};
 
-// Ten bytes and then two, all of which are bytes.
-fn joined(bytes: &[u8], checks: &[u8]) -> [u8; 12]
-    requires ten { length bytes.now ≡ 10 }
-    requires two { length checks.now ≡ 2 }
-    ensures joined { result ≡ bytes.now ++ checks.now }
-    ensures words { All (λ word. word < 256) (bytes.now ++ checks.now) }
-{
-    let mut whole = [0u8; 12];
-    whole[..10].copy_from_slice(bytes);
-    whole[10..].copy_from_slice(checks);
-    whole
-}
+// What a byte holds is a word.
+fn bytes_are_words(bytes: &[u8])
+    ensures { All (λ word. word < 256) bytes.now }
+{}
 
 // Ten bytes, and two check words of them.
 fn checked(bytes: [u8; 10]) -> [u8; 12]
     ensures checked { IsChecked bytes result }
     ensures only { (other : List ℕ) → IsChecked bytes other → other ≡ result }
 {
-    let mut checks = [0u8; 2];
-    checks_of(&bytes, &mut checks);
-    joined(&bytes, &checks)
+    let mut whole = [0u8; 12];
+    let (message, checks) = whole.split_at_mut(10);
+    message.copy_from_slice(&bytes);
+    checks_of(&bytes, checks);
+    bytes_are_words(&whole);
+    whole
 }
 
 // Whether a text is as long as six groups of four digits, and a hyphen stands after each of them but the last.
@@ -54,10 +48,9 @@ fn has_hyphens(text: &[u8]) -> bool
 }
 
 // What stands between the hyphens.
-fn beside_hyphens(text: &[u8]) -> [u8; 24]
+fn digits_in_groups(text: &[u8]) -> [u8; 24]
     requires { length text.now ≡ 29 }
-    ensures size { length result ≡ 24 }
-    ensures digits { (k : ℕ) → k < 24 → slice_index result k ≡ slice_index text.now (k + k / 4) }
+    ensures { result ≡ digits_in_groups text.now }
 {
     let mut digits = [0u8; 24];
     for k in 0..24 {
@@ -66,29 +59,14 @@ fn beside_hyphens(text: &[u8]) -> [u8; 24]
     digits
 }
 
-// The 24 bytes that a text has in groups of four.
-fn ungrouped(text: &[u8]) -> Option<[u8; 24]>
-    ensures { MatchOption result ((digits : List ℕ) → length digits ≡ 24 → text.now ≢ grouped 5 digits)
-        (λ digits. text.now ≡ grouped 5 digits) }
-{
-    if !has_hyphens(text) {
-        return None;
-    }
-    Some(beside_hyphens(text))
-}
-
-fn bytes_in_groups(text: &[u8]) -> Option<[u8; 12]>
-    ensures { MatchOption result ((whole : List ℕ) → ¬ IsGroupedText text.now whole)
-        (IsGroupedText text.now) }
-{
-    <[u8; 12]>::from_hex(ungrouped(text)?).ok()
-}
-
 fn of_check_form(text: &[u8]) -> Option<Ticket>
     ensures { MatchOption result ((bytes : List ℕ) → AreOfTicket bytes → ¬ IsCheckText text.now bytes)
         (λ ticket. AreOfTicket (ticket_bytes ticket) × IsCheckText text.now (ticket_bytes ticket)) }
 {
-    let whole = bytes_in_groups(text)?;
+    if !has_hyphens(text) {
+        return None;
+    }
+    let whole = <[u8; 12]>::from_hex(digits_in_groups(text)).ok()?;
     let ticket = Ticket::of_bytes(&whole[..10])?;
     if checked(ticket.bytes()) == whole {
         Some(ticket)
@@ -127,21 +105,11 @@ fn put_lines<W: Write>(
 pub fn ticket_command<R: Read, W: Write, E: Write>(streams: &mut Streams<R, W, E>, text: &str) -> u8
     ensures { EndsTicket text.now streams.old result streams.new }
 {
-    match ticket_of(text) {
-        Some(ticket) => {
-            let whole = checked(ticket.bytes());
-            status_after(put_lines(&mut streams.output, ticket, whole))
-        }
-        None => refuse(&mut streams.output, Refusal::Ticket.name()),
-    }
-}
-
-/// Which printer takes, and which ticket.
-#[derive(Clone, Copy, Debug, PartialEq, Eq)]
-pub struct TakeOptions<'a> {
-    pub number: u16,
-    /// The text of the ticket, in either of its forms.
-    pub text: &'a str,
+    let Some(ticket) = ticket_of(text) else {
+        return refuse(&mut streams.output, Refusal::Ticket.name());
+    };
+    let whole = checked(ticket.bytes());
+    status_after(put_lines(&mut streams.output, ticket, whole))
 }
 
 // Writes the line of a printer's answer to a ticket that it was to take, if this many identifications are free then.
@@ -161,16 +129,17 @@ pub fn take_command<A: Allocator + Copy, S: Store, R: Read, W: Write, E: Write>(
     alloc: A,
     store: S,
     streams: &mut Streams<R, W, E>,
-    options: TakeOptions<'_>,
+    number: u16,
+    text: &str,
 ) -> Ended<S>
-    ensures { EndsTake options.entry (ledger_at (S.state store) streams.old) result.status
+    ensures { EndsTake number text.now (ledger_at (S.state store) streams.old) result.status
         (ledger_at (S.state result.store) streams.new) }
 {
-    let Some(ticket) = ticket_of(options.text) else {
+    let Some(ticket) = ticket_of(text) else {
         let status = refuse(&mut streams.output, Refusal::Ticket.name());
         return Ended { status, store };
     };
-    let mut printer = match open_printer(alloc, store, &mut streams.output, options.number) {
+    let mut printer = match open_printer(alloc, store, &mut streams.output, number) {
         Ok(printer) => printer,
         Err(ended) => return ended,
     };

@@ -1,6 +1,7 @@
 -- The words of a script, which is this project's own: what each kind of word stands for.
-use Rattle.std.specs.Prelude.{◌≡◌, ◌⊎◌, ◌<◌, ◌≤◌, ◌==◌, ℕ, List, [], ◌∷◌, ◌++◌, length, codes, Option, Result, Ok, Err, MatchOption, ⊤}
-use Rattle.std.specs.List.{slice_split, AllZip}
+use Rattle.std.specs.Prelude.{◌≡◌, ◌⊎◌, ◌<◌, ◌≤◌, ◌==◌, ℕ, List, [], ◌++◌, length, codes, Option, Result, Ok, Err, MatchOption, ⊤, map}
+use Rattle.std.specs.Borrow.{Bor}
+use Rattle.std.specs.List.{slice_split, before_first, after_first, AllZip}
 use Rattle.std.specs.Str.Parse.{IsNumeral, digits_value}
 use Rattle.hex.specs.Hex.{decode_of, decode_sized}
 use Rattle.dm_check_blocks.specs.declared.size.Size.{Size}
@@ -30,6 +31,10 @@ IsRead (Ok x) Fits = Fits x
 IsRead (Err Script) Fits = Nothing Fits
 IsRead (Err Memory) Fits = ⊤
 
+-- the texts of which references are held
+abbrev pub texts : List (Bor (List ℕ)) → List (List ℕ)
+texts words = map (λ word. word.now) words
+
 -- the parts of a text that is cut at each of these bytes
 abbrev pub cut_at : ℕ → List ℕ → List (List ℕ)
 cut_at byte text = slice_split (λ b. b == byte) text
@@ -43,34 +48,34 @@ abbrev pub IsNumberOf : List ℕ → ℕ → Type 0
 IsNumberOf word n = IsNumber word × (n ≡ digits_value 10 word)
 
 -- the number of modules along a side of a symbol
-abbrev pub IsSideOf : List ℕ → Size → Type 0
+unfoldable pub IsSideOf : List ℕ → Size → Type 0
 IsSideOf word size = IsNumberOf word (side size)
 
 -- the two words of an identification, 1 to 254 each, in hexadecimal: there are 64,516 identifications
-abbrev pub IsIdOf : List ℕ → ℕ → Type 0
+unfoldable pub IsIdOf : List ℕ → ℕ → Type 0
 IsIdOf word id = (id < 64516) × (decode_sized word 2 ≡ Ok (id_words id))
 
 -- bytes in hexadecimal, or `-` for none
-abbrev pub AreBytesOf : List ℕ → List ℕ → Type 0
+unfoldable pub AreBytesOf : List ℕ → List ℕ → Type 0
 AreBytesOf word bytes =
     ((word ≡ codes "-") × (bytes ≡ [])) ⊎ ((0 < length word) × (decode_of word ≡ Ok bytes))
 
 -- where a call is stopped
-abbrev pub IsStopOf : List ℕ → Stop → Type 0
+unfoldable pub IsStopOf : List ℕ → Stop → Type 0
 IsStopOf word None = word ≡ codes "-"
 IsStopOf word BeforeSave = word ≡ codes "before"
 IsStopOf word (InSave Old) = word ≡ codes "in-old"
 IsStopOf word (InSave New) = word ≡ codes "in-new"
 IsStopOf word (SaveFault Old) = word ≡ codes "fault-old"
 IsStopOf word (SaveFault New) = word ≡ codes "fault-new"
-IsStopOf word (AfterLabels most) = (digits : List ℕ) × (word ≡ codes "after:" ++ digits) × IsNumberOf digits most ×
-    (most ≤ 255)
+IsStopOf word (AfterLabels most) = (digits : List ℕ) × (word ≡ codes "after:" ++ digits) × IsNumberOf digits most
+    × (most ≤ 255)
 
--- a row and a column with a comma between them
+-- a row, a comma and a column: with no comma nothing is left for the column, which then is no number
 abbrev pub IsFlipOf : List ℕ → ℕ × ℕ → Type 0
-IsFlipOf word flip = (row : List ℕ) × (column : List ℕ) × (word ≡ row ++ (44 ∷ column))
-    × IsNumberOf row flip.0 × IsNumberOf column flip.1
+IsFlipOf word flip = IsNumberOf (before_first (λ b. b == 44) word) flip.0
+    × IsNumberOf (after_first (λ b. b == 44) word) flip.1
 
 -- flips with semicolons between them, or `-` for none
-abbrev pub AreFlipsOf : List ℕ → List (ℕ × ℕ) → Type 0
+unfoldable pub AreFlipsOf : List ℕ → List (ℕ × ℕ) → Type 0
 AreFlipsOf word flips = ((word ≡ codes "-") × (flips ≡ [])) ⊎ AllZip IsFlipOf (cut_at 59 word) flips

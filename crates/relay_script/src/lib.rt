@@ -7,6 +7,7 @@
 mod event_lines;
 pub mod laws;
 mod script;
+mod spelled;
 mod words;
 
 pub use script::{MOST_DESKS, MOST_EVENTS, MOST_PRINTERS, SCRIPT_BYTES, Script, read_script};

@@ -1,9 +1,9 @@
 //! What each kind of word of a script stands for, and why a script is not taken.
 
-ghost use Rattle.std.specs.Prelude.{◌≡◌, ◌<◌, ◌≤◌, ℕ, IfOk, MatchOption, map};
-ghost use Rattle.std.specs.Str.Parse.{digits_value};
-ghost use Rattle.relay_script.specs.Words.{cut_at, AreBytesOf, AreFlipsOf, IsFlipOf, IsFound, IsIdOf, IsNumber, IsNumberOf, IsRead, IsSideOf, IsStopOf};
+ghost use Rattle.std.specs.Prelude.{◌≡◌, ℕ, IfOk, MatchOption};
+ghost use Rattle.relay_script.specs.Words.{AreBytesOf, AreFlipsOf, IsFlipOf, IsFound, IsIdOf, IsNumber, IsNumberOf, IsRead, IsSideOf, IsStopOf};
 
+use crate::spelled::{Spelled, cut, read_all};
 use dm_append_label::FileId;
 use dm_check_blocks::Size;
 use dm_event_history::{Bytes, Flips, Kept, Stop};
@@ -54,12 +54,14 @@ pub(crate) fn number(word: &str) -> Option<u16>
     word.parse().ok()
 }
 
+#[tactic(auto, unfolding(crate::specs::Words::IsSideOf))]
 pub(crate) fn size(word: &str) -> Option<Size>
     ensures { IsFound result (IsSideOf word.now) }
 {
     Size::of_side(number(word)?)
 }
 
+#[tactic(auto, unfolding(crate::specs::Words::IsIdOf))]
 pub(crate) fn id(word: &str) -> Option<FileId>
     ensures { IsFound result (IsIdOf word.now) }
 {
@@ -70,6 +72,7 @@ pub(crate) fn id(word: &str) -> Option<FileId>
     }
 }
 
+#[tactic(auto, using(crate::proofs::Refused::none_named), unfolding(crate::specs::Words::IsStopOf))]
 pub(crate) fn stop(word: &str) -> Option<Stop>
     ensures { IsFound result (IsStopOf word.now) }
 {
@@ -84,6 +87,7 @@ pub(crate) fn stop(word: &str) -> Option<Stop>
     }
 }
 
+#[tactic(auto, unfolding(crate::specs::Words::IsStopOf))]
 fn after_labels(word: &str) -> Option<Stop>
     ensures { MatchOption result ((most : ℕ) → ¬ IsStopOf word.now (Stop.AfterLabels most)) (IsStopOf word.now) }
 {
@@ -92,29 +96,37 @@ fn after_labels(word: &str) -> Option<Stop>
     Some(Stop::AfterLabels(most))
 }
 
-pub(crate) fn bytes<A: Allocator>(alloc: A, word: &str) -> Result<Bytes<A>, ScriptFault>
-    ensures { IsRead result (AreBytesOf word.now) }
+#[tactic(auto, unfolding(crate::specs::Words::AreBytesOf))]
+pub(crate) fn bytes<A: Allocator>(alloc: A, word: &str) -> Result<Option<Bytes<A>>, AllocError>
+    ensures { IfOk result (λ found. IsFound found (AreBytesOf word.now)) }
 {
     if word == "-" {
-        return Ok(Bytes(Vec::new(alloc)));
+        return Ok(Some(Bytes(Vec::new(alloc))));
     }
     if word.is_empty() {
-        return Err(ScriptFault::Script);
+        return Ok(None);
     }
     match hex::decode(alloc, word) {
-        Ok(bytes) => Ok(Bytes(bytes)),
-        Err(FromHexError::OutOfMemory) => Err(ScriptFault::Memory),
-        Err(_) => Err(ScriptFault::Script),
+        Ok(bytes) => Ok(Some(Bytes(bytes))),
+        Err(FromHexError::OutOfMemory) => Err(AllocError),
+        Err(_) => Ok(None),
     }
 }
 
-fn flip(word: &str) -> Option<(u16, u16)>
-    ensures { IsFound result (IsFlipOf word.now) }
-{
-    let (row, column) = word.split_once(',')?;
-    Some((number(row)?, number(column)?))
+impl<A: Allocator + Copy> Spelled<A> for (u16, u16) {
+    ghost spells = { IsFlipOf };
+
+    #[tactic(auto, using(std::proofs::lemmas::Str::Pattern::split_once_first))]
+    fn read(_alloc: A, word: &str) -> Result<(u16, u16), ScriptFault> {
+        let (row, column) = word.split_once(',').ok_or(ScriptFault::Script)?;
+        let (Some(row), Some(column)) = (number(row), number(column)) else {
+            return Err(ScriptFault::Script);
+        };
+        Ok((row, column))
+    }
 }
 
+#[tactic(auto, unfolding(crate::specs::Words::AreFlipsOf))]
 pub(crate) fn flips<A: Allocator + Copy>(alloc: A, word: &str) -> Result<Flips<A>, ScriptFault>
     ensures { IsRead result (AreFlipsOf word.now) }
 {
@@ -122,22 +134,5 @@ pub(crate) fn flips<A: Allocator + Copy>(alloc: A, word: &str) -> Result<Flips<A
         return Ok(Flips(Vec::new(alloc)));
     }
     let parts = cut(alloc, word, ';')?;
-    let mut flips = Vec::with_capacity(alloc, parts.len())?;
-    for part in &parts {
-        let flip = flip(*part).ok_or(ScriptFault::Script)?;
-        flips.push(flip).map_err(AllocError::from)?;
-    }
-    Ok(Flips(flips))
-}
-
-/// The parts of a text, which is cut at each of these ASCII characters.
-pub(crate) fn cut<'a, A: Allocator>(
-    alloc: A,
-    text: &'a str,
-    at: char,
-) -> Result<Vec<&'a str, A>, AllocError>
-    requires { at < 128 }
-    ensures { IfOk result (λ parts. map (λ part. part.now) parts.items ≡ cut_at at text.now) }
-{
-    text.split(at).collect(alloc)
+    Ok(Flips(read_all(alloc, &parts)?))
 }

@@ -1,11 +1,15 @@
 -- From the answer of a write to what a command says.
-use Rattle.std.specs.Prelude.{◌≡◌, ◌⊎◌, ℕ, List, Option, Result, MatchResult}
-use Rattle.std.proofs.Common.{Ok, Err, inl, inr, refl}
+use Rattle.std.specs.Prelude.{◌≡◌, ℕ, List, Option, Result, MatchResult}
+use Rattle.std.proofs.Common.{Ok, Err, inl, inr, refl, ap}
 use Rattle.std.specs.Io.KnownBytes.{Appends}
 use Rattle.std.proofs.KnownBytes.{Appends-trans}
-use Rattle.relay_streams.specs.Streams.{AppendsPart, OutputView}
+use Rattle.relay_streams.specs.Streams.{AppendsPart, InputView, OutputView, write_fault_name}
 use Rattle.relay_streams.specs.declared.fault.WriteFault.{WriteFault}
-use Rattle.relay_shared.specs.Command.{AppendsThenPart, Puts, Tells}
+use Rattle.relay_streams.specs.declared.fault.WriteFault.TheVariants.{Write}
+use Rattle.relay_shared.specs.Command.{AppendsThenPart, Puts, StreamsView, Tells, TellsBytes, TellsRefusal}
+
+abbrev pub streams_of : InputView → OutputView → OutputView → StreamsView
+streams_of input output errors = record { input = input; output = output; errors = errors }
 
 -- the line was written and the status is 0, or the output has refused it and a part of it is out
 pub told : {line : List ℕ} {old new : OutputView} {status : ℕ} (put : Result (Unit {0}) WriteFault)
@@ -19,10 +23,15 @@ pub told_else : {line : List ℕ} {old new : OutputView} (put : Result (Unit {0}
 told_else (Ok x) puts = inl (puts.written, refl)
 told_else (Err e) puts = inr (puts.failed, puts.part, refl)
 
--- a line of a refusal was told, or its output has failed
-pub refused_by : {P Q R : Type 0} {status : ℕ} → (P × (status ≡ 1)) ⊎ (Q × R × (status ≡ 1)) → status ≡ 1
-refused_by (inl whole) = whole.1
-refused_by (inr part) = part.2
+-- bytes for another program were written, or the standard error was told that they were not
+pub told_bytes : {bytes : List ℕ} {input : InputView} {output errors new_output new_errors : OutputView} {status : ℕ}
+    (put : Result (Unit {0}) WriteFault) → Puts bytes output put new_output
+    → MatchResult put (λ _. (status ≡ 0) × (new_errors ≡ errors))
+    (λ fault. TellsRefusal (write_fault_name fault) errors status new_errors)
+    → TellsBytes bytes (streams_of input output errors) status (streams_of input new_output new_errors)
+told_bytes {input = input} {new_output = new_output} (Ok x) puts is =
+    inl (puts.written, ap (streams_of input new_output) is.1, is.0)
+told_bytes (Err Write) puts is = inr (puts.failed, puts.part, refl, is)
 
 -- a part of what comes after a text
 pub then_part : (a b c : Option (List ℕ)) (text next : List ℕ) → Appends a b text → AppendsPart b c next →

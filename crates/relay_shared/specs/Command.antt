@@ -1,21 +1,18 @@
 -- The document that a command reads; how it says what has happened, by a line and by its exit status, and what is out
 -- if its output fails; and which of its streams it changes.
-use Rattle.std.specs.Prelude.{◌≡◌, ℕ, true, List, take, ◌⊎◌, ◌++◌, Option, Result, Ok, Err, OnErr, OnOk, codes}
+use Rattle.std.specs.Prelude.{◌≡◌, ℕ, true, List, ◌⊎◌, ◌++◌, Option, Result, Ok, Err, OnErr, OnOk, codes}
 use Rattle.relay_streams.specs.Streams.{InputView, ReadsFirst, AppendsPart, IsFirstPart, OutputView, refused_line, write_fault_name}
 use Rattle.relay_streams.specs.declared.fault.InputFault.{InputFault}
 use Rattle.relay_streams.specs.declared.fault.InputFault.TheVariants as input_faults
 use Rattle.relay_shared.specs.declared.command.TheConstants.{DOCUMENT_BYTES}
 use Rattle.std.specs.Io.KnownBytes.{Appends}
 use Rattle.relay_streams.specs.declared.fault.WriteFault.{WriteFault}
+use Rattle.relay_streams.specs.declared.fault.WriteFault.TheVariants.{Write}
 use Rattle.relay_shared.specs.declared.command.Refusal.{Refusal}
 use Rattle.relay_shared.specs.declared.command.Refusal.TheVariants.{Side, FileId, Ticket, TooMany, Memory, Output}
 
--- A document is read up to one byte more than the greatest that a printer cuts into labels. That many bytes are too
--- long for every symbol.
-abbrev pub document_of : List ℕ → List ℕ
-document_of input = take DOCUMENT_BYTES input
-
--- no read failed, and this document was read, and no other byte
+-- No read failed, and this document was read, and no other byte: up to one byte more than the greatest that a printer
+-- cuts into labels. That many bytes are too long for every symbol.
 abbrev pub ReadsDocument : InputView → InputView → List ℕ → Type 0
 ReadsDocument input rest document = ReadsFirst input rest DOCUMENT_BYTES document
 
@@ -88,6 +85,15 @@ RefusesOnOutput name old status new = TellsRefusal name old.output status new.ou
 abbrev pub RefusesOnErrors : List ℕ → StreamsView → ℕ → StreamsView → Type 0
 RefusesOnErrors name old status new =
     TellsRefusal name old.errors status new.errors × (new ≡ record old { errors = new.errors })
+
+-- The bytes were written to the output, and nothing happened to the other streams; or the output has failed, a part of
+-- the bytes is out from their first on, nothing was read, and the line that says so was written to the standard error,
+-- or that has failed too.
+abbrev pub TellsBytes : List ℕ → StreamsView → ℕ → StreamsView → Type 0
+TellsBytes bytes old status new =
+    (Appends old.output.contents new.output.contents bytes × OnlyOutput old new × (status ≡ 0))
+    ⊎ ((new.output.has_failed ≡ true) × AppendsPart old.output.contents new.output.contents bytes
+    × ReadsNothing old new × TellsRefusal (write_fault_name Write) old.errors status new.errors)
 
 abbrev pub refusal_name : Refusal → List ℕ
 refusal_name Side = codes "Side"

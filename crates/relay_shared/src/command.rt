@@ -2,7 +2,7 @@
 
 ghost use Rattle.std.specs.Prelude.{◌≡◌, false, true, IfOk, IsErrOf, MatchResult};
 ghost use Rattle.relay_shared.specs.Command.{ReadsDocument, refusal_name, TellsRefusal};
-ghost use Rattle.relay_streams.specs.Streams.{TakesPart};
+ghost use Rattle.relay_streams.specs.Streams.{TakesPart, write_fault_name};
 ghost use Rattle.relay_streams.specs.declared.fault.InputFault.TheVariants as input_faults;
 ghost use Rattle.relay_shared.specs.declared.command.Refusal.TheVariants as refusals;
 
@@ -143,4 +143,16 @@ pub fn refuse<W: Write>(output: &mut Output<W>, name: &str) -> u8
 {
     let _ = output.put_refusal(name);
     1
+}
+
+/// The exit status after bytes for another program: where the output has refused them, the standard error is told.
+pub fn status_after_bytes<E: Write>(errors: &mut Output<E>, put: Result<(), WriteFault>) -> u8
+    ensures { MatchResult put
+        (λ _. (result ≡ 0) × (errors.new ≡ errors.old))
+        (λ fault. TellsRefusal (write_fault_name fault) errors.old result errors.new) }
+{
+    match put {
+        Ok(()) => 0,
+        Err(fault) => refuse(errors, fault.name()),
+    }
 }

@@ -13,6 +13,7 @@ mod printer_lines;
 
 pub use command::{
     DOCUMENT_BYTES, Ended, EndedDesk, Refusal, Streams, read_document, refuse, status_after,
+    status_after_bytes,
 };
 pub use desk_lines::{
     mask_digits, put_accepted, put_forgotten, put_held, put_imported, put_unsound,

@@ -1,13 +1,10 @@
 //! The commands of the symbol that carries the document on the standard input: `relay words`, its words in decimal, and
 //! `relay draw`, its image.
 
-ghost use Rattle.std.specs.Prelude.{◌≡◌, ◌<◌, length, IfOk, IfErr, IfSome, IsErrOf, OnOk, ◌++◌, ◌∷◌, string_bytes, ◌*◌};
+ghost use Rattle.std.specs.Prelude.{◌≡◌, length, IfOk, MatchResult, OnOk, ◌++◌, ◌∷◌, string_bytes, ◌*◌};
 ghost use Rattle.dm_check_blocks.specs.Sizes as sizes;
-ghost use Rattle.dm_encodation.specs.Written.{need_of};
-ghost use Rattle.dm_encodation.specs.declared.fault.EncodeFault.TheVariants as encode_faults;
 ghost use Rattle.relay_streams.specs.Streams.{TakesPart};
-ghost use Rattle.relay_symbol_commands.specs.DocumentSymbol.{CarriesDocument, RefusesSymbol, EndsWords, IsLineOf, words_line, DrawsDocument, EndsDraw};
-ghost use Rattle.relay_shared.specs.Command.{document_of};
+ghost use Rattle.relay_symbol_commands.specs.DocumentSymbol.{ReadsSymbol, RefusesSymbol, EndsWords, EndsDraw, words_line};
 ghost use Rattle.std.specs.List.{flat_map};
 ghost use Rattle.std.specs.Fmt.{decimal};
 ghost use Rattle.dm_symbol.specs.Correction.{grid_of_words};
@@ -19,7 +16,9 @@ use dm_encodation::{EncodeFault, Scheme, encode};
 use dm_pbm_io::{Image, image_of};
 use dm_placement::Layout;
 use dm_symbol::draw_words;
-use relay_shared::{DOCUMENT_BYTES, Streams, read_document, refuse, status_after};
+use relay_shared::{
+    DOCUMENT_BYTES, Streams, read_document, refuse, status_after, status_after_bytes,
+};
 use relay_streams::{Input, InputFault};
 use std::alloc::{AllocError, Allocator, Global};
 use std::fmt::Write as _;
@@ -41,36 +40,16 @@ pub(crate) struct Symbol<A: Allocator = Global> {
     pub words: Vec<u8, A>,
 }
 
-fn symbol_of<A: Allocator + Copy>(
-    alloc: A,
-    document: &[u8],
-    size: Size,
-    scheme: Scheme,
-) -> Result<Symbol<A>, EncodeFault>
-    ensures size { IfOk result (λ symbol. symbol.size ≡ size) }
-    ensures count { IfOk result (λ symbol. length symbol.words.items ≡ sizes.all_words symbol.size) }
-    ensures symbol { IfOk result (λ symbol.
-        CarriesDocument (record { side = sizes.side size; scheme = scheme }) document.now symbol.size
-        symbol.words.items) }
-    ensures too_long { IsErrOf result encode_faults.TooLong → sizes.data_words size < need_of scheme document.now }
-{
-    let data = encode(alloc, scheme, document, &[], size)?;
-    let words = complete(alloc, size, &data)?;
-    Ok(Symbol { size, words })
-}
-
 // The symbol of the document on the input. The side is looked at first, then the input is read, then it is encoded.
 fn read_symbol<A: Allocator + Copy, R: Read>(
     alloc: A,
     input: &mut Input<R>,
     form: Form,
 ) -> Result<Symbol<A>, SymbolRefusal>
-    ensures size { IfOk result (λ symbol. sizes.side symbol.size ≡ form.side) }
+    ensures symbol { MatchResult result
+        (λ symbol. ReadsSymbol form input.old input.new symbol.size symbol.words.items)
+        (RefusesSymbol form input.old input.new) }
     ensures count { IfOk result (λ symbol. length symbol.words.items ≡ sizes.all_words symbol.size) }
-    ensures symbol { IfOk result (λ symbol. IfSome input.old.remaining (λ bytes.
-        CarriesDocument form (document_of bytes) symbol.size symbol.words.items)) }
-    ensures whole { OnOk result (input.new.has_failed ≡ input.old.has_failed) }
-    ensures refused { IfErr result (RefusesSymbol form input.old input.new) }
     ensures part { TakesPart input.old.remaining input.new.remaining DOCUMENT_BYTES }
 {
     let Some(size) = Size::of_side(form.side) else {
@@ -81,11 +60,13 @@ fn read_symbol<A: Allocator + Copy, R: Read>(
         Err(InputFault::Read) => return Err(SymbolRefusal::Read),
         Err(InputFault::Memory) => return Err(SymbolRefusal::Memory),
     };
-    match symbol_of(alloc, &document, size, form.scheme) {
-        Ok(symbol) => Ok(symbol),
-        Err(EncodeFault::TooLong) => Err(SymbolRefusal::TooLong),
-        Err(EncodeFault::Memory) => Err(SymbolRefusal::Memory),
-    }
+    let data = match encode(alloc, form.scheme, &document, &[], size) {
+        Ok(data) => data,
+        Err(EncodeFault::TooLong) => return Err(SymbolRefusal::TooLong),
+        Err(EncodeFault::Memory) => return Err(SymbolRefusal::Memory),
+    };
+    let words = complete(alloc, size, &data)?;
+    Ok(Symbol { size, words })
 }
 
 fn push_later<A: Allocator + Copy>(line: &mut String<A>, words: &[u8]) -> Result<(), AllocError>
@@ -110,21 +91,6 @@ fn line_of_words<A: Allocator + Copy>(alloc: A, words: &[u8]) -> Result<String<A
     Ok(line)
 }
 
-fn line_of_document<A: Allocator + Copy, R: Read>(
-    alloc: A,
-    input: &mut Input<R>,
-    form: Form,
-) -> Result<String<A>, SymbolRefusal>
-    ensures line { IfOk result (λ line. IfSome input.old.remaining (λ bytes.
-        IsLineOf form (document_of bytes) (string_bytes line))) }
-    ensures whole { OnOk result (input.new.has_failed ≡ input.old.has_failed) }
-    ensures refused { IfErr result (RefusesSymbol form input.old input.new) }
-    ensures part { TakesPart input.old.remaining input.new.remaining DOCUMENT_BYTES }
-{
-    let symbol = read_symbol(alloc, input, form)?;
-    Ok(line_of_words(alloc, &symbol.words)?)
-}
-
 /// Reads a document and prints the words of its symbol in decimal, or the line `refused NAME`. The side is looked at
 /// first, then the input is read, at most 41,601 bytes of it, and then the document is encoded.
 pub fn words_command<A: Allocator + Copy, R: Read, W: Write, E: Write>(
@@ -132,11 +98,16 @@ pub fn words_command<A: Allocator + Copy, R: Read, W: Write, E: Write>(
     streams: &mut Streams<R, W, E>,
     form: Form,
 ) -> u8
-    ensures { EndsWords form streams.old result streams.new }
+    ensures part { TakesPart streams.old.input.remaining streams.new.input.remaining DOCUMENT_BYTES }
+    ensures ends { EndsWords form streams.old result streams.new }
 {
-    match line_of_document(alloc, &mut streams.input, form) {
+    let symbol = match read_symbol(alloc, &mut streams.input, form) {
+        Ok(symbol) => symbol,
+        Err(refusal) => return refuse(&mut streams.output, refusal.name()),
+    };
+    match line_of_words(alloc, &symbol.words) {
         Ok(line) => status_after(streams.output.put(line.as_bytes())),
-        Err(refusal) => refuse(&mut streams.output, refusal.name()),
+        Err(AllocError) => refuse(&mut streams.output, SymbolRefusal::Memory.name()),
     }
 }
 
@@ -155,23 +126,6 @@ fn image_of_symbol<A: Allocator + Copy>(
     image_of(alloc, &grid, plain)
 }
 
-fn image_of_document<A: Allocator + Copy, R: Read>(
-    alloc: A,
-    input: &mut Input<R>,
-    form: Form,
-    plain: bool,
-) -> Result<Image<A>, SymbolRefusal>
-    ensures drawn { IfOk result (λ image. IfSome input.old.remaining (λ bytes.
-        DrawsDocument form plain (document_of bytes) (picture image))) }
-    ensures whole { OnOk result (input.new.has_failed ≡ input.old.has_failed) }
-    ensures count { IfOk result (λ image. length image.pixels.items ≡ image.width * image.height) }
-    ensures refused { IfErr result (RefusesSymbol form input.old input.new) }
-    ensures part { TakesPart input.old.remaining input.new.remaining DOCUMENT_BYTES }
-{
-    let symbol = read_symbol(alloc, input, form)?;
-    Ok(image_of_symbol(alloc, &symbol, plain)?)
-}
-
 /// Reads a document and draws its symbol as one PBM image, packed (`P4`) or plain (`P1`), inside a quiet zone one
 /// pixel wide; a refusal is a line on the standard error. The side is looked at first, then the input is read, at most
 /// 41,601 bytes of it, then the document is encoded and drawn: no byte is written before the whole image is made.
@@ -181,13 +135,16 @@ pub fn draw_command<A: Allocator + Copy, R: Read, W: Write, E: Write>(
     form: Form,
     plain: bool,
 ) -> u8
-    ensures { EndsDraw form plain streams.old result streams.new }
+    ensures part { TakesPart streams.old.input.remaining streams.new.input.remaining DOCUMENT_BYTES }
+    ensures ends { EndsDraw form plain streams.old result streams.new }
 {
-    match image_of_document(alloc, &mut streams.input, form, plain) {
-        Ok(image) => match image.write(&mut streams.output) {
-            Ok(()) => 0,
-            Err(fault) => refuse(&mut streams.errors, fault.name()),
-        },
-        Err(refusal) => refuse(&mut streams.errors, refusal.name()),
-    }
+    let symbol = match read_symbol(alloc, &mut streams.input, form) {
+        Ok(symbol) => symbol,
+        Err(refusal) => return refuse(&mut streams.errors, refusal.name()),
+    };
+    let Ok(image) = image_of_symbol(alloc, &symbol, plain) else {
+        return refuse(&mut streams.errors, SymbolRefusal::Memory.name());
+    };
+    let put = image.write(&mut streams.output);
+    status_after_bytes(&mut streams.errors, put)
 }

@@ -2,11 +2,8 @@
 
 ghost use Rattle.std.specs.Prelude.{◌≡◌, ◌++◌, string_bytes, IfOk, OnOk, ◌≢◌, true, false, MatchResult, ◌⊎◌};
 ghost use Rattle.std.proofs.Common.{refl, ◌∙◌};
-ghost use Rattle.dm_check_blocks.specs.Sizes.{side};
-ghost use Rattle.dm_append_label.specs.Labels.{id_words};
-ghost use Rattle.hex.specs.Hex.{encode_lower};
 ghost use Rattle.relay_shared.specs.Lines.{hexadecimal};
-ghost use Rattle.relay_symbol_commands.specs.Read.{label_line, line_end, symbol_line, HasLine, HasNoHead, PrintsPicture, RefusesGrid, RefusesPicture, EndsRead, read_images};
+ghost use Rattle.relay_symbol_commands.specs.Read.{label_line, line_end, HasLine, HasNoHead, PrintsPicture, RefusesGrid, RefusesPicture, EndsRead, read_images};
 ghost use Rattle.dm_append_label.specs.declared.fault.HeadFault.TheVariants as head_faults;
 ghost use Rattle.dm_append_label.specs.declared.fault.PageFault.TheVariants as page_faults;
 ghost use Rattle.dm_finder_frame.specs.Frame.{GridView};
@@ -14,7 +11,7 @@ ghost use Rattle.dm_pbm_io.specs.Image.{picture};
 ghost use Rattle.dm_symbol.specs.Correction.{IsCorrectedAs};
 
 use crate::refusal::ReadRefusal;
-use dm_append_label::{FileId, HeadFault, LabelFault, Page, PageFault, page_of};
+use dm_append_label::{HeadFault, LabelFault, Page, PageFault, page_of};
 use dm_encodation::decode;
 use dm_finder_frame::Grid;
 use dm_pbm_io::{Image, ShapeFault, grid_of};
@@ -52,13 +49,6 @@ fn push_line_end<A: Allocator + Copy>(
     Ok(())
 }
 
-fn identification_of<A: Allocator + Copy>(alloc: A, id: FileId) -> Result<String<A>, AllocError>
-    ensures { IfOk result (λ text. string_bytes text ≡ encode_lower (id_words id)) }
-{
-    let (first, second) = id.words();
-    hex::encode(alloc, [first, second])
-}
-
 fn line_of_label<A: Allocator + Copy>(
     alloc: A,
     page: &Page<A>,
@@ -67,32 +57,13 @@ fn line_of_label<A: Allocator + Copy>(
     ensures { IfOk result (λ line.
         string_bytes line ≡ label_line page.now symbol.now.corrected symbol.now.wrong) }
 {
-    let id = identification_of(alloc, page.id())?;
+    let (first, second) = page.id().words();
+    let id = hex::encode(alloc, [first, second])?;
     let (m, n) = (page.m(), page.n());
+    let (corrected, wrong) = (symbol.corrected(), symbol.wrong());
     let mut line = String::new(alloc);
     write!(line, "label {id} {m}/{n}")?;
-    push_line_end(
-        alloc,
-        &mut line,
-        symbol.corrected(),
-        symbol.wrong(),
-        page.bytes(),
-    )?;
-    Ok(line)
-}
-
-fn line_of_symbol<A: Allocator + Copy>(
-    alloc: A,
-    symbol: &Corrected<A>,
-    bytes: &[u8],
-) -> Result<String<A>, AllocError>
-    ensures { IfOk result (λ line. string_bytes line ≡
-        symbol_line (side symbol.now.size) symbol.now.corrected symbol.now.wrong bytes.now) }
-{
-    let side = symbol.size().side();
-    let mut line = String::new(alloc);
-    write!(line, "symbol {side}")?;
-    push_line_end(alloc, &mut line, symbol.corrected(), symbol.wrong(), bytes)?;
+    push_line_end(alloc, &mut line, corrected, wrong, page.bytes())?;
     Ok(line)
 }
 
@@ -108,7 +79,12 @@ fn line_of_no_label<A: Allocator + Copy>(
         Ok(bytes) => bytes,
         Err(fault) => return Err(ReadRefusal::Text(fault)),
     };
-    Ok(line_of_symbol(alloc, symbol, &bytes)?)
+    let (corrected, wrong) = (symbol.corrected(), symbol.wrong());
+    let side = symbol.size().side();
+    let mut line = String::new(alloc);
+    write!(line, "symbol {side}")?;
+    push_line_end(alloc, &mut line, corrected, wrong, &bytes)?;
+    Ok(line)
 }
 
 fn is_no_label(fault: PageFault) -> bool
@@ -204,14 +180,8 @@ pub fn read_command<A: Allocator + Copy, R: Read, W: Write, E: Write>(
     ensures status { (result ≡ 0) ⊎ (result ≡ 1) }
     ensures printed { EndsRead streams.old result streams.new }
 {
-    let mut reading = Reading {
-        reader: SymbolReader::new(),
-    };
-    each_image(
-        alloc,
-        &mut reading,
-        &mut streams.input,
-        &mut streams.output,
-        &mut streams.errors,
-    )
+    let reader = SymbolReader::new();
+    let mut reading = Reading { reader };
+    let (input, output) = (&mut streams.input, &mut streams.output);
+    each_image(alloc, &mut reading, input, output, &mut streams.errors)
 }

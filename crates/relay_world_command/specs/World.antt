@@ -1,5 +1,5 @@
 -- What `world` writes: the answers to the events of a script. What their lines show is this project's own rule.
-use Rattle.std.specs.Prelude.{ℕ, Bool, true, false, List, [], ◌∷◌, ◌++◌, ◌/◌, ◌%◌, if◌then◌else◌, codes, ◌≡◌, ◌+◌, Err}
+use Rattle.std.specs.Prelude.{ℕ, Bool, true, false, List, [], ◌∷◌, ◌++◌, ◌/◌, ◌%◌, if◌then◌else◌, codes, ◌+◌, Err}
 use Rattle.std.specs.Fmt.{decimal}
 use Rattle.std.specs.List.{list_any, flat_map}
 use Rattle.hex.specs.Hex.{encode_lower}

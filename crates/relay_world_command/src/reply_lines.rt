@@ -1,6 +1,6 @@
 //! The lines of replies. They take no memory.
 
-ghost use Rattle.std.specs.Prelude.{◌≡◌, ◌∷◌, [], codes, if◌then◌else◌};
+ghost use Rattle.std.specs.Prelude.{◌≡◌, [], codes, if◌then◌else◌};
 ghost use Rattle.hex.specs.Hex.{encode_lower};
 ghost use Rattle.dm_print_ledger.specs.Ledger.{ticket_bytes};
 ghost use Rattle.relay_shared.specs.Command.{Puts};

@@ -8,17 +8,14 @@ returns-in-Err g c = (_, not_moved c.in-Err.fault c.in-Err.ensures c.name.ensure
 pub returns-in-Ok-open : goal.returns-in-Ok-open
 returns-in-Ok-open g c =
     let opens = c.in-Ok-open.ensures.ok in
-    let same = sym opens.same in (
-      record { moves = (c.in-Ok.field-0, rw same at c.in-Ok.ensures); opens = rw same at opens },
-      refl,
-      c.in-Ok-open.ensures.order,
-    )
+    let moves = rw (sym opens.same) at c.in-Ok.ensures in
+    let is = rw (sym opens.same) at opens in
+    (record { moves = (_, moves); opens = is }, refl, c.in-Ok-open.ensures.order)
 
 pub returns-in-Err-open : goal.returns-in-Err-open
 returns-in-Err-open g c =
-    let same = sym c.in-Err-open.ensures.same in (
-      _,
-      not_opened c.in-Err-open.refused.fault (c.in-Ok.field-0, rw same at c.in-Ok.ensures)
-          (rw same at c.in-Err-open.ensures.fault) c.name-in-Err-open.ensures,
-      c.refuse-status-in-Err-open.ensures,
-    )
+    let same = sym c.in-Err-open.ensures.same in
+    let fault = rw same at c.in-Err-open.ensures.fault in
+    let moves = rw same at c.in-Ok.ensures in
+    let none = not_opened c.in-Err-open.refused.fault (c.in-Ok.field-0, moves) fault c.name-in-Err-open.ensures in
+    (_, none, c.refuse-status-in-Err-open.ensures)

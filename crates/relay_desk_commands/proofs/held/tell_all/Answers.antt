@@ -1,26 +1,59 @@
-use Rattle.std.proofs.Common.{◌≡◌, Err, ap, inl, refl, rules}
-use Rattle.relay_desk_commands.specs.Held.{status_by}
-use Rattle.dm_assembly_desk.specs.declared.fault.DeskFault.TheVariants.{Device, Memory}
-use Rattle.relay_desk_commands.specs.Held.TellsAll.{listed, cut_off, no_keys}
+use mir.Val.{bool_byte}
+use Rattle.std.proofs.Common.{◌≡◌, ◌++◌, ◌∙◌, ℕ, Result, Ok, Err, ap, arith, refl}
+use Rattle.std.specs.Prelude.{MatchResult, is_err}
+use Rattle.relay_desk_commands.specs.Held.{joint_line, seen_line}
+use Rattle.relay_desk_commands.specs.Held.Lists.{begun, further}
+use Rattle.relay_shared.proofs.Telling.{told, told_else}
+use Rattle.relay_streams.specs.declared.fault.WriteFault.{WriteFault}
+use Rattle.relay_desk_commands.proofs.held.tell_all.Goals.{then-unsound, else-unsound}
+use Rattle.relay_desk_commands.specs.Held.Says.{all, no_keys}
 use Rattle.relay_desk_commands.proofs.held.tell_all.Goals as goal
 
-pub returns-in-Err-Device-clause-tells : goal.returns-in-Err-Device-clause-tells
-returns-in-Err-Device-clause-tells g c =
-    no_keys Device (c.in-Err-Device.ensures.lists.device (ap (λ fault. Err fault) c.in-Err-Device.field-0-is))
-    (rw c.name.ensures at c.refuse.ensures)
+pub loop-number-init : goal.loop-number-init
+loop-number-init g c = record {
+  text = joint_line c.args.joint.now;
+  lists = rw c.is_err-unsound.ensures.value begun;
+  puts = c.put_joint-put.ensures;
+  same = c.keys.ensures.lists.same;
+  first = c.first_from-first.ensures.first;
+  count = c.first_from-first.ensures.count;
+}
 
-pub returns-in-Err-Memory-clause-tells : goal.returns-in-Err-Memory-clause-tells
-returns-in-Err-Memory-clause-tells g c =
-    no_keys Memory tt
-    (rw c.name-in-Err-Memory.ensures at c.refuse-in-Err-Memory.ensures)
+pub loop-number-preserved : goal.loop-number-preserved
+loop-number-preserved g c =
+    let i = c.loop-number.invariant in
+    let seen = c.seen_at-seen.result in
+    let sees = rw i.same at (c.seen_at-seen.ensures.sees c.args.joint.now i.first) in record {
+      text = i.text ++ seen_line c.loop-number.number seen;
+      lists = rw c.is_err.ensures.value (further seen i.lists sees);
+      puts = c.put_seen-put.ensures i.text c.args.output.now i.puts;
+      same = c.seen_at-seen.ensures.same ∙ i.same;
+      first = c.next_from-first.ensures.first;
+      count = c.next_from-first.ensures.count;
+    }
 
-pub returns-in-Ok-put_list-clause-tells : goal.returns-in-Ok-put_list-clause-tells
-returns-in-Ok-put_list-clause-tells g c =
-    let written = c.in-Ok-put_list.ensures.written in
-    let status : c.from.result ≡ status_by c.in-Ok-put_list.unsound = search rules in
-    listed written.0 c.in-Ok-put_list.unsound (rw c.keys.ensures.lists.same at written.1) (inl (written.2, status))
+pub returns-in-Err-clause-tells : goal.returns-in-Err-clause-tells
+returns-in-Err-clause-tells g c =
+    let lists = c.in-Err.ensures.lists in
+    let none = no_keys c.in-Err.fault
+    record { same = refl; saved = λ _. tt; device = λ e. lists.device cc; memory = λ e. lists.memory cc } in
+    (_, _, none, rw (c.name.ensures, c.from.ensures) at c.refuse.ensures)
+
+-- the status says whether the lines were written
+by_put : (put : Result (Unit {0}) WriteFault) (status : ℕ) → status ≡ bool_byte (is_err put)
+    → MatchResult put (λ _. status ≡ 0) (λ _. status ≡ 1)
+by_put (Ok x) status is = is
+by_put (Err e) status is = is
 
 pub returns-clause-tells : goal.returns-clause-tells
 returns-clause-tells g c =
-    let cut = c.in-Err-Write.ensures.cut in
-    cut_off cut.0 cut.1 cut.2 (rw c.keys.ensures.lists.same at cut.3) cut.4 cut.5 cut.6 refl
+    let i = c.loop-number.invariant in
+    let end : c.loop-number.number ≡ 65536 = omega arith in
+    let lists = rw end at i.lists in elim c.if-unsound.branch [
+      | then-unsound w ↦
+          let status = rw (w.from-is, w.if-unsound.true) at c.from-2.ensures in
+          (_, 1, rw w.if-unsound.true at (all lists), rw status (told_else _ i.puts))
+      | else-unsound w ↦
+          let status = c.from-2.ensures ∙ ap bool_byte (w.from-is ∙ w.is_err-else-unsound.ensures.value) in
+          (_, 0, rw w.if-unsound.false at (all lists), told _ i.puts (by_put _ _ status))
+    ]

@@ -10,7 +10,8 @@ pub returns-in_err-put_ranges : goal.returns-in_err-put_ranges
 returns-in_err-put_ranges g c =
     puts_both _ (rw c.number.ensures at c.in_ok-put_number.ensures)
     (puts_both _ (rw c.left.ensures at c.in_ok-put_left.ensures)
-    (puts_first _ _ _ c.from_residual-in_err-put_ranges.ensures.1 (rw c.free.ensures.same at c.in_err-put_ranges.ensures)))
+    (puts_first _ _ _ c.from_residual-in_err-put_ranges.ensures.1
+    (rw c.free.ensures.same at c.in_err-put_ranges.ensures)))
 
 pub returns-in_err-put_given : goal.returns-in_err-put_given
 returns-in_err-put_given g c =

@@ -9,10 +9,11 @@ loop-side-preserved c =
     elim c.match-count_of.branch [
       | in-Some w ↦ rw (w.plan-is, w.push.ensures.items)
           (one_more c.args.scheme c.args.document.now n w.in-Some.count c.loop-side.plan.items c.loop-side.invariant
-          w.in-Some.ensures.planned (λ other is. let same = sym w.in-Some.is ∙ c.count_of.ensures.exact other is in cc))
+          ((c.count_of.ensures w.in-Some.count).0 w.in-Some.is)
+          (λ other is. let same = sym w.in-Some.is ∙ (c.count_of.ensures other).1 is in cc))
       | in_default w ↦ rw w.plan-is
           (passed_over c.args.scheme c.args.document.now n c.loop-side.plan.items c.loop-side.invariant
-          (λ count is. let wrong = sym w.in_default.is ∙ c.count_of.ensures.exact count is in cc))
+          (λ count is. let wrong = sym w.in_default.is ∙ (c.count_of.ensures count).1 is in cc))
     ]
 
 pub returns : goal.returns

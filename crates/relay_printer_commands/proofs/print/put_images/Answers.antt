@@ -9,9 +9,9 @@ use Rattle.std.specs.Io.KnownBytes.{Appends}
 use Rattle.dm_pbm_io.specs.Image.{p4, written}
 use Rattle.dm_print_ledger.specs.Ledger.{JobView}
 use Rattle.relay_streams.specs.Streams.{AppendsPart}
-use Rattle.relay_streams.proofs.Parts.{part_after, part_more, part_whole}
+use Rattle.relay_streams.proofs.Parts.{part_after, part_more}
 use Rattle.relay_printer_commands.specs.Print.{images_of}
-use Rattle.relay_printer_commands.specs.inner.Failing.LosesImages.{memory, write}
+use Rattle.relay_printer_commands.specs.Print.LosesImages.{memory, write}
 use Rattle.relay_printer_commands.proofs.print.put_images.Goals as goal
 
 -- the labels that were taken, the next one, and the others
@@ -36,28 +36,18 @@ loop-grid-preserved g c =
           (ap written c.in_ok-image_of.ensures.image) c.in_ok-write.ensures.written)),
     )
 
-pub returns-in_err-image_of-clause-part : goal.returns-in_err-image_of-clause-part
-returns-in_err-image_of-clause-part g c =
-    let is = taken _ _ _ c.next_label.new.self c.in-Some.grid c.loop-grid.invariant.1 c.in-Some.ensures in
-    subst (AppendsPart _ _) (sym (images_at _ _ _ _ is))
-    (part_more _ _ _ _ (part_whole _ _ _ c.loop-grid.invariant.2))
-
-pub returns-in_err-image_of-clause-lost : goal.returns-in_err-image_of-clause-lost
-returns-in_err-image_of-clause-lost g c =
+pub returns-in_err-image_of : goal.returns-in_err-image_of
+returns-in_err-image_of g c =
     let p = err_from_is_err_and c.from_residual.result c.from_residual.ensures.1 in
     let is = taken _ _ _ c.next_label.new.self c.in-Some.grid c.loop-grid.invariant.1 c.in-Some.ensures in
     rw (p.1, p.2) (memory _ c.in-Some.grid _ is c.loop-grid.invariant.2)
 
-pub returns-in_err-write-clause-part : goal.returns-in_err-write-clause-part
-returns-in_err-write-clause-part g c =
-    let is = taken _ _ _ c.next_label.new.self c.in-Some.grid c.loop-grid.invariant.1 c.in-Some.ensures in
-    subst (AppendsPart _ _) (sym (images_at _ _ _ _ is)) (part_after _ _ _ _ _ c.loop-grid.invariant.2
-    (part_more _ _ _ _
-    (subst (AppendsPart c.loop-grid.output.contents c.write.new.output.contents)
-    (ap written c.in_ok-image_of.ensures.image) c.in_err-write.ensures.part)))
-
-pub returns-in_err-write-clause-lost : goal.returns-in_err-write-clause-lost
-returns-in_err-write-clause-lost g c =
+pub returns-in_err-write : goal.returns-in_err-write
+returns-in_err-write g c =
     let last = c.from_residual-in_err-write in
     let p = err_from_is_err_and last.result last.ensures.1 in
-    rw (p.1, p.2) (write _ c.in_err-write.ensures.failed)
+    let is = taken _ _ _ c.next_label.new.self c.in-Some.grid c.loop-grid.invariant.1 c.in-Some.ensures in
+    let part = subst (AppendsPart c.loop-grid.output.contents c.write.new.output.contents)
+    (ap written c.in_ok-image_of.ensures.image) c.in_err-write.ensures.part in
+    rw (p.1, p.2) (write _ c.in_err-write.ensures.failed (subst (AppendsPart _ _) (sym (images_at _ _ _ _ is))
+    (part_after _ _ _ _ _ c.loop-grid.invariant.2 (part_more _ _ _ _ part))))

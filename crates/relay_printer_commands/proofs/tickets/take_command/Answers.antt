@@ -9,8 +9,7 @@ returns-in_default g c =
 pub returns-in-Err : goal.returns-in-Err
 returns-in-Err g c =
     let is = c.in-Err.ensures.opens in
-    rw (← c.streams.view_is) (not_opened is.fault c.in-Some.ensures.0 is.has_fault c.in-Err.ensures.same
-    (is.told, refl))
+    rw (← c.streams.view_is) (not_opened is.0 c.in-Some.ensures.0 is.1 c.in-Err.ensures.same (is.2, refl))
 
 pub returns : goal.returns
 returns g c =

@@ -1,4 +1,4 @@
-use Rattle.std.proofs.Common.{◌≡◌, ◌⊎◌, inl, inr, Bool, Ok, Err, ap, arith, refl, true}
+use Rattle.std.proofs.Common.{◌≡◌, ◌⊎◌, ◌||◌, inl, inr, Bool, Ok, Err, ap, arith, refl, true}
 use Rattle.std.specs.Prelude.{IsErrOf}
 use Rattle.std.proofs.lemmas.Result.{err_from_is_err_and}
 use Rattle.dm_pbm_io.specs.Image.{picture}
@@ -7,7 +7,7 @@ use Rattle.dm_pbm_io.specs.declared.fault.PbmFault.{PbmFault}
 use Rattle.dm_pbm_io.specs.declared.fault.PbmFault.TheVariants as image_faults
 use Rattle.relay_shared.specs.EachImage.{IsOfFailedRead, refusal_of}
 use Rattle.relay_shared.specs.EachImage.Comes.{image, unread}
-use Rattle.relay_shared.proofs.ImageLoop.{at_end, came, stops, takes}
+use Rattle.relay_shared.proofs.ImageLoop.{at_end, took}
 use Rattle.relay_shared.proofs.images.next_image.Goals as goal
 
 -- what was read without a fault
@@ -34,29 +34,51 @@ pub returns-in_ok-answered-in-Ok-Some-clause-step : goal.returns-in_ok-answered-
 returns-in_ok-answered-in-Ok-Some-clause-step g c =
     let read = rw c.in-Ok-Some.field-0-is at c.in-Ok-Some.ensures.read in
     let answer = c.in_ok-answered-in-Ok-Some.ensures.answer in
-    takes _ _ _ _ _ read.1 (inl (was_whole _ _ c.in-Ok-Some.ensures.kept)) (came _ (picture c.in-Ok-Some.image) _ (omega arith) read.2 answer.answers answer.told.1
-    answer.told.2 refl) answer.told.0
+    let p = picture c.in-Ok-Some.image in
+    took _ _ _ _ _ answer.said read.1 answer.told.1 (inl (was_whole _ _ c.in-Ok-Some.ensures.kept))
+    (image p (omega arith) read.2 answer.answers (ap (λ (b : Bool). p.plain || b) answer.told.2)) answer.told.0
 
 pub returns-in_ok-put_refusal-in-Err-clause-step : goal.returns-in_ok-put_refusal-in-Err-clause-step
 returns-in_ok-put_refusal-in-Err-clause-step g c =
     let read = c.in-Err.ensures.read in
-    takes _ _ _ _ _ read.1 (was_failed _ _ c.in-Err.fault c.in-Err.ensures.kept) (unread c.in-Err.fault (omega arith)
+    took _ _ _ _ _ _ read.1 refl (was_failed _ _ c.in-Err.fault c.in-Err.ensures.kept)
+    (unread c.in-Err.fault (omega arith)
     (record { refused = read.2; failed = λ e. c.in-Err.ensures.failed (ap (λ (f : PbmFault). Err f) e) })
-    (rw c.name-name.ensures at c.see_unread.ensures.seen)) (rw c.name-name.ensures at c.in_ok-put_refusal-in-Err.ensures.written)
+    (rw c.name-name.ensures at c.see_unread.ensures.seen))
+    (rw c.name-name.ensures at c.in_ok-put_refusal-in-Err.ensures.written)
 
 pub returns-in_err-answered-in-Ok-Some-clause-step : goal.returns-in_err-answered-in-Ok-Some-clause-step
 returns-in_err-answered-in-Ok-Some-clause-step g c =
     let p = err_from_is_err_and c.from_residual.result c.from_residual.ensures.1 in
     let read = rw c.in-Ok-Some.field-0-is at c.in-Ok-Some.ensures.read in
     let answer = c.in_err-answered-in-Ok-Some.ensures.answer in
-    rw p.1 (stops _ _ _ (record { refused = answer.said.refused; last = _ }) _ read.1
-    (image (picture c.in-Ok-Some.image) (omega arith) read.2 answer.answers refl) answer.told.0 answer.told.1)
+    rw p.1 record {
+      said = answer.said;
+      last = _;
+      takes = record {
+        bytes = read.0;
+        consumed = read.1;
+        comes = image (picture c.in-Ok-Some.image) (omega arith) read.2 answer.answers refl;
+      };
+      failed = answer.told.1;
+      part = answer.told.0;
+    }
 
 pub returns-in_err-put_refusal-in-Err-clause-step : goal.returns-in_err-put_refusal-in-Err-clause-step
 returns-in_err-put_refusal-in-Err-clause-step g c =
     let last = c.from_residual-in_err-put_refusal-in-Err in
     let p = err_from_is_err_and last.result last.ensures.1 in
     let read = c.in-Err.ensures.read in
-    rw p.1 (stops _ _ _ (record { refused = true; last = true }) _ read.1 (unread c.in-Err.fault (omega arith)
-    (record { refused = read.2; failed = λ e. c.in-Err.ensures.failed (ap (λ (f : PbmFault). Err f) e) })
-    (rw c.name-name.ensures at c.see_unread.ensures.seen)) (rw c.name-name.ensures at c.put_refusal.ensures.part) c.in_err-put_refusal-in-Err.ensures.failed)
+    rw p.1 record {
+      said = _;
+      last = true;
+      takes = record {
+        bytes = read.0;
+        consumed = read.1;
+        comes = unread c.in-Err.fault (omega arith)
+            (record { refused = read.2; failed = λ e. c.in-Err.ensures.failed (ap (λ (f : PbmFault). Err f) e) })
+            (rw c.name-name.ensures at c.see_unread.ensures.seen);
+      };
+      failed = c.in_err-put_refusal-in-Err.ensures.failed;
+      part = rw c.name-name.ensures at c.put_refusal.ensures.part;
+    }

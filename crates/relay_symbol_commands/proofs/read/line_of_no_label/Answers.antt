@@ -1,4 +1,7 @@
+use Rattle.std.proofs.Common.{◌≡◌, rules, string_bytes}
 use Rattle.std.proofs.lemmas.Result.{err_from_is_err_and}
+use Rattle.dm_check_blocks.specs.Sizes.{side}
+use Rattle.relay_symbol_commands.specs.Read.{symbol_line}
 use Rattle.relay_symbol_commands.specs.Read.HasLine.{symbol}
 use Rattle.relay_symbol_commands.specs.Read.RefusesGrid.{memory, text}
 use Rattle.relay_symbol_commands.proofs.read.line_of_no_label.Goals as goal
@@ -8,13 +11,21 @@ returns-in-Err g c = λ grid is none.
     text c.args.symbol.now.words c.in-Err.fault none
     (λ other. rw (c.data.ensures.data, is.same_size) at (c.in-Err.ensures.stuck other))
 
-pub returns-in_err-line_of_symbol : goal.returns-in_err-line_of_symbol
-returns-in_err-line_of_symbol g c =
+pub returns-in_err-write : goal.returns-in_err-write
+returns-in_err-write g c =
     let p = err_from_is_err_and c.from_residual.result c.from_residual.ensures.1 in
+    rw (p.1, p.2) (λ grid is none. memory)
+
+pub returns-in_err-push_line_end : goal.returns-in_err-push_line_end
+returns-in_err-push_line_end g c =
+    let last = c.from_residual-in_err-push_line_end in
+    let p = err_from_is_err_and last.result last.ensures.1 in
     rw (p.1, p.2) (λ grid is none. memory)
 
 pub returns : goal.returns
 returns g c = λ grid is none.
+    let symbol_is = c.args.symbol.now in
     let read = rw (c.data.ensures.data, is.same_size) at c.in-Ok.ensures.read in
-    rw (c.in_ok-line_of_symbol.ensures, c.deref.ensures.value, is.same_size, is.corrected, is.wrong)
-    (symbol c.args.symbol.now.words c.in-Ok.bytes.items none read)
+    let line : string_bytes c.push_line_end.new.line ≡
+    symbol_line (side symbol_is.size) symbol_is.corrected symbol_is.wrong c.in-Ok.bytes.items = search rules in
+    rw (line, is.same_size, is.corrected, is.wrong) (symbol symbol_is.words c.in-Ok.bytes.items none read)

@@ -1,2 +1,0 @@
--- Private: only contracts inside this crate cite what stands in this folder.
-pub mod Listing
