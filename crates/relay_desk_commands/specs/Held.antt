@@ -1,5 +1,5 @@
 -- What `held` prints: what the files of a desk hold, file by file, without a desk. It changes no file.
-use Rattle.std.specs.Prelude.{◌≡◌, ◌⊎◌, ◌||◌, ◌++◌, ◌+◌, ℕ, Bool, List, [], if◌then◌else◌}
+use Rattle.std.specs.Prelude.{◌≡◌, ◌≤◌, ◌⊎◌, ◌||◌, ◌++◌, ◌+◌, ℕ, Bool, true, List, [], if◌then◌else◌}
 use Rattle.std.specs.Prelude.{Option, Some, None, Result, Ok, Err, is_err, IsOk, IsTrue, IsSomeAnd}
 use Rattle.std.specs.FinMap as map
 use Rattle.dm_store.specs.Saved.{Saved, ListsKeys, LoadsOpen, SavedSet}
@@ -12,7 +12,7 @@ use Rattle.dm_assembly_desk.specs.declared.fault.DeskFault.{DeskFault}
 use Rattle.dm_assembly_desk.specs.declared.fault.MoveFault.{MoveFault}
 use Rattle.dm_assembly_desk.specs.declared.fault.MoveFault.TheVariants as moves
 use Rattle.dm_assembly_desk.specs.declared.reply.Held.{Held}
-use Rattle.relay_streams.specs.Streams.{refused_line, OutputView}
+use Rattle.relay_streams.specs.Streams.{refused_line, AppendsPart, OutputView}
 use Rattle.relay_shared.specs.Lines.{held_line, unsound_joint_line, unsound_line}
 use Rattle.relay_shared.specs.Command.{OnlyOutput, RefusesOnOutput, Tells}
 use Rattle.relay_desk_commands.specs.Desks.{EndsOnId, OnDesk}
@@ -82,16 +82,20 @@ pub data Says (set : SavedSet) (joint : SeenJoint) : Option ℕ → List ℕ →
   no_keys : (why : LoadFault) → ListsKeys (λ (keys : List ℕ). keys) set 65536 (Err why) set
       → Says set joint None (refused_line (move_fault_name (load_fault why))) 1
 
--- so it was told
-abbrev pub TellsHeld : SavedSet → SeenJoint → Option ℕ → OutputView → ℕ → OutputView → Type 0
-TellsHeld set joint id old status new =
-    (text : List ℕ) × (wanted : ℕ) × Says set joint id text wanted × Tells text wanted old status new
+-- so it was told; or the output has failed at one of all documents, and a part of some first lines is out
+pub data TellsHeld (set : SavedSet) (joint : SeenJoint) (old : OutputView) (status : ℕ) (new : OutputView)
+    : Option ℕ → Type 0 where
+  whole : {id : Option ℕ} (text : List ℕ) (wanted : ℕ) → Says set joint id text wanted → Tells text wanted old status new
+      → TellsHeld set joint old status new id
+  cut_off : {number : ℕ} {text : List ℕ} {unsound : Bool} → Lists set joint number text unsound → number ≤ 65536
+      → new.has_failed ≡ true → AppendsPart old.contents new.contents text → status ≡ 1
+      → TellsHeld set joint old status new None
 
 -- how `held` ends for an identification, or for all: it changes no file, and no other stream
 pub record EndsHeldOf (id : Option ℕ) (old : OnDesk) (status : ℕ) (new : OnDesk) : Type 0 where
   pub joint : SeenJoint
   pub sees : SeesJoint old.files.joint joint
-  pub told : TellsHeld old.files.set joint id old.streams.output status new.streams.output
+  pub told : TellsHeld old.files.set joint old.streams.output status new.streams.output id
   pub only : OnlyOutput old.streams new.streams
   pub same : new.files ≡ old.files
 

@@ -121,10 +121,10 @@ fn put_joint<W: Write>(output: &mut Output<W>, joint: &SeenJoint<'_>) -> Result<
     }
 }
 
-// Tells of each number, as they rise. Nothing more is written once the output has refused a line.
+// Tells of each number, as they rise, until the output has refused a line.
 fn tell_all<T: StoreSet, W: Write>(set: &mut T, output: &mut Output<W>, joint: &SeenJoint<'_>) -> u8
     ensures same { T.state set.new ≡ T.state set.old }
-    ensures tells { TellsHeld (T.state set.old) joint.now None output.old result output.new }
+    ensures tells { TellsHeld (T.state set.old) joint.now output.old result output.new None }
 {
     let keys = match set.keys(65_536) {
         Ok(keys) => keys,
@@ -134,6 +134,9 @@ fn tell_all<T: StoreSet, W: Write>(set: &mut T, output: &mut Output<W>, joint: &
     let mut unsound = joint.is_err();
     let mut first = first_from(joint, 0);
     for number in 0..65_536u32 {
+        if put.is_err() {
+            return 1;
+        }
         let key = number as u16;
         let seen = seen_at(set, is_listed(&keys, key), first, key);
         unsound |= seen.is_err();
@@ -151,7 +154,7 @@ fn tell<T: StoreSet, W: Write>(
     id: Option<FileId>,
 ) -> u8
     ensures same { T.state set.new ≡ T.state set.old }
-    ensures tells { TellsHeld (T.state set.old) joint.now id output.old result output.new }
+    ensures tells { TellsHeld (T.state set.old) joint.now output.old result output.new id }
 {
     let Some(id) = id else {
         return tell_all(set, output, joint);
@@ -180,8 +183,7 @@ fn tell<T: StoreSet, W: Write>(
 ///
 /// In the place of a file that can't be read stands `file NAME FAULT`, and the others are listed all the same; for the
 /// file of an older version that line is the first, and its name is `joint`. The exit status is then 1. No desk is
-/// opened, nothing is saved or moved, and one document is in memory at a time. Once the output has failed nothing more
-/// is written, but the files are read to the end all the same.
+/// opened, nothing is saved or moved, and one document is in memory at a time.
 pub fn held_command<S: Store, T: StoreSet, R: Read, W: Write, E: Write>(
     store: S,
     set: T,

@@ -1,12 +1,15 @@
 use mir.Val.{bool_byte}
-use Rattle.std.proofs.Common.{◌≡◌, ◌++◌, ◌∙◌, ℕ, Result, Ok, Err, ap, arith, refl}
+use Rattle.std.proofs.Common.{◌≡◌, ◌++◌, ◌∙◌, ℕ, List, Result, Ok, Err, true, ap, arith, refl, sym}
 use Rattle.std.specs.Prelude.{MatchResult, is_err}
 use Rattle.relay_desk_commands.specs.Held.{joint_line, seen_line}
 use Rattle.relay_desk_commands.specs.Held.Lists.{begun, further}
 use Rattle.relay_shared.proofs.Telling.{told, told_else}
+use Rattle.relay_shared.specs.Command.{Puts}
+use Rattle.relay_streams.specs.Streams.{AppendsPart, OutputView}
 use Rattle.relay_streams.specs.declared.fault.WriteFault.{WriteFault}
 use Rattle.relay_desk_commands.proofs.held.tell_all.Goals.{then-unsound, else-unsound}
 use Rattle.relay_desk_commands.specs.Held.Says.{all, no_keys}
+use Rattle.relay_desk_commands.specs.Held.TellsHeld.{cut_off, whole}
 use Rattle.relay_desk_commands.proofs.held.tell_all.Goals as goal
 
 pub loop-number-init : goal.loop-number-init
@@ -25,7 +28,7 @@ loop-number-preserved g c =
     let seen = c.seen_at-seen.result in
     let sees = rw i.same at (c.seen_at-seen.ensures.sees c.args.joint.now i.first) in record {
       text = i.text ++ seen_line c.loop-number.number seen;
-      lists = rw c.is_err.ensures.value (further seen i.lists sees);
+      lists = rw c.is_err-in-loop-number.ensures.value (further seen i.lists sees);
       puts = c.put_seen-put.ensures i.text c.args.output.now i.puts;
       same = c.seen_at-seen.ensures.same ∙ i.same;
       first = c.next_from-first.ensures.first;
@@ -37,7 +40,19 @@ returns-in-Err-clause-tells g c =
     let lists = c.in-Err.ensures.lists in
     let none = no_keys c.in-Err.fault
     record { same = refl; saved = λ _. tt; device = λ e. lists.device cc; memory = λ e. lists.memory cc } in
-    (_, _, none, rw (c.name.ensures, c.from.ensures) at c.refuse.ensures)
+    whole _ _ none (rw (c.name.ensures, c.from.ensures) at c.refuse.ensures)
+
+-- the output has refused a line
+cut_by : {text : List ℕ} {old new : OutputView} (put : Result (Unit {0}) WriteFault) → is_err put ≡ true
+    → Puts text old put new → (new.has_failed ≡ true) × AppendsPart old.contents new.contents text
+cut_by (Ok x) is puts = cc
+cut_by (Err e) is puts = (puts.failed, puts.part)
+
+pub returns-then-is_err-clause-tells : goal.returns-then-is_err-clause-tells
+returns-then-is_err-clause-tells g c =
+    let i = c.loop-number.invariant in
+    let cut = cut_by c.loop-number.put (sym c.is_err.ensures.value ∙ c.if-is_err.true) i.puts in
+    cut_off i.lists (omega arith) cut.0 cut.1 refl
 
 -- the status says whether the lines were written
 by_put : (put : Result (Unit {0}) WriteFault) (status : ℕ) → status ≡ bool_byte (is_err put)
@@ -52,8 +67,8 @@ returns-clause-tells g c =
     let lists = rw end at i.lists in elim c.if-unsound.branch [
       | then-unsound w ↦
           let status = rw (w.from-is, w.if-unsound.true) at c.from-2.ensures in
-          (_, 1, rw w.if-unsound.true at (all lists), rw status (told_else _ i.puts))
+          whole _ 1 (rw w.if-unsound.true at (all lists)) (rw status (told_else _ i.puts))
       | else-unsound w ↦
           let status = c.from-2.ensures ∙ ap bool_byte (w.from-is ∙ w.is_err-else-unsound.ensures.value) in
-          (_, 0, rw w.if-unsound.false at (all lists), told _ i.puts (by_put _ _ status))
+          whole _ 0 (rw w.if-unsound.false at (all lists)) (told _ i.puts (by_put _ _ status))
     ]
