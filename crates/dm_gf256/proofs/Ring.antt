@@ -165,24 +165,72 @@ one-product = agree (product 1) (λ b. b) (product-xor_r 1)
 unfoldable pub inverse : ℕ → ℕ
 inverse a = power a 254
 
--- each nonzero byte times its inverse is 1, by computing
-inverses : all_below 255 (λ k. eqb (product (suc k) (inverse (suc k))) 1) ≡ true
-unfolding all_below product reduced plain power inverse
+-- a power of the square of x is x to twice the power
+power_of_square : (x m : ℕ) → power (product x x) m ≡ power x (m + m)
+unfolding power
+power_of_square x zero = refl
+power_of_square x (suc m) =
+    let e : suc m + suc m ≡ suc (suc (m + m)) = omega arith in
+    product_assoc x x _ ∙ ap (λ t. product x (product x t)) (power_of_square x m) ∙ sym (ap (power x) e)
+
+-- the product of n factors, x and then each the square of the one before it
+squares : ℕ → ℕ → ℕ
+squares zero x = 1
+squares (suc n) x = product x (squares n (product x x))
+
+-- it is the power 2^n - 1 of x
+squares_are_power : (n x m : ℕ) → suc m ≡ 2 ^ n → squares n x ≡ power x m
+unfolding squares power
+squares_are_power zero x m e = let z : 0 ≡ m = omega arith in ap (power x) z
+squares_are_power (suc n) x m e =
+    let k = 2 ^ n - 1 in
+    let two : 2 ^ suc n ≡ 2 * 2 ^ n = pow-succ' 2 n in
+    let one : 1 ≤ 2 ^ n = pow_pos n in
+    let less : suc k ≡ 2 ^ n = omega arith in
+    let whole : suc (k + k) ≡ m = omega arith in
+    ap (product x) (squares_are_power n (product x x) k less ∙ power_of_square x k) ∙ ap (power x) whole
+
+-- each nonzero byte to the power 255 is 1, by computing
+inverses : all_below 255 (λ k. eqb (squares 8 (suc k)) 1) ≡ true
+unfolding all_below product reduced plain squares
 inverses = refl
 
 -- a nonzero byte times its inverse is 1
 pub product-inverse : (a : ℕ) → 0 < a → a < 256 → product a (inverse a) ≡ 1
-product-inverse (suc k) p q = eqb-true _ _ (all_below-at 255 _ inverses k (omega arith))
+unfolding inverse power
+product-inverse (suc k) p q =
+    sym (squares_are_power 8 (suc k) 255 refl) ∙ eqb-true _ _ (all_below-at 255 _ inverses k (omega arith))
 product-inverse zero p q = absurd (omega arith)
 
 -- ---- the powers of 2
-orders : all_below 254 (λ k. ltb 1 (power 2 (suc k))) ≡ true
-unfolding all_below product reduced plain power
+
+-- whether x and what follows it, each twice the one before it, are above 1: n of them
+all_above_one : ℕ → ℕ → Bool
+all_above_one zero x = true
+all_above_one (suc n) x = ltb 1 x && all_above_one n (product 2 x)
+
+-- the powers 1 to 254 of 2 are above 1, by computing
+orders : all_above_one 254 2 ≡ true
+unfolding all_above_one product reduced plain
 orders = refl
+
+-- each of them is a power of 2, the first the given one
+above_one-at : (n i : ℕ) → all_above_one n (power 2 i) ≡ true → (k : ℕ) → k < n → 1 < power 2 (i + k)
+unfolding all_above_one power
+above_one-at zero i t k h = absurd (omega arith)
+above_one-at (suc n) i t zero h =
+    let e : i ≡ i + 0 = omega arith in
+    subst (λ j. 1 < power 2 j) e (ltb-true _ _ ((and_parts _ _ t).0))
+above_one-at (suc n) i t (suc k) h =
+    let e : suc i + k ≡ i + suc k = omega arith in
+    subst (λ j. 1 < power 2 j) e (above_one-at n (suc i) ((and_parts _ _ t).1) k (omega arith))
 
 -- 2 to a power from 1 to 254 is above 1
 pub power_above_one : (d : ℕ) → 0 < d → d < 255 → 1 < power 2 d
-power_above_one (suc k) p q = ltb-true _ _ (all_below-at 254 _ orders k (omega arith))
+unfolding power product reduced plain
+power_above_one (suc k) p q =
+    let e : 1 + k ≡ suc k = omega arith in
+    subst (λ j. 1 < power 2 j) e (above_one-at 254 1 orders k (omega arith))
 power_above_one zero p q = absurd (omega arith)
 
 -- a power of a byte is a byte
