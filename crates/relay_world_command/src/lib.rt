@@ -1,8 +1,8 @@
 //! The command `world`, which plays printers and desks by a script, in memory.
 //!
 //! Proved: the line of each answer is written, in order, of the events that the script spells; no identification was
-//! printed twice; and the answers of each desk that no dishonest scan has tainted are faithful, as the
-//! headline says.
+//! printed twice; and whatever document a clean desk gives is the one printed under its identification, as the headline
+//! says.
 #![tactic(auto)]
 
 pub mod laws;
