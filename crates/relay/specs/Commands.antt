@@ -2,8 +2,8 @@
 -- store, the set and the streams: a line for each command. What a command does not need it leaves as it was.
 use Rattle.std.specs.Prelude.{◌≡◌, ℕ, ◌++◌, Bool, true, false, not, IsTrue, IsFalse, codes, string_bytes}
 use Rattle.std.specs.Option.{option_copied}
-use Rattle.relay_line.specs.declared.command.Command.{Command}
-use Rattle.relay_line.specs.declared.command.Command.TheVariants.{Words, Draw, Read, Plan, Ticket, Ledger, Print, Give, Take, Left, Scan, Deliver, Forget, Export, Import, Held, Copy, World}
+use Rattle.relay_command.specs.declared.command.Command.{Command}
+use Rattle.relay_command.specs.declared.command.Command.TheVariants.{Words, Draw, Read, Plan, Ticket, Ledger, Print, Give, Take, Left, Scan, Deliver, Forget, Export, Import, Held, Copy, World}
 use Rattle.relay_streams.specs.Streams.{TakesPart}
 use Rattle.relay_shared.specs.Command.{LeavesErrors, StreamsView}
 use Rattle.relay_shared.specs.declared.command.TheConstants.{DOCUMENT_BYTES}

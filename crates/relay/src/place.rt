@@ -5,7 +5,7 @@ ghost use Rattle.relay.specs.Commands.{IsPlaced};
 ghost use Rattle.relay.specs.declared.place.Access.TheVariants.{Makes};
 
 use dm_assembly_desk::MOST_CAPACITY;
-use relay_line::Command;
+use relay_command::Command;
 use std::alloc::AllocError;
 use std::io::ErrorKind;
 use std::rt::Files;

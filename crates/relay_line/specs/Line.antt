@@ -1,11 +1,10 @@
 -- What a command line gives.
 use Rattle.std.specs.Prelude.{◌≡◌, ℕ, ◌≤◌, ◌⊎◌, List, codes, Option, MatchOption}
-use Rattle.dm_encodation.specs.declared.scheme.Scheme.{Scheme}
-use Rattle.dm_encodation.specs.declared.scheme.Scheme.TheVariants.{Ascii, C40, Text, Base256}
-use Rattle.relay_line.specs.declared.command.Command.{Command}
-use Rattle.relay_line.specs.declared.command.Command.TheVariants.{Words, Draw, Read, Plan, Ticket, Ledger, Print, Give, Take, Left, Scan, Deliver, Forget, Export, Import, Held, Copy, World}
-use Rattle.relay_line.specs.declared.command.Labels.{Labels}
-use Rattle.relay_line.specs.declared.command.Labels.TheVariants.{OfSide, AtMost}
+use Rattle.dm_encodation.specs.declared.scheme.Scheme.TheVariants.{Ascii}
+use Rattle.relay_command.specs.declared.command.Command.{Command}
+use Rattle.relay_command.specs.declared.command.Command.TheVariants.{Words, Draw, Read, Plan, Ticket, Ledger, Print, Give, Take, Left, Scan, Deliver, Forget, Export, Import, Held, Copy, World}
+use Rattle.relay_command.specs.declared.command.Labels.{Labels}
+use Rattle.relay_command.specs.declared.command.Labels.TheVariants.{OfSide, AtMost}
 use Rattle.relay_line.specs.declared.fault.LineFault.{LineFault}
 use Rattle.relay_line.specs.declared.fault.LineFault.TheVariants.{Line, Memory}
 
@@ -56,10 +55,3 @@ IsNamed name command = MatchOption name (command ≡ Words 10 Ascii) (λ given. 
 abbrev pub HasStatus : LineFault → Type 0
 HasStatus (Line text status) = (status ≡ 0) ⊎ (status ≡ 2)
 HasStatus Memory = Unit {0}
-
--- the name of an encodation
-abbrev pub scheme_name : Scheme → List ℕ
-scheme_name Ascii = codes "ascii"
-scheme_name C40 = codes "c40"
-scheme_name Text = codes "text"
-scheme_name Base256 = codes "base256"

@@ -9,17 +9,6 @@ pub struct Page {
     pub more: &'static str,
 }
 
-pub const SIDE: &str = "modules along a side: 10 to 26 by twos, 32, 36, 40,\n\
-    44, 48, 52, 64, 72, 80, 88, 96, 104, 120 or\n132";
-
-pub const LABELS: &str = "take the smallest side for which there are at most\n\
-    K labels, 2 to 16";
-
-pub const SCHEME: &str = "how the bytes are encoded: ascii, c40, text or\nbase256";
-
-pub const HEX: &str =
-    "the 20 digits that `give` printed, or the form with\ncheck digits that `ticket` printed";
-
 /// That of the program itself.
 pub const PROGRAM: Page = Page {
     name: "relay",
@@ -34,8 +23,8 @@ Exit status: 0 where all was done; 1 where something was refused, which a line
 says what a refusal means.",
 };
 
-/// Those of the commands, in the order in which the program's help lists them.
-pub static COMMANDS: [Page; 20] = [
+// Those of the commands, in the order in which the program's help lists them: of symbols, printers, desks, and the rest.
+static OF_SYMBOLS: [Page; 3] = [
     Page {
         name: "words",
         about: "Prints the words of a document's symbol, in decimal",
@@ -80,6 +69,9 @@ Where files are named, each is read as if the command were given for it alone.
 Example:
   relay read < symbol.pbm",
     },
+];
+
+static OF_PRINTERS: [Page; 7] = [
     Page {
         name: "ledger",
         about: "Makes the ledger of a printer",
@@ -183,6 +175,9 @@ standard output.
 Example:
   relay left --file north.ledger",
     },
+];
+
+static OF_DESKS: [Page; 7] = [
     Page {
         name: "scan",
         about: "Gathers the pages of scanned labels at a desk",
@@ -282,6 +277,9 @@ to standard error.
 Example:
   relay copy --file desk --id 0101 --page 2 --side 52 > label.pbm",
     },
+];
+
+static OTHERS: [Page; 3] = [
     Page {
         name: "world",
         about: "Plays printers and desks by a script, in memory",
@@ -315,3 +313,7 @@ Example:
   relay version",
     },
 ];
+
+pub fn commands() -> [&'static [Page]; 4] {
+    [&OF_SYMBOLS, &OF_PRINTERS, &OF_DESKS, &OTHERS]
+}

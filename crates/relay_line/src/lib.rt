@@ -5,7 +5,6 @@
 //! from `clap`; tests show them.
 #![tactic(auto)]
 
-mod command;
 mod explain;
 mod explanations;
 mod fault;
@@ -13,7 +12,5 @@ mod help;
 mod options;
 mod parse;
 
-pub use command::{Command, Labels};
 pub use fault::LineFault;
-pub use options::scheme_of;
 pub use parse::{command_line, image_files};

@@ -1,175 +1,134 @@
-//! The commands and their options, as the parser knows them.
-
-ghost use Rattle.std.specs.Prelude.{◌≡◌, ◌≢◌, MatchOption};
-ghost use Rattle.dm_encodation.specs.declared.scheme.Scheme.{Scheme};
-ghost use Rattle.relay_line.specs.Line.{scheme_name};
+//! The arguments of the commands, and the whole program, as the parser knows them.
 
 use crate::help;
 use crate::help::Page;
 use clap::builder::ValueParser;
-use clap::{Arg, ArgAction, ArgGroup, Command, value_parser};
-use dm_encodation::Scheme;
+use clap::{Arg, ArgAction, ArgGroup, Command};
+use relay_command::SCHEMES;
 use std::alloc::{AllocError, Global};
 
-// The names of the encodations.
-static SCHEMES: [&str; 4] = ["ascii", "c40", "text", "base256"];
+// How an argument stands on a line: `--NAME VALUE`, where nothing says more.
+#[derive(Clone, Copy)]
+enum Kind {
+    Optional,
+    Required,
+    // This value stands where the argument is left out.
+    Default(&'static str),
+    // `--NAME`.
+    Flag,
+    // At most one word.
+    Word,
+    // Any number of words.
+    Words,
+}
 
-/// The encodation of a name, if it is one of `SCHEMES`.
-pub fn scheme_of(name: &str) -> Option<Scheme>
-    ensures { MatchOption result
-        ((scheme : Scheme) → name.now ≢ scheme_name scheme)
-        (λ scheme. name.now ≡ scheme_name scheme) }
-{
+// An argument: its name, what the helps call its value, its kind, what its value has to be, and its help.
+#[derive(Clone, Copy)]
+struct Row(
+    &'static str,
+    &'static str,
+    Kind,
+    ValueParser<'static>,
+    &'static str,
+);
+
+// The arguments of a command.
+fn rows_of(name: &str) -> &'static [Row] {
+    use Kind::{Default, Flag, Optional, Required, Word, Words};
+    use ValueParser::{Names, NonEmptyString, Signed, String as Text};
+    const U16: ValueParser<'static> = Signed(0, 65_535);
+    const NAMES: ValueParser<'static> = Names(&SCHEMES);
+    const SIDE_HELP: &str = "modules along a side: 10 to 26 by twos, 32, 36, 40,\n\
+        44, 48, 52, 64, 72, 80, 88, 96, 104, 120 or\n132";
+    const LABELS_HELP: &str = "take the smallest side for which there are at most\n\
+        K labels, 2 to 16";
+    const SCHEME_HELP: &str = "how the bytes are encoded: ascii, c40, text or\nbase256";
+    const PLAIN_HELP: &str = "draws in PBM's plain form, P1, in place of P4";
+    const DESK_HELP: &str = "the desk; its files stand in the folder PATH.pages";
+    const HEX_HELP: &str = "the 20 digits that `give` printed, or the form with\n\
+        check digits that `ticket` printed";
+    const CAPACITY_HELP: &str = "how many documents it may hold, 1 to 1024";
+    const ID_HELP: &str = "the identification: 4 hexadecimal digits";
+    const IMAGES_HELP: &str = "files of images, read in turn; `-` is the standard input";
+    const NAME_HELP: &str = "the name of a refusal; without one, prints all names";
+    const LEDGER_HELP: &str = "the file that holds the ledger";
+    const FIRST_HELP: &str = "the first identification, from 0";
+    const LAST_HELP: &str = "the last identification, up to 64515";
+    const PAGE_HELP: &str = "the page, from 1 to 16";
+    const SIDE: Row = Row("side", "SIDE", Optional, Signed(10, 132), SIDE_HELP);
+    const LEAST_SIDE: Row = Row("side", "SIDE", Default("10"), Signed(10, 132), SIDE_HELP);
+    const COPY_SIDE: Row = Row("side", "SIDE", Required, Signed(10, 132), SIDE_HELP);
+    const LABELS: Row = Row("labels", "K", Optional, Signed(2, 16), LABELS_HELP);
+    const SCHEME: Row = Row("scheme", "SCHEME", Default("ascii"), NAMES, SCHEME_HELP);
+    const PLAIN: Row = Row("plain", "", Flag, Text, PLAIN_HELP);
+    const LEDGER: Row = Row("file", "PATH", Required, NonEmptyString, LEDGER_HELP);
+    const DESK: Row = Row("file", "PATH", Required, NonEmptyString, DESK_HELP);
+    const TO: Row = Row("to", "N", Required, U16, "the number of the other printer");
+    const NUMBER: Row = Row("number", "N", Required, U16, "the printer's number");
+    const OWN_NUMBER: Row = Row("number", "N", Default("0"), U16, "the printer's number");
+    const FIRST: Row = Row("first", "N", Required, U16, FIRST_HELP);
+    const LAST: Row = Row("last", "N", Required, U16, LAST_HELP);
+    const TICKET: Row = Row("ticket", "HEX", Required, Text, HEX_HELP);
+    const CAPACITY: Row = Row("capacity", "N", Default("64"), U16, CAPACITY_HELP);
+    const ID: Row = Row("id", "IIII", Required, Text, ID_HELP);
+    const ANY_ID: Row = Row("id", "IIII", Optional, Text, ID_HELP);
+    const PAGE: Row = Row("page", "M", Required, Signed(1, 16), PAGE_HELP);
+    const IMAGES: Row = Row("images", "IMAGES", Words, Text, IMAGES_HELP);
+    const REFUSAL: Row = Row("name", "NAME", Word, Text, NAME_HELP);
+    const WORDS: &[Row] = &[LEAST_SIDE, SCHEME];
+    const DRAW: &[Row] = &[LEAST_SIDE, SCHEME, PLAIN];
+    const READ: &[Row] = &[IMAGES];
+    const MAKE: &[Row] = &[LEDGER, FIRST, LAST, OWN_NUMBER];
+    const PLAN: &[Row] = &[SCHEME];
+    const PRINT: &[Row] = &[LEDGER, SIDE, LABELS, SCHEME, OWN_NUMBER];
+    const GIVE: &[Row] = &[LEDGER, NUMBER, TO, FIRST, LAST];
+    const SHOW: &[Row] = &[TICKET];
+    const TAKE: &[Row] = &[LEDGER, NUMBER, TICKET];
+    const LEFT: &[Row] = &[LEDGER];
+    const SCAN: &[Row] = &[DESK, CAPACITY, IMAGES];
+    const DOCUMENT: &[Row] = &[DESK, ID];
+    const IMPORT: &[Row] = &[DESK, CAPACITY];
+    const HELD: &[Row] = &[DESK, ANY_ID];
+    const COPY: &[Row] = &[DESK, ID, PAGE, COPY_SIDE, SCHEME];
+    const EXPLAIN: &[Row] = &[REFUSAL];
     match name {
-        "ascii" => Some(Scheme::Ascii),
-        "c40" => Some(Scheme::C40),
-        "text" => Some(Scheme::Text),
-        "base256" => Some(Scheme::Base256),
-        _ => None,
+        "words" => WORDS,
+        "draw" => DRAW,
+        "read" => READ,
+        "ledger" => MAKE,
+        "plan" => PLAN,
+        "print" => PRINT,
+        "give" => GIVE,
+        "ticket" => SHOW,
+        "take" => TAKE,
+        "left" => LEFT,
+        "scan" => SCAN,
+        "deliver" | "forget" | "export" => DOCUMENT,
+        "import" => IMPORT,
+        "held" => HELD,
+        "copy" => COPY,
+        "explain" => EXPLAIN,
+        _ => &[],
     }
 }
 
-// An option with a value.
-fn option<'a>(alloc: Global, name: &'a str, value: &'a str, text: &'a str) -> Arg<'a> {
-    Arg::new(alloc, name)
-        .long(name)
+// An argument, as the parser takes it.
+fn argument<'a>(alloc: Global, row: &Row) -> Arg<'a> {
+    let Row(name, value, kind, values, text) = *row;
+    let argument = Arg::new(alloc, name).help(text);
+    if matches!(kind, Kind::Flag) {
+        return argument.long(name).action(ArgAction::SetTrue);
+    }
+    let argument = argument
         .value_name(value)
-        .help(text)
-}
-
-fn side<'a>(alloc: Global) -> Arg<'a> {
-    option(alloc, "side", "SIDE", help::SIDE).value_parser(ValueParser::Signed(10, 132))
-}
-
-// The most labels of a print.
-fn labels<'a>(alloc: Global) -> Arg<'a> {
-    option(alloc, "labels", "K", help::LABELS).value_parser(ValueParser::Signed(2, 16))
-}
-
-fn scheme<'a>(alloc: Global) -> Arg<'a> {
-    option(alloc, "scheme", "SCHEME", help::SCHEME)
-        .value_parser(SCHEMES.as_slice())
-        .hide_possible_values(true)
-        .default_value("ascii")
-}
-
-fn plain<'a>(alloc: Global) -> Arg<'a> {
-    Arg::new(alloc, "plain")
-        .long("plain")
-        .help("draws in PBM's plain form, P1, in place of P4")
-        .action(ArgAction::SetTrue)
-}
-
-fn path<'a>(alloc: Global, text: &'a str) -> Arg<'a> {
-    option(alloc, "file", "PATH", text)
-        .value_parser(ValueParser::NonEmptyString)
-        .required(true)
-}
-
-// The file of a ledger.
-fn file<'a>(alloc: Global) -> Arg<'a> {
-    path(alloc, "the file that holds the ledger")
-}
-
-// The files of a desk.
-fn desk<'a>(alloc: Global) -> Arg<'a> {
-    path(alloc, "the desk; its files stand in the folder PATH.pages")
-}
-
-// An option whose value is a number from 0 to 65,535.
-fn number_option<'a>(alloc: Global, name: &'a str, text: &'a str) -> Arg<'a> {
-    option(alloc, name, "N", text).value_parser(value_parser!(u16))
-}
-
-// The number of the other printer.
-fn to<'a>(alloc: Global) -> Arg<'a> {
-    number_option(alloc, "to", "the number of the other printer").required(true)
-}
-
-// The printer's own number.
-fn number<'a>(alloc: Global) -> Arg<'a> {
-    number_option(alloc, "number", "the printer's number")
-}
-
-fn first<'a>(alloc: Global) -> Arg<'a> {
-    number_option(alloc, "first", "the first identification, from 0").required(true)
-}
-
-fn last<'a>(alloc: Global) -> Arg<'a> {
-    number_option(alloc, "last", "the last identification, up to 64515").required(true)
-}
-
-fn ticket<'a>(alloc: Global) -> Arg<'a> {
-    option(alloc, "ticket", "HEX", help::HEX).required(true)
-}
-
-fn capacity<'a>(alloc: Global) -> Arg<'a> {
-    let text = "how many documents it may hold, 1 to 1024";
-    number_option(alloc, "capacity", text).default_value("64")
-}
-
-fn id<'a>(alloc: Global) -> Arg<'a> {
-    let text = "the identification: 4 hexadecimal digits";
-    option(alloc, "id", "IIII", text).required(true)
-}
-
-fn page<'a>(alloc: Global) -> Arg<'a> {
-    option(alloc, "page", "M", "the page, from 1 to 16")
-        .value_parser(ValueParser::Signed(1, 16))
-        .required(true)
-}
-
-// Files of images.
-fn images<'a>(alloc: Global) -> Arg<'a> {
-    Arg::new(alloc, "images")
-        .value_name("IMAGES")
-        .help("files of images, read in turn; `-` is the standard input")
-        .num_args(0..)
-}
-
-// The name of a refusal.
-fn refusal<'a>(alloc: Global) -> Arg<'a> {
-    Arg::new(alloc, "name")
-        .value_name("NAME")
-        .help("the name of a refusal; without one, prints all names")
-}
-
-// The options of a command.
-fn options_of<'a>(alloc: Global, name: &str) -> Result<Vec<Arg<'a>>, AllocError> {
-    let least_side = side(alloc).default_value("10");
-    let own = number(alloc).default_value("0");
-    let needed = number(alloc).required(true);
-    let options = match name {
-        "words" => vec![in alloc; least_side, scheme(alloc)]?,
-        "draw" => vec![in alloc; least_side, scheme(alloc), plain(alloc)]?,
-        "read" => vec![in alloc; images(alloc)]?,
-        "ledger" => vec![in alloc; file(alloc), first(alloc), last(alloc), own]?,
-        "plan" => vec![in alloc; scheme(alloc)]?,
-        "print" => vec![in alloc; file(alloc), side(alloc), labels(alloc), scheme(alloc), own]?,
-        "give" => vec![in alloc; file(alloc), needed, to(alloc), first(alloc), last(alloc)]?,
-        "ticket" => vec![in alloc; ticket(alloc)]?,
-        "take" => vec![in alloc; file(alloc), needed, ticket(alloc)]?,
-        "left" => vec![in alloc; file(alloc)]?,
-        "scan" => vec![in alloc; desk(alloc), capacity(alloc), images(alloc)]?,
-        "deliver" | "forget" | "export" => vec![in alloc; desk(alloc), id(alloc)]?,
-        "import" => vec![in alloc; desk(alloc), capacity(alloc)]?,
-        "held" => vec![in alloc; desk(alloc), id(alloc).required(false)]?,
-        "copy" => {
-            let side = side(alloc).required(true);
-            vec![in alloc; desk(alloc), id(alloc), page(alloc), side, scheme(alloc)]?
-        }
-        "explain" => vec![in alloc; refusal(alloc)]?,
-        _ => Vec::new(alloc),
-    };
-    Ok(options)
-}
-
-// A command of no options yet, with its help.
-fn command<'a>(alloc: Global, page: Page) -> Command<'a> {
-    Command::new(alloc, page.name)
-        .about(page.about)
-        .override_usage(page.usage)
-        .after_help(page.more)
+        .value_parser(values)
+        .hide_possible_values(true);
+    match kind {
+        Kind::Word => argument,
+        Kind::Words => argument.num_args(0..),
+        Kind::Default(default) => argument.long(name).default_value(default),
+        _ => argument.long(name).required(matches!(kind, Kind::Required)),
+    }
 }
 
 // `print` is by a side or by a number of labels.
@@ -178,20 +137,38 @@ fn form<'a>(alloc: Global) -> Result<ArgGroup<'a>, AllocError> {
     form.arg("side")?.arg("labels")
 }
 
+// A command of no arguments yet, with its help.
+fn command<'a>(alloc: Global, page: &Page) -> Command<'a> {
+    Command::new(alloc, page.name)
+        .about(page.about)
+        .override_usage(page.usage)
+        .after_help(page.more)
+}
+
+// A command with its arguments.
+fn subcommand<'a>(alloc: Global, page: &Page) -> Result<Command<'a>, AllocError> {
+    let mut command = command(alloc, page);
+    for row in rows_of(page.name) {
+        command = command.arg(argument(alloc, row))?;
+    }
+    if page.name == "print" {
+        command = command.group(form(alloc)?)?;
+    }
+    Ok(command)
+}
+
 /// The whole program.
 ///
 /// # Errors
 /// Where the allocator refuses its memory.
 pub fn relay<'a>(alloc: Global) -> Result<Command<'a>, AllocError> {
-    let mut program = command(alloc, help::PROGRAM)
+    let mut program = command(alloc, &help::PROGRAM)
         .bin_name("relay")?
         .disable_help_subcommand(true);
-    for page in &help::COMMANDS {
-        let mut command = command(alloc, *page).args(options_of(alloc, page.name)?)?;
-        if page.name == "print" {
-            command = command.group(form(alloc)?)?;
+    for pages in &help::commands() {
+        for page in *pages {
+            program = program.subcommand(subcommand(alloc, page)?)?;
         }
-        program = program.subcommand(command)?;
     }
     Ok(program)
 }

@@ -3,14 +3,14 @@
 ghost use Rattle.std.specs.Prelude.{◌≡◌, ◌≤◌, ◌⊎◌, option_map, slice_get, IfOk, IfErr, IfSome};
 ghost use Rattle.relay_line.specs.Line.{HasNumbersInRange, HasStatus, IsNamed, IsOfForm, IsSideNumber, command_name};
 
-use crate::command::{Command, Labels};
 use crate::explain::{explanation_in, names_in};
 use crate::explanations::EXPLANATIONS;
 use crate::fault::LineFault;
-use crate::options::{relay, scheme_of};
+use crate::options::relay;
 use clap::error::ErrorKind;
 use clap::{ArgMatches, Error};
 use dm_encodation::Scheme;
+use relay_command::{Command, Labels, scheme_of};
 use std::alloc::{AllocError, Global};
 use std::convert::AsStr;
 
@@ -46,10 +46,11 @@ fn fault_of(alloc: Global, error: &Error) -> LineFault
 fn explanation_of(alloc: Global, name: Option<&str>) -> LineFault
     ensures { HasStatus result }
 {
+    let table = &EXPLANATIONS;
     let Some(name) = name else {
-        return shown(names_in(alloc, &EXPLANATIONS), 0);
+        return shown(names_in(alloc, table), 0);
     };
-    match explanation_in(&EXPLANATIONS, name) {
+    match explanation_in(table, name) {
         Some(text) => shown(String::from_str(alloc, text), 0),
         None => shown(String::from_str(alloc, NO_REFUSAL), 2),
     }
@@ -90,24 +91,19 @@ fn command_of<'a>(name: &str, options: &ArgMatches<'a>) -> Option<Command<'a>>
     ensures ranges { IfSome result HasNumbersInRange }
     ensures named { IfSome result (λ command. name.now ≡ command_name command) }
 {
-    match name {
-        "words" => Some(Command::Words {
-            side: side_of(options)?,
-            scheme: encodation_of(options)?,
-        }),
-        "draw" => Some(Command::Draw {
-            side: side_of(options)?,
-            scheme: encodation_of(options)?,
+    match (name, side_of(options), encodation_of(options)) {
+        ("words", Some(side), Some(scheme)) => Some(Command::Words { side, scheme }),
+        ("draw", Some(side), Some(scheme)) => Some(Command::Draw {
+            side,
+            scheme,
             plain: options.get_flag("plain"),
         }),
-        "read" => Some(Command::Read),
-        "plan" => Some(Command::Plan {
-            scheme: encodation_of(options)?,
-        }),
-        "ticket" => Some(Command::Ticket {
+        ("read", ..) => Some(Command::Read),
+        ("plan", _, Some(scheme)) => Some(Command::Plan { scheme }),
+        ("ticket", ..) => Some(Command::Ticket {
             ticket: options.get_str("ticket")?,
         }),
-        "world" => Some(Command::World),
+        ("world", ..) => Some(Command::World),
         _ => printer_command_of(name, options.get_str("file")?, options),
     }
 }
@@ -121,32 +117,35 @@ fn printer_command_of<'a>(
     ensures ranges { IfSome result HasNumbersInRange }
     ensures named { IfSome result (λ command. name.now ≡ command_name command) }
 {
-    match (name, options.get_one::<u16>("number")) {
-        ("ledger", Some(number)) => Some(Command::Ledger {
+    let number = options.get_one::<u16>("number");
+    let first = options.get_one::<u16>("first");
+    let last = options.get_one::<u16>("last");
+    match (name, number, first, last) {
+        ("ledger", Some(number), Some(first), Some(last)) => Some(Command::Ledger {
             file,
             number,
-            first: options.get_one::<u16>("first")?,
-            last: options.get_one::<u16>("last")?,
+            first,
+            last,
         }),
-        ("print", Some(number)) => Some(Command::Print {
+        ("print", Some(number), ..) => Some(Command::Print {
             file,
             number,
             labels: labels_of(options)?,
             scheme: encodation_of(options)?,
         }),
-        ("give", Some(number)) => Some(Command::Give {
+        ("give", Some(number), Some(first), Some(last)) => Some(Command::Give {
             file,
             number,
             to: options.get_one::<u16>("to")?,
-            first: options.get_one::<u16>("first")?,
-            last: options.get_one::<u16>("last")?,
+            first,
+            last,
         }),
-        ("take", Some(number)) => Some(Command::Take {
+        ("take", Some(number), ..) => Some(Command::Take {
             file,
             number,
             ticket: options.get_str("ticket")?,
         }),
-        ("left", _) => Some(Command::Left { file }),
+        ("left", ..) => Some(Command::Left { file }),
         _ => desk_command_of(name, file, options),
     }
 }
@@ -155,20 +154,15 @@ fn desk_command_of<'a>(name: &str, file: &'a str, options: &ArgMatches<'a>) -> O
     ensures ranges { IfSome result HasNumbersInRange }
     ensures named { IfSome result (λ command. name.now ≡ command_name command) }
 {
-    match (name, options.get_str("id")) {
-        ("scan", _) => Some(Command::Scan {
-            file,
-            capacity: options.get_one::<u16>("capacity")?,
-        }),
-        ("import", _) => Some(Command::Import {
-            file,
-            capacity: options.get_one::<u16>("capacity")?,
-        }),
-        ("held", id) => Some(Command::Held { file, id }),
-        ("deliver", Some(id)) => Some(Command::Deliver { file, id }),
-        ("forget", Some(id)) => Some(Command::Forget { file, id }),
-        ("export", Some(id)) => Some(Command::Export { file, id }),
-        ("copy", Some(id)) => Some(Command::Copy {
+    let (id, capacity) = (options.get_str("id"), options.get_one::<u16>("capacity"));
+    match (name, id, capacity) {
+        ("scan", _, Some(capacity)) => Some(Command::Scan { file, capacity }),
+        ("import", _, Some(capacity)) => Some(Command::Import { file, capacity }),
+        ("held", id, _) => Some(Command::Held { file, id }),
+        ("deliver", Some(id), _) => Some(Command::Deliver { file, id }),
+        ("forget", Some(id), _) => Some(Command::Forget { file, id }),
+        ("export", Some(id), _) => Some(Command::Export { file, id }),
+        ("copy", Some(id), _) => Some(Command::Copy {
             file,
             id,
             page: number_in(options, "page", 1, 16)?,
@@ -177,6 +171,24 @@ fn desk_command_of<'a>(name: &str, file: &'a str, options: &ArgMatches<'a>) -> O
         }),
         _ => None,
     }
+}
+
+// What a line gives that has a word after the program's name. Each name that the parser takes has a command.
+fn answer<'a>(alloc: Global, name: &str, matches: &ArgMatches<'a>) -> Result<Command<'a>, LineFault>
+    ensures ranges { IfOk result HasNumbersInRange }
+    ensures named { IfOk result (λ command. name.now ≡ command_name command) }
+    ensures status { IfErr result HasStatus }
+{
+    let command = match (name, matches.subcommand()) {
+        ("version", Some(_)) => return Err(shown(String::from_str(alloc, VERSION), 0)),
+        ("explain", Some((_, options))) => {
+            return Err(explanation_of(alloc, options.get_str("name")));
+        }
+        (name, Some((_, options))) => command_of(name, options),
+        // A line that names no command, as `relay --`.
+        (_, None) => None,
+    };
+    command.ok_or_else(|| shown(String::from_str(alloc, UNKNOWN), 2))
 }
 
 /// Reads the program's words, the first of which is its name, as the system hands them over. Without a
@@ -193,17 +205,12 @@ pub fn command_line<'a, S: AsStr>(alloc: Global, words: &'a [S]) -> Result<Comma
         Ok(matches) => matches,
         Err(error) => return Err(fault_of(alloc, &error)),
     };
-    let Some(name) = words.get(1) else {
-        let (side, scheme) = (10, Scheme::Ascii);
-        return Ok(Command::Words { side, scheme });
-    };
-    // Of a line that names no command, as `relay --`. Each name that the parser takes has a command.
-    let unknown = || shown(String::from_str(alloc, UNKNOWN), 2);
-    match (name.as_str(), matches.subcommand()) {
-        ("version", Some(_)) => Err(shown(String::from_str(alloc, VERSION), 0)),
-        ("explain", Some((_, options))) => Err(explanation_of(alloc, options.get_str("name"))),
-        (name, Some((_, options))) => command_of(name, options).ok_or_else(unknown),
-        (_, None) => Err(unknown()),
+    match words.get(1) {
+        Some(name) => answer(alloc, name.as_str(), &matches),
+        None => Ok(Command::Words {
+            side: 10,
+            scheme: Scheme::Ascii,
+        }),
     }
 }
 

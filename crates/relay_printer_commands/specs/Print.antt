@@ -13,8 +13,8 @@ use Rattle.dm_print_ledger.specs.Ledger.{free_count, JobView, PrinterView}
 use Rattle.dm_print_ledger.specs.declared.fault.OpenFault.{OpenFault}
 use Rattle.dm_print_ledger.specs.declared.fault.PrintFault.{PrintFault}
 use Rattle.dm_print_ledger.specs.declared.fault.PrintFault.TheVariants.{TooLong}
-use Rattle.relay_line.specs.declared.command.Labels.{Labels}
-use Rattle.relay_line.specs.declared.command.Labels.TheVariants.{OfSide, AtMost}
+use Rattle.relay_command.specs.declared.command.Labels.{Labels}
+use Rattle.relay_command.specs.declared.command.Labels.TheVariants.{OfSide, AtMost}
 use Rattle.relay_streams.specs.Streams.{input_fault_name, AppendsPart, InputView, OutputView}
 use Rattle.relay_streams.specs.declared.fault.InputFault.{InputFault}
 use Rattle.relay_streams.specs.declared.fault.WriteFault.{WriteFault}

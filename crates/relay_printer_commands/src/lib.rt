@@ -21,5 +21,5 @@ pub use ledger::{give_command, ledger_command};
 pub use left::left_command;
 pub use plan::plan_command;
 pub use print::print_command;
-pub use relay_line::Labels;
+pub use relay_command::Labels;
 pub use tickets::{take_command, ticket_command};

@@ -14,7 +14,7 @@ use dm_encodation::Scheme;
 use dm_pbm_io::image_of;
 use dm_print_ledger::{Job, PrintFault, label_count};
 use dm_store::Store;
-use relay_line::Labels;
+use relay_command::Labels;
 use relay_shared::{DOCUMENT_BYTES, Ended, Refusal, Streams, put_printed, read_document, refuse};
 use relay_streams::Output;
 use std::alloc::Allocator;

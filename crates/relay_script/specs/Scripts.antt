@@ -4,7 +4,7 @@ use Rattle.std.specs.Io.BufRead.{strip_last}
 use Rattle.std.specs.List.{AllZip, position_or_len, starts_with}
 use Rattle.std.specs.Str.{IsUtf8}
 use Rattle.dm_print_ledger.specs.declared.range.Range.{Range}
-use Rattle.relay_line.specs.Line.{scheme_name}
+use Rattle.relay_command.specs.Schemes.{scheme_name}
 use Rattle.dm_event_history.specs.declared.event.Event.{Event}
 use Rattle.dm_event_history.specs.declared.event.Event.TheVariants.{Print, Scan, RestartPrinter, RestartDesk, Ask, Forget, Give, Take, Export, Import}
 use Rattle.relay_script.specs.Words.{IsNumberOf, IsSideOf, IsIdOf, AreBytesOf, IsStopOf, AreFlipsOf, cut_at}

@@ -8,7 +8,7 @@ use crate::spelled::{Spelled, cut};
 use crate::words::{ScriptFault, bytes, flips, id, number, size, stop};
 use dm_event_history::Event;
 use dm_print_ledger::Range;
-use relay_line::scheme_of;
+use relay_command::scheme_of;
 use std::alloc::Allocator;
 
 // The number that a word writes, of something that is numbered from 0.
@@ -27,19 +27,34 @@ impl<A: Allocator + Copy> Spelled<A> for Event<A> {
     fn read(alloc: A, line: &str) -> Result<Event<A>, ScriptFault> {
         let words = cut(alloc, line, ' ')?;
         match *words.as_slice() {
-            ["print", printer, side, scheme, document, end] => Ok(Event::Print {
-                printer: index(printer).ok_or(ScriptFault::Script)?,
-                document: bytes(alloc, document)?.ok_or(ScriptFault::Script)?,
-                size: size(side).ok_or(ScriptFault::Script)?,
-                scheme: scheme_of(scheme).ok_or(ScriptFault::Script)?,
-                stop: stop(end).ok_or(ScriptFault::Script)?,
-            }),
-            ["scan", desk, label, end, modules] => Ok(Event::Scan {
-                desk: index(desk).ok_or(ScriptFault::Script)?,
-                label: index(label).ok_or(ScriptFault::Script)?,
-                flips: flips(alloc, modules)?,
-                stop: stop(end).ok_or(ScriptFault::Script)?,
-            }),
+            ["print", printer, side, scheme, document, end] => {
+                let printer = index(printer).ok_or(ScriptFault::Script)?;
+                let document = bytes(alloc, document)?;
+                match (document, size(side), scheme_of(scheme), stop(end)) {
+                    (Some(document), Some(size), Some(scheme), Some(stop)) => Ok(Event::Print {
+                        printer,
+                        document,
+                        size,
+                        scheme,
+                        stop,
+                    }),
+                    _ => Err(ScriptFault::Script),
+                }
+            }
+            ["scan", desk, label, end, modules] => {
+                let (Some(desk), Some(label)) = (index(desk), index(label)) else {
+                    return Err(ScriptFault::Script);
+                };
+                match (flips(alloc, modules)?, stop(end)) {
+                    (flips, Some(stop)) => Ok(Event::Scan {
+                        desk,
+                        label,
+                        flips,
+                        stop,
+                    }),
+                    _ => Err(ScriptFault::Script),
+                }
+            }
             _ => plain_event(&words).ok_or(ScriptFault::Script),
         }
     }
@@ -57,38 +72,50 @@ fn plain_event<A: Allocator + Copy>(words: &[&str]) -> Option<Event<A>>
             printer: index(printer)?,
         }),
         ["restart", "desk", desk] => Some(Event::RestartDesk { desk: index(desk)? }),
-        ["ask", desk, document] => Some(Event::Ask {
-            desk: index(desk)?,
-            id: id(document)?,
-        }),
-        ["forget", desk, document, end] => Some(Event::Forget {
-            desk: index(desk)?,
-            id: id(document)?,
-            stop: stop(end)?,
-        }),
-        ["give", printer, receiver, first, last, end] => Some(Event::Give {
-            printer: index(printer)?,
-            receiver: number(receiver)?,
-            range: Range {
-                first: number(first)?,
-                last: number(last)?,
-            },
-            stop: stop(end)?,
-        }),
-        ["take", printer, ticket, end] => Some(Event::Take {
-            printer: index(printer)?,
-            ticket: index(ticket)?,
-            stop: stop(end)?,
-        }),
-        ["export", desk, document] => Some(Event::Export {
-            desk: index(desk)?,
-            id: id(document)?,
-        }),
-        ["import", desk, export, end] => Some(Event::Import {
-            desk: index(desk)?,
-            export: index(export)?,
-            stop: stop(end)?,
-        }),
+        ["ask", desk, document] => match (index(desk), id(document)) {
+            (Some(desk), Some(id)) => Some(Event::Ask { desk, id }),
+            _ => None,
+        },
+        ["forget", desk, document, end] => match (index(desk), id(document), stop(end)) {
+            (Some(desk), Some(id), Some(stop)) => Some(Event::Forget { desk, id, stop }),
+            _ => None,
+        },
+        ["give", printer, receiver, first, last, end] => {
+            let receiver = number(receiver);
+            match (
+                index(printer),
+                receiver,
+                number(first),
+                number(last),
+                stop(end),
+            ) {
+                (Some(printer), Some(receiver), Some(first), Some(last), Some(stop)) => Some(
+                    Event::Give {
+                        printer,
+                        receiver,
+                        range: Range { first, last },
+                        stop,
+                    },
+                ),
+                _ => None,
+            }
+        }
+        ["take", printer, ticket, end] => match (index(printer), index(ticket), stop(end)) {
+            (Some(printer), Some(ticket), Some(stop)) => Some(Event::Take {
+                printer,
+                ticket,
+                stop,
+            }),
+            _ => None,
+        },
+        ["export", desk, document] => match (index(desk), id(document)) {
+            (Some(desk), Some(id)) => Some(Event::Export { desk, id }),
+            _ => None,
+        },
+        ["import", desk, export, end] => match (index(desk), index(export), stop(end)) {
+            (Some(desk), Some(export), Some(stop)) => Some(Event::Import { desk, export, stop }),
+            _ => None,
+        },
         _ => None,
     }
 }

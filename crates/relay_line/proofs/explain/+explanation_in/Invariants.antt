@@ -1,5 +1,4 @@
-use Rattle.std.proofs.Common.{length, ◌≡◌, option_map, ℕ, ◌+◌, ◌-◌, ◌*◌, ◌<◌, ◌≤◌}
-use Rattle.relay_line.specs.Explaining.{explained}
+use Rattle.std.proofs.Common.{length}
 use Rattle.relay_line.proofs.explain.+explanation_in.Given as goal
 
 -- proposed from what the function passes where it calls itself
