@@ -31,11 +31,11 @@ mod program;
 
 pub use commands::do_command;
 pub use program::run;
+pub use relay_command::Command;
 pub use relay_desk_commands::{
     CopyOptions, IMPORT_BYTES, copy_command, deliver_command, export_command, forget_command,
     held_command, import_command, scan_command,
 };
-pub use relay_command::Command;
 pub use relay_line::{LineFault, command_line};
 pub use relay_printer_commands::{
     Labels, give_command, ledger_command, left_command, plan_command, print_command, take_command,

@@ -37,7 +37,7 @@ pub(crate) enum Reason {
 }
 
 /// What is at the paths of a command.
-#[derive(Clone, Copy, Debug, PartialEq, Eq)]
+#[derive(Clone, Copy)]
 pub(crate) struct Found {
     /// Whether anything is there.
     pub(crate) is_any: bool,

@@ -4,7 +4,7 @@
 use crate::locked::Reason;
 use crate::place::Place;
 use dm_assembly_desk::{JointFile, MOST_JOINT_FILE_BYTES, MoveFault, held_at};
-use dm_store::{FileSet, FileStore, LoadFault, RealDisk, Store};
+use dm_store::{FileSet, FileStore, Folders, LoadFault, Store};
 use std::alloc::{AllocError, Global};
 use std::io::Read;
 use std::rt::Files;
@@ -50,12 +50,12 @@ pub(crate) fn note_reason<R: AllocGlobal + Eprint>(rt: &R, place: &Place<'_>, re
 }
 
 // The fault of a file of a desk, if it has one: of the joint file, or of one in the folder, whose name is its key.
-fn fault_in<R: AllocGlobal + Files + Clone>(
-    rt: &R,
+fn fault_in<D: Folders>(
+    alloc: Global,
+    disk: D,
     place: &Place<'_>,
     path: &str,
 ) -> Result<Option<&'static str>, AllocError> {
-    let (alloc, disk) = (rt.alloc(), RealDisk::new(rt.alloc(), rt));
     if path != place.file.as_str() {
         let digits = path.rsplit('/').next().unwrap_or(path);
         let Ok(key) = u16::from_str_radix(digits, 16) else {
@@ -75,12 +75,13 @@ fn fault_in<R: AllocGlobal + Files + Clone>(
 
 /// Notes the fault of the file that a desk's command has loaded last, if it has one: the command has ended there. Where
 /// memory is refused nothing is said.
-pub(crate) fn note_faulty_file<R: AllocGlobal + Eprint + Files + Clone>(
+pub(crate) fn note_faulty_file<R: AllocGlobal + Eprint, D: Folders>(
     rt: &R,
+    disk: D,
     place: &Place<'_>,
     path: &str,
 ) {
-    if let Ok(Some(name)) = fault_in(rt, place, path) {
+    if let Ok(Some(name)) = fault_in(rt.alloc(), disk, place, path) {
         note(rt, path, name);
     }
 }

@@ -11,7 +11,7 @@ use std::io::ErrorKind;
 use std::rt::Files;
 
 /// What a command does to its files.
-#[derive(Clone, Copy, Debug, PartialEq, Eq)]
+#[derive(Clone, Copy, PartialEq, Eq)]
 pub(crate) enum Access {
     /// It makes a ledger where nothing is.
     Creates,

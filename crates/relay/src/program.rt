@@ -6,7 +6,7 @@ use crate::line_buffer::{ErrorWriter, LineBuffer};
 use crate::locked::{Gate, Locked};
 use crate::notes::{note, note_faulty_file, note_folder, note_reason};
 use crate::place::{Access, Named, Place, named_by, refuses_on_errors};
-use dm_store::{FileSet, FileStore, MemSet, MemStore, RealDisk};
+use dm_store::{FileSet, FileStore, Folders, MemSet, MemStore, RealDisk, Store, StoreSet};
 use relay_command::Command;
 use relay_line::{LineFault, command_line, image_files};
 use relay_shared::{Streams, refuse};
@@ -49,7 +49,7 @@ fn note_files<R: AllocGlobal + Eprint + Files<File = File> + Clone>(rt: &R, gate
         && place.named.access != Access::Looks
         && let Some(path) = gate.loaded.take()
     {
-        note_faulty_file(rt, place, path.as_str());
+        note_faulty_file(rt, RealDisk::new(rt.alloc(), rt), place, path.as_str());
     }
 }
 
@@ -68,17 +68,20 @@ fn disk_of<'a, R: AllocGlobal + Files>(rt: &'a R, named: Named) -> RealDisk<'a, 
 struct Work<'a, R, W> {
     rt: &'a R,
     command: Command<'a>,
+    // The file of the images that it is over, if one was named.
+    images: Option<&'a str>,
     output: LineBuffer<W>,
 }
 
 impl<'a, R: AllocGlobal + Input + Eprint + Files<File = File> + Clone, W: Write> Work<'a, R, W> {
     fn new(rt: &'a R, command: Command<'a>, writer: W) -> Work<'a, R, W> {
-        let by_line = answers_each_image(command) || command == Command::World;
+        let by_line = answers_each_image(command) || matches!(command, Command::World);
         let least = if by_line { 0 } else { MANY_BYTES };
         let output = LineBuffer::new(rt.alloc(), writer, least);
         Work {
             rt,
             command,
+            images: None,
             output,
         }
     }
@@ -107,25 +110,49 @@ impl<'a, R: AllocGlobal + Input + Eprint + Files<File = File> + Clone, W: Write>
         self.finish(status)
     }
 
-    // Does the command over its files, lets its output out, and only then lets other programs come.
-    fn do_on_files<I: Read + Drop>(
-        &mut self,
-        named: Named,
-        source: Option<&str>,
-        reader: I,
-    ) -> Result<u8, AllocError> {
+    // Does the command over a store and a set, and lets its output out.
+    fn do_over<S: Store, T: StoreSet, I: Read>(&mut self, store: S, set: T, reader: &mut I) -> u8 {
         let (rt, alloc) = (self.rt, self.rt.alloc());
-        let place = Place::of(rt, named)?;
-        let gate = Gate::new(rt, &place);
         let status = {
-            let (gate, within) = (&gate, disk_of(rt, named));
-            let store = FileStore::new(alloc, Locked { gate, within }, place.file.clone()?);
-            let within = RealDisk::new(alloc, rt);
-            let set = FileSet::new(alloc, Locked { gate, within }, place.folder.clone()?);
-            let mut streams = Streams::new(reader, &mut self.output, errors_of(rt, source));
+            let mut streams = Streams::new(reader, &mut self.output, errors_of(rt, self.images));
             do_command(alloc, store, set, &mut streams, self.command).status
         };
-        let status = self.finish(status);
+        self.finish(status)
+    }
+
+    // Does the command over its file on one disk, and the folder beside it on another.
+    fn do_on_disks<D: Folders, I: Read>(
+        &mut self,
+        place: &Place<'_>,
+        disks: (D, D),
+        reader: &mut I,
+    ) -> Result<u8, AllocError> {
+        let (alloc, (file, folder)) = (self.rt.alloc(), disks);
+        let store = FileStore::new(alloc, file, place.file.clone()?);
+        let set = FileSet::new(alloc, folder, place.folder.clone()?);
+        Ok(self.do_over(store, set, reader))
+    }
+
+    // Does the command over its files on these disks, behind their gate. Each of these functions adds one type around the
+    // disk's: where one adds two, its proof takes half a minute.
+    fn do_behind<D: Folders, I: Read>(
+        &mut self,
+        gate: &Gate<'_, R>,
+        disks: (D, D),
+        reader: &mut I,
+    ) -> Result<u8, AllocError> {
+        let (file, folder) = disks;
+        let behind = |within| Locked { gate, within };
+        self.do_on_disks(gate.place, (behind(file), behind(folder)), reader)
+    }
+
+    // Does the command over its files, lets its output out, and only then lets other programs come.
+    fn do_on_files<I: Read>(&mut self, named: Named, reader: &mut I) -> Result<u8, AllocError> {
+        let rt = self.rt;
+        let place = Place::of(rt, named)?;
+        let gate = Gate::new(rt, &place);
+        let disks = (disk_of(rt, named), RealDisk::new(rt.alloc(), rt));
+        let status = self.do_behind(&gate, disks, reader)?;
         if status != 0 || gate.reason.get().is_some() {
             note_files(rt, &gate);
         }
@@ -133,25 +160,15 @@ impl<'a, R: AllocGlobal + Input + Eprint + Files<File = File> + Clone, W: Write>
         Ok(status)
     }
 
-    // Does the command, which names no file.
-    fn do_on_streams<I: Read + Drop>(&mut self, reader: I) -> u8 {
+    // Does the command over an input, and its files.
+    fn do_on<I: Read + Drop>(&mut self, input: I) -> Result<u8, AllocError> {
         let alloc = self.rt.alloc();
-        let (store, set) = (MemStore::new(alloc), MemSet::new(alloc));
-        let status = {
-            let mut streams = Streams::new(reader, &mut self.output, errors_of(self.rt, None));
-            do_command(alloc, store, set, &mut streams, self.command).status
-        };
-        self.finish(status)
-    }
-
-    // Does the command over an input, which `source` names, and its files.
-    fn do_on<I: Read + Drop>(&mut self, source: Option<&str>, input: I) -> Result<u8, AllocError> {
-        let Ok(mut reader) = BufReader::new(self.rt.alloc(), input) else {
+        let Ok(mut reader) = BufReader::new(alloc, input) else {
             return Err(AllocError);
         };
         let status = match named_by(self.command) {
-            None => self.do_on_streams(&mut reader),
-            Some(named) => self.do_on_files(named, source, &mut reader)?,
+            None => self.do_over(MemStore::new(alloc), MemSet::new(alloc), &mut reader),
+            Some(named) => self.do_on_files(named, &mut reader)?,
         };
         let mut rest = reader.buffer().iter();
         if answers_each_image(self.command)
@@ -159,36 +176,37 @@ impl<'a, R: AllocGlobal + Input + Eprint + Files<File = File> + Clone, W: Write>
             && rest.any(|byte| !byte.is_ascii_whitespace())
         {
             let why = "what follows the plain image was not looked at";
-            note(self.rt, source.unwrap_or("-"), why);
+            note(self.rt, self.images.unwrap_or("-"), why);
         }
         Ok(status)
     }
 
     // Does the command over the images of one file, or over the program's input where that is named `-`.
-    fn do_on_images(&mut self, images: &str) -> Result<u8, AllocError> {
+    fn do_on_images(&mut self, images: &'a str) -> Result<u8, AllocError> {
+        self.images = Some(images);
         let status = if images == "-" {
-            self.do_on(Some(images), self.rt.reader())?
+            self.do_on(self.rt.reader())?
         } else {
             let Ok(file) = fs::open(self.rt, images) else {
                 note(self.rt, images, "can't be opened");
                 return Ok(self.refuse("Read"));
             };
-            self.do_on(Some(images), file)?
+            self.do_on(file)?
         };
-        if status != 0 && self.command == Command::Read {
+        if status != 0 && matches!(self.command, Command::Read) {
             note(self.rt, images, "has images that are refused");
         }
         Ok(status)
     }
 
     // Does the command over the program's input, or over each file of images in turn: then its status is 0 if each is.
-    fn do_on_each(&mut self, words: &[String]) -> Result<u8, AllocError> {
+    fn do_on_each(&mut self, words: &'a [String]) -> Result<u8, AllocError> {
         let mut files = Vec::new(self.rt.alloc());
         if answers_each_image(self.command) {
             files = image_files(self.rt.alloc(), words)?;
         }
         if files.is_empty() {
-            return self.do_on(None, self.rt.reader());
+            return self.do_on(self.rt.reader());
         }
         let mut status = 0;
         for images in &files {
