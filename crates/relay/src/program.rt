@@ -166,19 +166,10 @@ impl<'a, R: AllocGlobal + Input + Eprint + Files<File = File> + Clone, W: Write>
         let Ok(mut reader) = BufReader::new(alloc, input) else {
             return Err(AllocError);
         };
-        let status = match named_by(self.command) {
-            None => self.do_over(MemStore::new(alloc), MemSet::new(alloc), &mut reader),
-            Some(named) => self.do_on_files(named, &mut reader)?,
-        };
-        let mut rest = reader.buffer().iter();
-        if answers_each_image(self.command)
-            && status == 0
-            && rest.any(|byte| !byte.is_ascii_whitespace())
-        {
-            let why = "what follows the plain image was not looked at";
-            note(self.rt, self.images.unwrap_or("-"), why);
+        match named_by(self.command) {
+            None => Ok(self.do_over(MemStore::new(alloc), MemSet::new(alloc), &mut reader)),
+            Some(named) => self.do_on_files(named, &mut reader),
         }
-        Ok(status)
     }
 
     // Does the command over the images of one file, or over the program's input where that is named `-`.
@@ -193,13 +184,14 @@ impl<'a, R: AllocGlobal + Input + Eprint + Files<File = File> + Clone, W: Write>
             };
             self.do_on(file)?
         };
-        if status != 0 && matches!(self.command, Command::Read) {
+        if status != 0 && !self.output.has_failed && matches!(self.command, Command::Read) {
             note(self.rt, images, "has images that are refused");
         }
         Ok(status)
     }
 
-    // Does the command over the program's input, or over each file of images in turn: then its status is 0 if each is.
+    // Does the command over the program's input, or over each file of images in turn, until its output fails: then its
+    // status is 0 if each is.
     fn do_on_each(&mut self, words: &'a [String]) -> Result<u8, AllocError> {
         let mut files = Vec::new(self.rt.alloc());
         if answers_each_image(self.command) {
@@ -211,6 +203,9 @@ impl<'a, R: AllocGlobal + Input + Eprint + Files<File = File> + Clone, W: Write>
         let mut status = 0;
         for images in &files {
             status = status.max(self.do_on_images(images)?);
+            if self.output.has_failed {
+                break;
+            }
         }
         Ok(status)
     }

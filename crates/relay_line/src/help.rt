@@ -56,7 +56,8 @@ Example:
         usage: "relay read [IMAGES ..] < IMAGES",
         more: "\
 An image has one pixel per module, and around the symbol a quiet zone of one
-pixel. Packed images may follow one another. Each gives a line:
+pixel. Packed images may follow one another; what follows a plain one is not
+looked at. Each image gives a line:
   label IIII m/n corrected C wrong W HEX
                   label m of n, with the file identification IIII
   symbol SIDE corrected C wrong W HEX
@@ -196,7 +197,7 @@ refused, and never joined. An old file of pages at PATH is moved first.
 Where files are named, each is read as if the command were given for it alone.
 
 The capacity is not remembered: a desk that holds more documents is refused
-`TooMany`. Give it at each `scan` and `import`; other commands take any number.
+`TooMany`. Give it at each `scan` and `import`; other commands take up to 1024.
 
 Example:
   relay scan --file desk < labels.pbm",
