@@ -24,17 +24,21 @@ pub static EXPLANATIONS: [&str; 45] = [
     "Memory\n  From: all.\n  Memory was refused.\n  \
     What to do: free some, and give the command again. If `print` had written\n  its line, the ID stays used.\n",
     "Magic\n  What comes does not begin with `P1` or `P4`, as a line end after a packed\n  image.\n  \
-    What to do: give PBM images, one after another.\n",
+    What to do: give PBM images, one after another; `relay-find` makes them of\n  \
+    pictures, `pngtopnm` and `pamthreshold` of a PNG.\n",
     "Header\n  The PBM header is malformed, or longer than 4,096 bytes.\n  What to do: give PBM.\n",
     "TooLarge\n  The image is wider or higher than 1,024 pixels, or its plain raster has more\n  \
-    than 4,194,304 bytes.\n  What to do: give one pixel per module.\n",
+    than 4,194,304 bytes.\n  What to do: give one pixel per module, as `relay-find` does.\n",
     "Pixel\n  A plain raster has a byte that is no pixel.\n  What to do: give PBM.\n",
     "Cut\n  The input ends inside an image; or a symbol's text ends inside a character,\n  \
     a pair or a counted run of bytes.\n  What to do: give the whole image; leave such a symbol.\n",
     "Shape\n  The image is not square, or its width less two is no side.\n  \
-    What to do: crop and reduce to one pixel per module and a quiet zone of one.\n",
+    What to do: crop and reduce to one pixel per module and a quiet zone of one,\n  or have `relay-find` do so.\n",
     "Border\n  Over an eighth of the finder patterns' modules are wrong, as when turned,\n  \
-    inverted or without quiet zone.\n  What to do: mend that, or scan the label or a copy.\n",
+    inverted or without quiet zone.\n  \
+    What to do: give the picture to `relay-find`; or turn the image (`pamflip\n  \
+    -r90`, `-r180`, `-r270`), mirror it (`-lr`) or invert it (`pnminvert`); or\n  \
+    scan the label again, or a copy.\n",
     "Block\n  A block has more wrong codewords than can be corrected.\n  \
     What to do: scan the label again; else `copy` it at a desk that holds its\n  \
     page, or print the document again.\n",
