@@ -1,10 +1,10 @@
 //! Each command over the disk of a machine, and how it ends.
 
 use crate::left_files::{Files, PAGES, SET, STORE, files_on, keep};
-use crate::machine::{Machine, MachineDisk};
+use crate::machine::Machine;
 use dm_encodation::Scheme;
 use dm_print_ledger::Range;
-use dm_store::{FileSet, FileStore, Store};
+use dm_store::{FileSet, FileStore, Store, StoreSet};
 use relay_desk_commands::{
     CopyOptions, copy_command, deliver_command, export_command, forget_command, held_command,
     import_command, scan_command,
@@ -99,28 +99,12 @@ const SCRIPT: &[u8] =
     ask 0 0101\n";
 
 /// The calls that are made alone, over the file that each asks for.
+#[rattlefmt::skip]
 pub const CALLS: [Call; 21] = [
-    Call::Words,
-    Call::Draw(false),
-    Call::Draw(true),
-    Call::Read,
-    Call::Plan,
-    Call::Ticket,
-    Call::World,
-    Call::Ledger,
-    Call::Print,
-    Call::PrintAuto,
-    Call::Give,
-    Call::Take,
-    Call::Left,
-    Call::Scan(LABEL),
-    Call::Deliver,
-    Call::Forget(ID),
-    Call::Export(ID),
-    Call::Import(BOTH),
-    Call::Held(None),
-    Call::Held(Some(ID)),
-    Call::Copy,
+    Call::Words, Call::Draw(false), Call::Draw(true), Call::Read, Call::Plan, Call::Ticket,
+    Call::World, Call::Ledger, Call::Print, Call::PrintAuto, Call::Give, Call::Take, Call::Left,
+    Call::Scan(LABEL), Call::Deliver, Call::Forget(ID), Call::Export(ID), Call::Import(BOTH),
+    Call::Held(None), Call::Held(Some(ID)), Call::Copy,
 ];
 
 impl Call {
@@ -166,11 +150,11 @@ impl Call {
     }
 }
 
-// A call on a printer or a desk.
-fn filed<A: Allocator + Copy, R: Read, W: Write, E: Write>(
+// A call on a printer or a desk: over any store and set, since what is over those of a machine is proved in more time.
+fn filed<A: Allocator + Copy, S: Store, T: StoreSet, R: Read, W: Write, E: Write>(
     memory: A,
-    store: FileStore<MachineDisk<'_>>,
-    set: FileSet<MachineDisk<'_>>,
+    store: S,
+    set: T,
     streams: &mut Streams<R, W, E>,
     call: Call,
 ) -> u8 {

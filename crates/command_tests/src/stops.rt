@@ -27,22 +27,11 @@ struct Case {
 
 const PRINTS: &[&[u8]] = &[b"printed 0102 2 left 8\n", b"printed 0103 2 left 7\n"];
 
+#[rattlefmt::skip]
 const PRINTERS: &[Case] = &[
-    Case {
-        before: &[],
-        call: Call::Ledger,
-        looks: &[(Call::Ledger, &[b"left 10\n", b"refused Exists\n"])],
-    },
-    Case {
-        before: &[Call::Ledger, Call::Print],
-        call: Call::Print,
-        looks: &[(Call::Print, PRINTS)],
-    },
-    Case {
-        before: &[Call::Ledger, Call::Print],
-        call: Call::PrintAuto,
-        looks: &[(Call::Print, PRINTS)],
-    },
+    Case { before: &[], call: Call::Ledger, looks: &[(Call::Ledger, &[b"left 10\n", b"refused Exists\n"])] },
+    Case { before: &[Call::Ledger, Call::Print], call: Call::Print, looks: &[(Call::Print, PRINTS)] },
+    Case { before: &[Call::Ledger, Call::Print], call: Call::PrintAuto, looks: &[(Call::Print, PRINTS)] },
     Case {
         before: &[Call::Ledger, Call::Print],
         call: Call::Give,

@@ -7,6 +7,7 @@ use crate::calls::{
 use crate::machine::{MOST_CALLS, Machine};
 use dm_store::Kept;
 use relay_shared::Streams;
+use std::alloc::Global;
 use std::io::{Read, Write};
 use std::test::Fail;
 use test_helpers::{FailingReader, FailingWriter, InterruptedReader, InterruptedWriter, MemDisk};
@@ -23,10 +24,9 @@ fn is_whole<R: Read + Drop, W: Write + Drop>(
         && ended.files == whole.files
 }
 
-// A read that is interrupted is made again: nothing tells of it. Of a reader that fails, before the end of a label or a
-// document, the one line names the fault, and nothing is saved.
+// A read that is interrupted is made again: nothing tells of it.
 #[test]
-fn readers_are_interrupted_and_fail(rt: HostRuntime) -> Result<(), Fail> {
+fn readers_are_interrupted(rt: HostRuntime) -> Result<(), Fail> {
     let alloc = rt.alloc();
     for call in CALLS {
         let whole = alone_whole(alloc, call)?;
@@ -38,6 +38,16 @@ fn readers_are_interrupted_and_fail(rt: HostRuntime) -> Result<(), Fail> {
             let taken = ended.writer.as_slice();
             assert!(rt; is_whole(&ended, taken, &whole), "{call:?} {passes}");
         }
+    }
+    Ok(())
+}
+
+// Of a reader that fails, before the end of a label or a document, the one line names the fault, and nothing is saved.
+#[test]
+fn readers_fail(rt: HostRuntime) -> Result<(), Fail> {
+    let alloc = rt.alloc();
+    for call in CALLS {
+        let input = call.input();
         for passes in 0..input.len() {
             let streams = streams_of(alloc, FailingReader::new(input, passes));
             let ended = alone(alloc, alloc, streams, call)?;
@@ -69,7 +79,7 @@ fn has_prefix<R: Read + Drop>(
 
 // A write that is interrupted is made again, too.
 #[test]
-fn writers_are_interrupted_and_fail(rt: HostRuntime) -> Result<(), Fail> {
+fn writers_are_interrupted(rt: HostRuntime) -> Result<(), Fail> {
     let alloc = rt.alloc();
     for call in CALLS {
         let whole = alone_whole(alloc, call)?;
@@ -79,6 +89,17 @@ fn writers_are_interrupted_and_fail(rt: HostRuntime) -> Result<(), Fail> {
             let ended = alone(alloc, alloc, streams, call)?;
             let taken = ended.writer.taken();
             assert!(rt; is_whole(&ended, taken, &whole), "{call:?} {passes}");
+        }
+    }
+    Ok(())
+}
+
+#[test]
+fn writers_fail(rt: HostRuntime) -> Result<(), Fail> {
+    let alloc = rt.alloc();
+    for call in CALLS {
+        let whole = alone_whole(alloc, call)?;
+        for passes in 0..whole.writer.len() {
             let writer = FailingWriter::new(Vec::new(alloc), passes);
             let streams = Streams::new(call.input(), writer, Vec::new(alloc));
             let ended = alone(alloc, alloc, streams, call)?;
@@ -109,54 +130,76 @@ fn prints_no_label_without_its_line(rt: HostRuntime) -> Result<(), Fail> {
     Ok(())
 }
 
+// The line of a scan of the first label.
+const FIRST: &[u8] = b"0101 1/2 new\n";
+
+// A scan of both labels over an empty disk and these streams.
+fn scanned<R: Read + Drop, W: Write + Drop>(
+    alloc: Global,
+    streams: Streams<R, W, Vec<u8>>,
+) -> Result<CallEnd<R, W, Vec<u8>>, Fail> {
+    let machine = Machine::whole(alloc, MemDisk::new(alloc))?;
+    made_over(alloc, alloc, machine, streams, Call::Scan(LABELS))
+}
+
 // A scan whose input fails within the second image has saved the page of the first, and its last line names the fault.
-// After a line that could not be written, or a save that failed, it reads no byte more.
 #[test]
-fn a_scan_ends_at_the_first_fault(rt: HostRuntime) -> Result<(), Fail> {
+fn a_scan_ends_at_a_failed_read(rt: HostRuntime) -> Result<(), Fail> {
     let alloc = rt.alloc();
-    let call = Call::Scan(LABELS);
     let empty = Machine::whole(alloc, MemDisk::new(alloc))?;
     let first = made(alloc, empty, Call::Scan(LABEL))?;
-    assert!(rt; first.writer.as_slice() == b"0101 1/2 new\n".as_slice());
+    assert!(rt; first.writer.as_slice() == FIRST);
     for passes in LABEL.len()..LABELS.len() {
-        let machine = Machine::whole(alloc, MemDisk::new(alloc))?;
-        let streams = streams_of(alloc, FailingReader::new(LABELS, passes));
-        let ended = made_over(alloc, alloc, machine, streams, call)?;
+        let ended = scanned(alloc, streams_of(alloc, FailingReader::new(LABELS, passes)))?;
         assert!(rt; ended.status == 1 && ended.files == first.files, "{passes}");
-        let line = ended.writer.strip_prefix(first.writer.as_slice());
+        let line = ended.writer.strip_prefix(FIRST);
         assert!(rt; line == Some(b"refused Read\n".as_slice()), "{passes}");
     }
-    for passes in 0..first.writer.len() {
-        let machine = Machine::whole(alloc, MemDisk::new(alloc))?;
+    Ok(())
+}
+
+// After a line that could not be written it reads no byte more.
+#[test]
+fn a_scan_ends_at_a_failed_write(rt: HostRuntime) -> Result<(), Fail> {
+    let alloc = rt.alloc();
+    for passes in 0..FIRST.len() {
         let writer = FailingWriter::new(Vec::new(alloc), passes);
-        let streams = Streams::new(LABELS, writer, Vec::new(alloc));
-        let ended = made_over(alloc, alloc, machine, streams, call)?;
+        let ended = scanned(alloc, Streams::new(LABELS, writer, Vec::new(alloc)))?;
         let is_unread = ended.reader.len() == LABEL.len();
         assert!(rt; ended.status == 1 && is_unread, "{passes}");
     }
+    Ok(())
+}
+
+// Whether a scan that wrote these lines has read no byte more than it should.
+fn is_unread(lines: &[u8], rest: &[u8]) -> bool {
+    let read = match lines {
+        b"refused Device\n" => 0,
+        b"refused Save\n" => LABEL.len(),
+        b"0101 1/2 new\nrefused Save\n" | b"0101 1/2 new\n0101 2/2 complete\n" => LABELS.len(),
+        _ => usize::MAX,
+    };
+    Some(rest) == LABELS.get(read..)
+}
+
+// Nor after a save that failed.
+#[test]
+fn a_scan_ends_at_a_failed_save(rt: HostRuntime) -> Result<(), Fail> {
+    let alloc = rt.alloc();
     for kept in [Kept::Old, Kept::New] {
         for passes in 0..MOST_CALLS {
             let machine = Machine::new(alloc, MemDisk::new(alloc), passes, kept)?;
-            let ended = made(alloc, machine, call)?;
-            let read = match ended.writer.as_slice() {
-                b"refused Device\n" => 0,
-                b"refused Save\n" => LABEL.len(),
-                b"0101 1/2 new\nrefused Save\n" | b"0101 1/2 new\n0101 2/2 complete\n" => {
-                    LABELS.len()
-                }
-                _ => usize::MAX,
-            };
-            let is_unread = Some(ended.reader) == LABELS.get(read..);
+            let ended = made(alloc, machine, Call::Scan(LABELS))?;
+            let is_unread = is_unread(ended.writer.as_slice(), ended.reader);
             assert!(rt; is_unread, "{passes} {kept:?}");
         }
     }
     Ok(())
 }
 
-// A text that is no identification, and an import whose input fails, are refused before any file is looked at: of a
-// disk that does one call this is left.
+// A text that is no identification is refused before any file is looked at: of a disk that does one call this is left.
 #[test]
-fn some_refusals_come_before_any_file(rt: HostRuntime) -> Result<(), Fail> {
+fn no_identification_is_refused_before_any_file(rt: HostRuntime) -> Result<(), Fail> {
     let alloc = rt.alloc();
     for text in ["", "0001", "ff01", "01fg"] {
         for call in [Call::Forget(text), Call::Export(text)] {
@@ -166,6 +209,13 @@ fn some_refusals_come_before_any_file(rt: HostRuntime) -> Result<(), Fail> {
             assert!(rt; is_refused && !ended.has_stopped, "{text}");
         }
     }
+    Ok(())
+}
+
+// So is an import whose input fails.
+#[test]
+fn an_unread_import_is_refused_before_any_file(rt: HostRuntime) -> Result<(), Fail> {
+    let alloc = rt.alloc();
     for passes in 0..BOTH.len() {
         let machine = Machine::new(alloc, MemDisk::new(alloc), 1, Kept::Old)?;
         let call = Call::Import(BOTH);

@@ -20,6 +20,7 @@ type Text = &'static str;
 // them leave the file as it was.
 type Case = (Call, Text, Text, Text, Steps, usize);
 
+#[rattlefmt::skip]
 const CASES: &[Case] = &[
     (Call::Load(9), "one", "one", "one", Steps::Load, 9),
     (Call::LoadKey(9), "one", "one", "one", Steps::Load, 9),
@@ -28,40 +29,12 @@ const CASES: &[Case] = &[
     (Call::Load(2), "one", "one", "one", Steps::Any, 9),
     (Call::Load(1), "one", "one", "on", Steps::Any, 9),
     (Call::LoadKey(0), "one", "one", "o", Steps::Any, 9),
-    (
-        Call::Load(9),
-        "nothing",
-        "nothing",
-        "nothing",
-        Steps::LoadNothing,
-        9,
-    ),
+    (Call::Load(9), "nothing", "nothing", "nothing", Steps::LoadNothing, 9),
     (Call::Replace, "one", "three", "done", Steps::Replace, 5),
-    (
-        Call::ReplaceKey,
-        "one",
-        "three",
-        "done",
-        Steps::ReplaceKey,
-        8,
-    ),
-    (
-        Call::ReplaceKey,
-        "nothing",
-        "three",
-        "done",
-        Steps::ReplaceKey,
-        8,
-    ),
+    (Call::ReplaceKey, "one", "three", "done", Steps::ReplaceKey, 8),
+    (Call::ReplaceKey, "nothing", "three", "done", Steps::ReplaceKey, 8),
     (Call::RemoveKey, "one", "nothing", "done", Steps::Remove, 0),
-    (
-        Call::RemoveKey,
-        "nothing",
-        "nothing",
-        "done",
-        Steps::RemoveNothing,
-        0,
-    ),
+    (Call::RemoveKey, "nothing", "nothing", "done", Steps::RemoveNothing, 0),
 ];
 
 // Makes the folder anew, with the file in it, or takes it away where the file is to hold nothing.
@@ -200,19 +173,10 @@ fn a_new_file_takes_the_place_of_nothing(rt: HostRuntime) -> Result<(), Fail> {
 }
 
 // What a folder lists, how often, and what `keys` answers then.
+#[rattlefmt::skip]
 const LISTINGS: &[(Listed, u32, Call, &str)] = &[
-    (
-        Listed::FourKeys,
-        1,
-        Call::Keys(9, &[1, 2, 3, 65_535]),
-        "done",
-    ),
-    (
-        Listed::FourKeys,
-        1,
-        Call::Keys(3, &[1, 2, 3, 65_535]),
-        "done",
-    ),
+    (Listed::FourKeys, 1, Call::Keys(9, &[1, 2, 3, 65_535]), "done"),
+    (Listed::FourKeys, 1, Call::Keys(3, &[1, 2, 3, 65_535]), "done"),
     (Listed::FourKeys, 1, Call::Keys(1, &[1, 2]), "done"),
     (Listed::FourKeys, 1, Call::Keys(0, &[1]), "done"),
     (Listed::AmongOthers, 1, Call::Keys(9, &[0xab]), "done"),

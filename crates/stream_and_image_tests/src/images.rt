@@ -18,22 +18,14 @@ fn fault_of<R: Read + Drop>(alloc: Global, reader: R) -> (Option<PbmFault>, bool
     (Image::read(alloc, &mut input).err(), input.has_failed())
 }
 
+#[rattlefmt::skip]
 const REFUSALS: [(&[u8], Option<PbmFault>); 16] = [
-    (b"", None),
-    (b"P", Some(PbmFault::Magic)),
-    (b"P5", Some(PbmFault::Magic)),
-    (b"P4", Some(PbmFault::Cut)),
-    (b"P4 0 5\n", Some(PbmFault::Header)),
-    (b"P4 0 ", Some(PbmFault::Header)),
-    (b"P4 0", Some(PbmFault::Cut)),
-    (b"P4 0#x", Some(PbmFault::Cut)),
-    (b"P4 0#x\n", Some(PbmFault::Header)),
-    (b"P4 99999999999999999999 1\n", Some(PbmFault::TooLarge)),
-    (b"P4 1025 1\n", Some(PbmFault::TooLarge)),
-    (b"P4 99999999999999999999 0\n", Some(PbmFault::Header)),
-    (b"P4 9 2\n\x80\x00\x00", Some(PbmFault::Cut)),
-    (b"P1 2 1\n12", Some(PbmFault::Pixel)),
-    (b"P1# made by hand\n#\r2 1 #\n1 #0\n0 and more", None),
+    (b"", None), (b"P", Some(PbmFault::Magic)), (b"P5", Some(PbmFault::Magic)), (b"P4", Some(PbmFault::Cut)),
+    (b"P4 0 5\n", Some(PbmFault::Header)), (b"P4 0 ", Some(PbmFault::Header)), (b"P4 0", Some(PbmFault::Cut)),
+    (b"P4 0#x", Some(PbmFault::Cut)), (b"P4 0#x\n", Some(PbmFault::Header)),
+    (b"P4 99999999999999999999 1\n", Some(PbmFault::TooLarge)), (b"P4 1025 1\n", Some(PbmFault::TooLarge)),
+    (b"P4 99999999999999999999 0\n", Some(PbmFault::Header)), (b"P4 9 2\n\x80\x00\x00", Some(PbmFault::Cut)),
+    (b"P1 2 1\n12", Some(PbmFault::Pixel)), (b"P1# made by hand\n#\r2 1 #\n1 #0\n0 and more", None),
     (b"P1 2 1\n1 #0\n", Some(PbmFault::Cut)),
 ];
 

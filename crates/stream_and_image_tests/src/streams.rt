@@ -80,23 +80,14 @@ the input ends inside the image, the raster has a byte that is no pixel
 the input could not be read, out of memory
 the image has not the shape of a symbol, out of memory";
 
+#[rattlefmt::skip]
 #[test]
 fn faults_say_what_is_wrong(rt: HostRuntime) -> Result<(), Fail> {
     let texts = format!(in rt.alloc();
         "{}\n{}, {}\n{}\n{}, {}, {}\n{}, {}\n{}, {}\n{}, {}",
-        ReadFault::Read,
-        InputFault::Read,
-        InputFault::Memory,
-        WriteFault::Write,
-        PbmFault::Magic,
-        PbmFault::Header,
-        PbmFault::TooLarge,
-        PbmFault::Cut,
-        PbmFault::Pixel,
-        PbmFault::Read,
-        PbmFault::Memory,
-        ShapeFault::Shape,
-        ShapeFault::Memory,
+        ReadFault::Read, InputFault::Read, InputFault::Memory, WriteFault::Write, PbmFault::Magic,
+        PbmFault::Header, PbmFault::TooLarge, PbmFault::Cut, PbmFault::Pixel, PbmFault::Read,
+        PbmFault::Memory, ShapeFault::Shape, ShapeFault::Memory,
     )?;
     assert!(rt; texts.as_str() == TEXTS);
     Ok(())

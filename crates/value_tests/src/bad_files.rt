@@ -4,7 +4,7 @@
 use crate::desks::{SECOND, WHOLE, gives, id_of, opened};
 use dm_assembly_desk::{Desk, DeskFault, MoveFault, move_pages};
 use dm_store::{MemSet, MemStore, NextSave, StoreSet};
-use std::alloc::Global;
+use std::alloc::{AllocError, Global};
 use std::test::Fail;
 
 // Why no desk is opened on a set with these files, each under its key.
@@ -35,6 +35,7 @@ const TOO_MANY: Option<DeskFault> = Some(DeskFault::TooMany);
 const OTHER: &[u8] = b"DMPG\x02\x01\x02\x02\x00\x02\x00\x0234";
 
 // The files of a set, a capacity, and why no desk is opened; the first file that is none decides.
+#[rattlefmt::skip]
 const SETS: [(&[(u16, &[u8])], u16, Option<DeskFault>); 29] = [
     (&[], 0, CAPACITY),
     (&[], 1, None),
@@ -52,17 +53,9 @@ const SETS: [(&[(u16, &[u8])], u16, Option<DeskFault>); 29] = [
     (&[(0, WHOLE), (65_535, b"DMPG\x03")], 3, VERSION),
     (&[(0, b"DMP")], 4, NOT_PAGES),
     (&[(0, b"DMLG\x02")], 4, NOT_PAGES),
-    (
-        &[(0, b"dmpg\x02\x01\x01\x02\x00\x02\x00\x0234")],
-        4,
-        NOT_PAGES,
-    ),
+    (&[(0, b"dmpg\x02\x01\x01\x02\x00\x02\x00\x0234")], 4, NOT_PAGES),
     (&[(0, b"DMPG\x01\x00\x00")], 4, VERSION),
-    (
-        &[(0, b"DMPG\x03\x01\x01\x02\x00\x02\x00\x0234")],
-        4,
-        VERSION,
-    ),
+    (&[(0, b"DMPG\x03\x01\x01\x02\x00\x02\x00\x0234")], 4, VERSION),
     (&[(0, b"DMPG")], 4, DAMAGED),
     (&[(0, b"DMPG\x02")], 4, DAMAGED),
     // No page, a page 3 of 2, 17 pages, 1 page, an identification with a word 0 or 255.
@@ -72,17 +65,9 @@ const SETS: [(&[(u16, &[u8])], u16, Option<DeskFault>); 29] = [
     (&[(0, b"DMPG\x02\x01\x01\x01\x00\x01\x00\x00")], 4, DAMAGED),
     (&[(0, b"DMPG\x02\x00\xff\x02\x00\x01\x00\x00")], 4, DAMAGED),
     // One byte more, and one byte less.
-    (
-        &[(0, b"DMPG\x02\x01\x01\x02\x00\x02\x00\x02345")],
-        4,
-        DAMAGED,
-    ),
+    (&[(0, b"DMPG\x02\x01\x01\x02\x00\x02\x00\x02345")], 4, DAMAGED),
     (&[(0, b"DMPG\x02\x01\x01\x02\x00\x02\x00\x023")], 4, DAMAGED),
-    (
-        &[(0, b"DMPG\x02\x01\x01\x02\x00\x03\x00\x0212\x00\x02")],
-        4,
-        DAMAGED,
-    ),
+    (&[(0, b"DMPG\x02\x01\x01\x02\x00\x03\x00\x0212\x00\x02")], 4, DAMAGED),
 ];
 
 #[test]
@@ -96,6 +81,7 @@ fn sets_are_refused(rt: HostRuntime) {
 }
 
 // Joint files, and how many documents are moved, or the refusal; the last of them has the documents 0 and 2.
+#[rattlefmt::skip]
 const JOINT_FILES: [(&[u8], Result<u16, MoveFault>); 10] = [
     (b"", Err(MoveFault::NotPages)),
     (b"DMLG\x01\x00\x00", Err(MoveFault::NotPages)),
@@ -103,33 +89,31 @@ const JOINT_FILES: [(&[u8], Result<u16, MoveFault>); 10] = [
     (b"DMPG", Err(MoveFault::Damaged)),
     (b"DMPG\x01\x00", Err(MoveFault::Damaged)),
     (b"DMPG\x01\x00\x00\x00", Err(MoveFault::Damaged)),
-    (
-        b"DMPG\x01\x00\x02\x01\x01\x02\x00\x02\x00\x0234",
-        Err(MoveFault::Damaged),
-    ),
+    (b"DMPG\x01\x00\x02\x01\x01\x02\x00\x02\x00\x0234", Err(MoveFault::Damaged)),
     // One document twice, and falling identifications.
-    (
-        b"DMPG\x01\x00\x02\x01\x01\x02\x00\x02\x00\x0234\x01\x01\x02\x00\x02\x00\x0234",
-        Err(MoveFault::Damaged),
-    ),
-    (
-        b"DMPG\x01\x00\x02\x01\x02\x02\x00\x02\x00\x0234\x01\x01\x02\x00\x02\x00\x0234",
-        Err(MoveFault::Damaged),
-    ),
-    (
-        b"DMPG\x01\x00\x02\x01\x01\x02\x00\x02\x00\x0234\x01\x03\x02\x00\x03\x00\x025\x06\x00\x00",
-        Ok(2),
-    ),
+    (b"DMPG\x01\x00\x02\x01\x01\x02\x00\x02\x00\x0234\x01\x01\x02\x00\x02\x00\x0234", Err(MoveFault::Damaged)),
+    (b"DMPG\x01\x00\x02\x01\x02\x02\x00\x02\x00\x0234\x01\x01\x02\x00\x02\x00\x0234", Err(MoveFault::Damaged)),
+    (b"DMPG\x01\x00\x02\x01\x01\x02\x00\x02\x00\x0234\x01\x03\x02\x00\x03\x00\x025\x06\x00\x00", Ok(2)),
 ];
+
+// As `move_pages`, without its contract, so that what makes many such calls is proved in little time.
+fn moved(alloc: Global, old: &mut MemStore, set: &mut MemSet) -> Result<u16, MoveFault> {
+    move_pages(alloc, old, set)
+}
+
+// A store that holds these bytes.
+fn holding(alloc: Global, bytes: &[u8]) -> Result<MemStore, AllocError> {
+    Ok(MemStore::with(alloc, bytes.to_vec(alloc)?))
+}
 
 #[test]
 fn joint_files_are_moved(rt: HostRuntime) -> Result<(), Fail> {
     let mut set = MemSet::new(rt.alloc());
     for (bytes, answer) in JOINT_FILES {
         assert!(rt; set.keys(9)?.is_empty());
-        let mut old = MemStore::with(rt.alloc(), bytes.to_vec(rt.alloc())?);
+        let mut old = holding(rt.alloc(), bytes)?;
         assert!(rt;
-            move_pages(rt.alloc(), &mut old, &mut set) == answer,
+            moved(rt.alloc(), &mut old, &mut set) == answer,
             "{bytes:?}"
         );
     }
@@ -147,19 +131,19 @@ const NO_DOCUMENT: &[u8] = b"DMPG\x01\x00\x00";
 #[test]
 fn saves_of_a_move_fail(rt: HostRuntime) -> Result<(), Fail> {
     let mut set = MemSet::new(rt.alloc());
-    let mut old = MemStore::with(rt.alloc(), ONE.to_vec(rt.alloc())?);
+    let mut old = holding(rt.alloc(), ONE)?;
     set.set_next(NextSave::FaultOld);
-    assert!(rt; move_pages(rt.alloc(), &mut old, &mut set) == Err(MoveFault::Device));
+    assert!(rt; moved(rt.alloc(), &mut old, &mut set) == Err(MoveFault::Device));
     assert!(rt; set.content(0).is_none());
-    assert!(rt; move_pages(rt.alloc(), &mut old, &mut set) == Ok(1));
+    assert!(rt; moved(rt.alloc(), &mut old, &mut set) == Ok(1));
     assert!(rt; set.content(0) == Some(SECOND));
     assert!(rt; old.content() == Some(NO_DOCUMENT));
-    assert!(rt; move_pages(rt.alloc(), &mut old, &mut set) == Ok(0));
-    let mut again = MemStore::with(rt.alloc(), ONE.to_vec(rt.alloc())?);
+    assert!(rt; moved(rt.alloc(), &mut old, &mut set) == Ok(0));
+    let mut again = holding(rt.alloc(), ONE)?;
     again.set_next(NextSave::FaultOld);
-    assert!(rt; move_pages(rt.alloc(), &mut again, &mut set) == Err(MoveFault::Device));
+    assert!(rt; moved(rt.alloc(), &mut again, &mut set) == Err(MoveFault::Device));
     assert!(rt; again.content() == Some(ONE));
-    assert!(rt; move_pages(rt.alloc(), &mut again, &mut set) == Ok(0));
+    assert!(rt; moved(rt.alloc(), &mut again, &mut set) == Ok(0));
     assert!(rt; again.content() == Some(NO_DOCUMENT));
     Ok(())
 }

@@ -1,25 +1,8 @@
-//! The field, the sizes, the words of a symbol in their blocks, and blocks that are corrected.
+//! The sizes, the words of a symbol in their blocks, and blocks that are corrected.
 
 use dm_check_blocks::{Size, block_word, complete};
-use dm_corrector::{BlockFault, Elimination, Uncorrectable, correct_symbol, correct_with};
-use dm_gf256::Gf;
+use dm_corrector::{BlockFault, correct_symbol};
 use std::alloc::Global;
-
-// The generator polynomial for five check words, which the standard prints.
-const GENERATOR: [Gf; 6] = [Gf(1), Gf(62), Gf(111), Gf(15), Gf(48), Gf(228)];
-
-#[test]
-fn the_field_and_a_generator(rt: HostRuntime) {
-    assert!(rt; Gf(128).mul(Gf(2)) == Gf(45) && Gf(5).add(Gf(6)) == Gf(3));
-    assert!(rt; Gf(2).inv() == Gf(150) && Gf(150).mul_alpha(255) == Gf(150));
-    for k in 1..6u8 {
-        assert!(rt;
-            Gf::eval(&GENERATOR, Gf::alpha(k)) == Gf(0),
-            "2^{k} is a root"
-        );
-    }
-    assert!(rt; Gf::eval(&GENERATOR, Gf(1)) == Gf(1 ^ 62 ^ 111 ^ 15 ^ 48 ^ 228));
-}
 
 // The standard's table: the side, a region's side, the regions, data words, check words, blocks.
 #[rattlefmt::skip]
@@ -109,15 +92,9 @@ fn corrected(words: &mut [u8; 288]) -> Option<Result<u16, BlockFault>> {
     Some(correct_symbol(Size::Side52, words))
 }
 
-// In a block with five check words two wrong words are corrected, and three are not. In side 52 there are 21 wrong
-// words in each of two blocks, and then 22 in the second.
+// In side 52 there are 21 wrong words in each of two blocks, and then 22 in the second.
 #[test]
 fn blocks_are_corrected(rt: HostRuntime) {
-    let mut block = [0, 0, 1, 62, 111, 15, 0, 0];
-    assert!(rt; correct_with(&Elimination, &mut block, 5) == Ok(2));
-    assert!(rt; block == [0, 0, 1, 62, 111, 15, 48, 228]);
-    block = [0, 0, 1, 62, 111, 0, 0, 0];
-    assert!(rt; correct_with(&Elimination, &mut block, 5) == Err(Uncorrectable));
     let mut words = [0; 288];
     for k in 0..42u8 {
         words[k as usize * 5] = k + 1;

@@ -1,7 +1,7 @@
 //! Desks over sets in memory: labels that are scanned, pages that come and go, and what is held.
 
 use dm_append_label::{FileId, Page, seal};
-use dm_assembly_desk::{Accepted, Desk, ForgetFault, Held, ImportFault, Imported, Kind, ScanFault};
+use dm_assembly_desk::{Accepted, Desk, ForgetFault, ImportFault, Imported, Kind, ScanFault};
 use dm_check_blocks::Size;
 use dm_encodation::Scheme;
 use dm_finder_frame::Grid;
@@ -86,29 +86,34 @@ const SCANS: [(Scan, Result<Kind, ScanFault>); 14] = [
     ((5, 2, 3, b""), Ok(Kind::Again)),
 ];
 
-#[test]
-fn documents_are_scanned(rt: HostRuntime) -> Result<(), Fail> {
-    let mut desk = opened(&rt, rt.alloc(), MemSet::new(rt.alloc()), 2);
+// The first of `SCANS` that a desk answers otherwise.
+fn first_wrong(alloc: Global, desk: &mut MemDesk) -> Option<Scan> {
     for (scan, answer) in SCANS {
-        assert!(rt; answers(rt.alloc(), &mut desk, scan, answer), "{scan:?}");
+        if !answers(alloc, desk, scan, answer) {
+            return Some(scan);
+        }
     }
+    None
+}
+
+// Whether a desk lists the documents 3 and 5, complete.
+fn holds_both(desk: &MemDesk, third: FileId, fifth: FileId) -> bool {
+    let Ok(held) = desk.held() else {
+        return false;
+    };
+    let told = |at: usize| held.get(at).map(|one| (one.id, one.n, one.mask));
+    (told(0), told(1), told(2)) == (Some((third, 2, 3)), Some((fifth, 3, 7)), None)
+}
+
+#[test]
+fn documents_are_scanned(rt: HostRuntime) {
+    let mut desk = opened(&rt, rt.alloc(), MemSet::new(rt.alloc()), 2);
+    let wrong = first_wrong(rt.alloc(), &mut desk);
+    assert!(rt; wrong == None, "{wrong:?}");
     let desk = opened(&rt, rt.alloc(), desk.close(), 2);
     let (third, fifth) = (id_of(&rt, 3), id_of(&rt, 5));
     assert!(rt; gives(&desk, third, b"7890") && gives(&desk, fifth, b"1256"));
-    let both = [
-        Held {
-            id: third,
-            n: 2,
-            mask: 3,
-        },
-        Held {
-            id: fifth,
-            n: 3,
-            mask: 7,
-        },
-    ];
-    assert!(rt; desk.held()?.as_slice() == both.as_slice());
-    Ok(())
+    assert!(rt; holds_both(&desk, third, fifth));
 }
 
 // A save that fails, and the answer to its label once the desk is opened again.
@@ -117,46 +122,47 @@ const FAILED_SAVES: [(NextSave, Kind); 2] = [
     (NextSave::FaultOld, Kind::New),
 ];
 
+// Whether the second page of two is all that a desk holds of a document.
+fn holds_second(desk: &MemDesk, id: FileId) -> bool {
+    match desk.pages(id) {
+        Some(pages) => (pages.n(), pages.missing(), pages.get(1), pages.get(2))
+            == (2, 1, None, Some(b"34".as_slice())),
+        None => false,
+    }
+}
+
+// A scan whose save fails, and what follows.
+fn save_fails(rt: &impl Abort, alloc: Global, next: NextSave, kind: Kind) {
+    let (id, scan) = (id_of(rt, 0), (0, 2, 2, b"34".as_slice()));
+    let mut desk = opened(rt, alloc, MemSet::new(alloc), 4);
+    desk.set_next(next);
+    assert!(rt; answers(alloc, &mut desk, scan, Err(ScanFault::Save)));
+    assert!(rt; desk.pages(id).is_none());
+    assert!(rt; answers(alloc, &mut desk, scan, Err(ScanFault::Failed)));
+    let mut desk = opened(rt, alloc, desk.close(), 4);
+    assert!(rt; answers(alloc, &mut desk, scan, Ok(kind)));
+    assert!(rt; holds_second(&desk, id));
+}
+
 #[test]
 fn saves_fail(rt: HostRuntime) {
-    let (id, scan) = (id_of(&rt, 0), (0, 2, 2, b"34".as_slice()));
     for (next, kind) in FAILED_SAVES {
-        let mut desk = opened(&rt, rt.alloc(), MemSet::new(rt.alloc()), 4);
-        desk.set_next(next);
-        assert!(rt; answers(rt.alloc(), &mut desk, scan, Err(ScanFault::Save)));
-        assert!(rt; desk.pages(id).is_none());
-        assert!(rt; answers(rt.alloc(), &mut desk, scan, Err(ScanFault::Failed)));
-        let mut desk = opened(&rt, rt.alloc(), desk.close(), 4);
-        assert!(rt; answers(rt.alloc(), &mut desk, scan, Ok(kind)));
-        let pages = desk.pages(id).expect(&rt, "a page is held");
-        assert!(rt; (pages.n(), pages.missing()) == (2, 1));
-        assert!(rt; pages.get(1).is_none() && pages.get(2) == Some(b"34".as_slice()));
+        save_fails(&rt, rt.alloc(), next, kind);
     }
 }
 
 // The imports of files of the document 0, one after another, to a desk with room for one: how many pages are new, or
 // the refusal.
+#[rattlefmt::skip]
 const IMPORTS: [(&[u8], Result<(u16, Kind), ImportFault>); 8] = [
     (b"DMPG\x02", Err(ImportFault::Damaged)),
     (SECOND, Ok((2, Kind::New))),
     (SECOND, Ok((0, Kind::Again))),
-    (
-        b"DMPG\x02\x01\x01\x02\x00\x02\x00\x0235",
-        Err(ImportFault::Conflict),
-    ),
-    (
-        b"DMPG\x02\x01\x01\x03\x00\x02\x00\x0234",
-        Err(ImportFault::Conflict),
-    ),
+    (b"DMPG\x02\x01\x01\x02\x00\x02\x00\x0235", Err(ImportFault::Conflict)),
+    (b"DMPG\x02\x01\x01\x03\x00\x02\x00\x0234", Err(ImportFault::Conflict)),
     // The first page would be new, and the second disagrees.
-    (
-        b"DMPG\x02\x01\x01\x02\x00\x03\x00\x0212\x00\x0235",
-        Err(ImportFault::Conflict),
-    ),
-    (
-        b"DMPG\x02\x01\x02\x02\x00\x02\x00\x0234",
-        Err(ImportFault::Full),
-    ),
+    (b"DMPG\x02\x01\x01\x02\x00\x03\x00\x0212\x00\x0235", Err(ImportFault::Conflict)),
+    (b"DMPG\x02\x01\x02\x02\x00\x02\x00\x0234", Err(ImportFault::Full)),
     (WHOLE, Ok((1, Kind::Complete))),
 ];
 

@@ -19,79 +19,31 @@ fn written(
 }
 
 // An encodation, a text, the words before it, a size, and the data words of the symbol, or the first of them.
-const TEXTS: [(Scheme, &[u8], &[u8], Size, &[u8]); 13] = [
-    (
-        Scheme::Ascii,
-        b"123456",
-        &[],
-        Size::Side10,
-        &[142, 164, 186],
-    ),
+type Text = (Scheme, &'static [u8], &'static [u8], Size, &'static [u8]);
+
+#[rattlefmt::skip]
+const TEXTS: [Text; 13] = [
+    (Scheme::Ascii, b"123456", &[], Size::Side10, &[142, 164, 186]),
     (Scheme::Ascii, b"", &[], Size::Side10, &[129, 175, 70]),
     (Scheme::Ascii, b"A", &[], Size::Side10, &[66, 129, 70]),
-    (
-        Scheme::Ascii,
-        b"A12B3",
-        &[],
-        Size::Side12,
-        &[66, 142, 67, 52, 129],
-    ),
-    (
-        Scheme::C40,
-        b"AIMAIMAIM",
-        &[66],
-        Size::Side14,
-        &[66, 230, 91, 11, 91, 11, 91, 11],
-    ),
-    (
-        Scheme::C40,
-        b"AIMAIMAIM",
-        &[],
-        Size::Side14,
-        &[230, 91, 11, 91, 11, 91, 11, 129],
-    ),
-    (
-        Scheme::C40,
-        b"AIMAIMAIM",
-        &[66, 66, 66],
-        Size::Side16,
-        &[66, 66, 66, 230, 91, 11, 91, 11, 91, 11, 254, 129],
-    ),
-    (
-        Scheme::C40,
-        b"AIMA",
-        &[],
-        Size::Side14,
-        &[230, 91, 11, 254, 66, 129, 161, 56],
-    ),
+    (Scheme::Ascii, b"A12B3", &[], Size::Side12, &[66, 142, 67, 52, 129]),
+    (Scheme::C40, b"AIMAIMAIM", &[66], Size::Side14, &[66, 230, 91, 11, 91, 11, 91, 11]),
+    (Scheme::C40, b"AIMAIMAIM", &[], Size::Side14, &[230, 91, 11, 91, 11, 91, 11, 129]),
+    (Scheme::C40, b"AIMAIMAIM", &[66, 66, 66], Size::Side16, &[66, 66, 66, 230, 91, 11, 91, 11, 91, 11, 254, 129]),
+    (Scheme::C40, b"AIMA", &[], Size::Side14, &[230, 91, 11, 254, 66, 129, 161, 56]),
     (Scheme::C40, b"ABX", &[], Size::Side10, &[230, 89, 254]),
     (Scheme::Text, b"aim", &[], Size::Side10, &[239, 91, 11]),
-    (
-        Scheme::Base256,
-        &[1],
-        &[233, 15, 1, 1],
-        Size::Side14,
-        &[233, 15, 1, 1, 231, 131, 25, 129],
-    ),
-    (
-        Scheme::Base256,
-        b"",
-        &[233, 31, 1, 1],
-        Size::Side14,
-        &[233, 31, 1, 1, 129, 11, 161, 56],
-    ),
+    (Scheme::Base256, &[1], &[233, 15, 1, 1], Size::Side14, &[233, 15, 1, 1, 231, 131, 25, 129]),
+    (Scheme::Base256, b"", &[233, 31, 1, 1], Size::Side14, &[233, 31, 1, 1, 129, 11, 161, 56]),
     // From 250 bytes on the length has two words.
-    (
-        Scheme::Base256,
-        &[0; 250],
-        &[],
-        Size::Side64,
-        &[231, 38, 193],
-    ),
+    (Scheme::Base256, &[0; 250], &[], Size::Side64, &[231, 38, 193]),
 ];
 
 // Data words, and the text that they read as, or the fault at which they are stuck.
-const READINGS: [(&[u8], &[u8], Option<DecodeFault>); 11] = [
+type Reading = (&'static [u8], &'static [u8], Option<DecodeFault>);
+
+#[rattlefmt::skip]
+const READINGS: [Reading; 11] = [
     (&[230, 91, 11, 254], b"AIM", None),
     (&[230, 91, 11, 66], b"AIMA", None),
     (&[230], b"", None),
@@ -99,43 +51,35 @@ const READINGS: [(&[u8], &[u8], Option<DecodeFault>); 11] = [
     (&[239, 91, 11], b"aim", None),
     (&[231, 45], b"", Some(DecodeFault::Cut { at: 1 })),
     (&[66, 235], b"", Some(DecodeFault::Cut { at: 2 })),
-    (
-        &[66, 232],
-        b"",
-        Some(DecodeFault::Unsupported { at: 2, word: 232 }),
-    ),
-    (
-        &[142, 254],
-        b"",
-        Some(DecodeFault::Reserved { at: 2, word: 254 }),
-    ),
-    (
-        &[230, 0, 0],
-        b"",
-        Some(DecodeFault::Reserved { at: 2, word: 0 }),
-    ),
-    (
-        &[230, 250, 1],
-        b"",
-        Some(DecodeFault::Reserved { at: 2, word: 250 }),
-    ),
+    (&[66, 232], b"", Some(DecodeFault::Unsupported { at: 2, word: 232 })),
+    (&[142, 254], b"", Some(DecodeFault::Reserved { at: 2, word: 254 })),
+    (&[230, 0, 0], b"", Some(DecodeFault::Reserved { at: 2, word: 0 })),
+    (&[230, 250, 1], b"", Some(DecodeFault::Reserved { at: 2, word: 250 })),
 ];
+
+// Whether a row of `TEXTS` is written so.
+fn is_written(alloc: Global, (scheme, bytes, head, size, words): Text) -> bool {
+    match written(alloc, scheme, bytes, head, size) {
+        Ok(all) => all.starts_with(words),
+        Err(_) => false,
+    }
+}
+
+// Whether a row of `READINGS` is read so.
+fn is_read(alloc: Global, (words, text, fault): Reading) -> bool {
+    match decode(alloc, words, 0) {
+        Ok(bytes) => fault.is_none() && bytes.as_slice() == text,
+        Err(found) => fault == Some(found),
+    }
+}
 
 #[test]
 fn texts_are_written_and_read(rt: HostRuntime) {
-    for (scheme, bytes, head, size, words) in TEXTS {
-        let is_written = match written(rt.alloc(), scheme, bytes, head, size) {
-            Ok(all) => all.starts_with(words),
-            Err(_) => false,
-        };
-        assert!(rt; is_written, "{scheme:?} of {bytes:?}");
+    for row in TEXTS {
+        assert!(rt; is_written(rt.alloc(), row), "{row:?}");
     }
-    for (words, text, fault) in READINGS {
-        let is_read = match decode(rt.alloc(), words, 0) {
-            Ok(bytes) => fault.is_none() && bytes.as_slice() == text,
-            Err(found) => fault == Some(found),
-        };
-        assert!(rt; is_read, "{words:?}");
+    for row in READINGS {
+        assert!(rt; is_read(rt.alloc(), row), "{row:?}");
     }
 }
 

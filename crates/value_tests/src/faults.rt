@@ -19,25 +19,16 @@ the modules do not fill a symbol of that side, out of memory
 27 modules of the finder patterns are wrong
 block 7 has more wrong words than can be corrected, out of memory";
 
+#[rattlefmt::skip]
 #[test]
 fn faults_of_symbols_say_what_is_wrong(rt: HostRuntime) -> Result<(), Fail> {
     let texts = format!(in rt.alloc();
         "{}, {}\n{}, {}\n{}\n{}\n{}, {}\n{}, {}\n{}, {}\n{}\n{}, {}",
-        Uncorrectable,
-        BlockFault { block: 3 },
-        EncodeFault::TooLong,
-        EncodeFault::Memory,
-        DecodeFault::Unsupported { at: 2, word: 232 },
-        DecodeFault::Reserved { at: 7, word: 254 },
-        DecodeFault::Cut { at: 1 },
-        DecodeFault::Memory,
-        FrameFault::Border { wrong: 27 },
-        FrameFault::Memory,
-        GridFault::Side,
-        GridFault::Memory,
-        SymbolFault::Border { wrong: 27 },
-        SymbolFault::Block { block: 7 },
-        SymbolFault::Memory,
+        Uncorrectable, BlockFault { block: 3 }, EncodeFault::TooLong, EncodeFault::Memory,
+        DecodeFault::Unsupported { at: 2, word: 232 }, DecodeFault::Reserved { at: 7, word: 254 },
+        DecodeFault::Cut { at: 1 }, DecodeFault::Memory, FrameFault::Border { wrong: 27 },
+        FrameFault::Memory, GridFault::Side, GridFault::Memory, SymbolFault::Border { wrong: 27 },
+        SymbolFault::Block { block: 7 }, SymbolFault::Memory,
     )?;
     assert!(rt; texts.as_str() == OF_SYMBOLS);
     Ok(())
@@ -53,6 +44,7 @@ the symbol is not a label, what begins at position 3 is cut off, out of memory
 the page does not fit a label of this size, out of memory
 the document does not fit sixteen labels of this size";
 
+#[rattlefmt::skip]
 #[test]
 fn faults_of_labels_say_what_is_wrong(rt: HostRuntime) -> Result<(), Fail> {
     let Err(too_long) = cut(b"", Size::Side10, Scheme::Ascii) else {
@@ -60,22 +52,12 @@ fn faults_of_labels_say_what_is_wrong(rt: HostRuntime) -> Result<(), Fail> {
     };
     let texts = format!(in rt.alloc();
         "{}\n{}\n{}, {}, {}\n{}, {}\n{}, {}, {}\n{}, {}, {}\n{}, {}\n{}",
-        LabelFault::Border { wrong: 6 },
-        LabelFault::Block { block: 7 },
-        LabelFault::NotAppended,
-        LabelFault::Sequence { word: 32 },
-        LabelFault::FileId,
-        LabelFault::Content(DecodeFault::Cut { at: 3 }),
-        LabelFault::Memory,
-        HeadFault::NotAppended,
-        HeadFault::Sequence { word: 32 },
-        HeadFault::FileId,
-        PageFault::Head(HeadFault::NotAppended),
-        PageFault::Content(DecodeFault::Cut { at: 3 }),
-        PageFault::Memory,
-        SealFault::TooLong,
-        SealFault::Memory,
-        too_long,
+        LabelFault::Border { wrong: 6 }, LabelFault::Block { block: 7 }, LabelFault::NotAppended,
+        LabelFault::Sequence { word: 32 }, LabelFault::FileId,
+        LabelFault::Content(DecodeFault::Cut { at: 3 }), LabelFault::Memory, HeadFault::NotAppended,
+        HeadFault::Sequence { word: 32 }, HeadFault::FileId,
+        PageFault::Head(HeadFault::NotAppended), PageFault::Content(DecodeFault::Cut { at: 3 }),
+        PageFault::Memory, SealFault::TooLong, SealFault::Memory, too_long,
     )?;
     assert!(rt; texts.as_str() == OF_LABELS);
     Ok(())

@@ -7,49 +7,11 @@ use dm_placement::{Layout, Matrix, lift, lift_with, place, place_with};
 use std::test::Fail;
 
 // A word in a corner's shape, and the cells of its bits.
+#[rattlefmt::skip]
 const SHAPES: [(Size, usize, [(u16, u16); 8]); 3] = [
-    (
-        Size::Side14,
-        7,
-        [
-            (11, 0),
-            (11, 1),
-            (11, 2),
-            (0, 10),
-            (0, 11),
-            (1, 11),
-            (2, 11),
-            (3, 11),
-        ],
-    ),
-    (
-        Size::Side16,
-        7,
-        [
-            (11, 0),
-            (12, 0),
-            (13, 0),
-            (0, 10),
-            (0, 11),
-            (0, 12),
-            (0, 13),
-            (1, 13),
-        ],
-    ),
-    (
-        Size::Side24,
-        22,
-        [
-            (19, 0),
-            (20, 0),
-            (21, 0),
-            (0, 18),
-            (0, 19),
-            (0, 20),
-            (0, 21),
-            (1, 21),
-        ],
-    ),
+    (Size::Side14, 7, [(11, 0), (11, 1), (11, 2), (0, 10), (0, 11), (1, 11), (2, 11), (3, 11)]),
+    (Size::Side16, 7, [(11, 0), (12, 0), (13, 0), (0, 10), (0, 11), (0, 12), (0, 13), (1, 13)]),
+    (Size::Side24, 22, [(19, 0), (20, 0), (21, 0), (0, 18), (0, 19), (0, 20), (0, 21), (1, 21)]),
 ];
 
 #[test]
@@ -83,11 +45,10 @@ fn cells_are_free_or_on_no_finder_pattern(rt: HostRuntime) -> Result<(), Fail> {
     Ok(())
 }
 
-// The words of the standard's example are placed as it draws them, with a layout made before and without, and the
-// modules that it draws give them back.
+// The words of the standard's example are placed as it draws them, with a layout made before and without.
 #[test]
 #[tactic(auto, unfolding(dm_check_blocks::specs::Sizes::row))]
-fn the_drawn_modules_hold_the_words(rt: HostRuntime) -> Result<(), Fail> {
+fn the_words_give_the_drawn_modules(rt: HostRuntime) -> Result<(), Fail> {
     let alloc = rt.alloc();
     let layout = Layout::of_size(alloc, Size::Side10)?;
     assert!(rt; layout.size() == Size::Side10);
@@ -95,10 +56,19 @@ fn the_drawn_modules_hold_the_words(rt: HostRuntime) -> Result<(), Fail> {
     assert!(rt; is_worked_example(&frame(alloc, Size::Side10, &placed)?));
     let placed = place_with(alloc, &layout, &WORDS)?;
     assert!(rt; is_worked_example(&frame(alloc, Size::Side10, &placed)?));
+    Ok(())
+}
+
+// The modules that it draws give them back.
+#[test]
+#[tactic(auto, unfolding(dm_check_blocks::specs::Sizes::row))]
+fn the_drawn_modules_hold_the_words(rt: HostRuntime) -> Result<(), Fail> {
+    let alloc = rt.alloc();
     let drawn = Grid::of_modules(alloc, 10, &worked_modules())?;
     assert!(rt; is_worked_example(&drawn));
     let framed = unframe(alloc, &drawn)?;
     assert!(rt; framed.size == Size::Side10 && framed.wrong == 0);
+    let layout = Layout::of_size(alloc, framed.size)?;
     assert!(rt; lift(alloc, framed.size, &framed.matrix)?.as_slice() == WORDS.as_slice());
     assert!(rt; lift_with(alloc, &layout, &framed.matrix)?.as_slice() == WORDS.as_slice());
     Ok(())

@@ -32,65 +32,33 @@ fn sealed(
 }
 
 // The page m of n, its bytes, an encodation, a size, and the first data words of the label.
+#[rattlefmt::skip]
 const LABELS: [(u8, u8, &[u8], Scheme, Size, &[u8]); 8] = [
-    (
-        1,
-        2,
-        &[1],
-        Scheme::Base256,
-        Size::Side14,
-        &[233, 15, 1, 1, 231, 131, 25, 129],
-    ),
-    (
-        2,
-        2,
-        b"",
-        Scheme::Base256,
-        Size::Side14,
-        &[233, 31, 1, 1, 129, 11, 161, 56],
-    ),
-    (
-        1,
-        2,
-        b"",
-        Scheme::Ascii,
-        Size::Side14,
-        &[233, 15, 1, 1, 129, 11, 161, 56],
-    ),
-    (
-        1,
-        2,
-        b"12",
-        Scheme::Ascii,
-        Size::Side12,
-        &[233, 15, 1, 1, 142],
-    ),
-    (
-        2,
-        2,
-        b"34",
-        Scheme::Ascii,
-        Size::Side12,
-        &[233, 31, 1, 1, 164],
-    ),
-    (
-        1,
-        2,
-        b"AIM",
-        Scheme::C40,
-        Size::Side14,
-        &[233, 15, 1, 1, 230, 91, 11, 129],
-    ),
+    (1, 2, &[1], Scheme::Base256, Size::Side14, &[233, 15, 1, 1, 231, 131, 25, 129]),
+    (2, 2, b"", Scheme::Base256, Size::Side14, &[233, 31, 1, 1, 129, 11, 161, 56]),
+    (1, 2, b"", Scheme::Ascii, Size::Side14, &[233, 15, 1, 1, 129, 11, 161, 56]),
+    (1, 2, b"12", Scheme::Ascii, Size::Side12, &[233, 15, 1, 1, 142]),
+    (2, 2, b"34", Scheme::Ascii, Size::Side12, &[233, 31, 1, 1, 164]),
+    (1, 2, b"AIM", Scheme::C40, Size::Side14, &[233, 15, 1, 1, 230, 91, 11, 129]),
     (3, 7, b"", Scheme::Ascii, Size::Side12, &[233, 42, 1, 1]),
-    (
-        16,
-        16,
-        b"77",
-        Scheme::Ascii,
-        Size::Side12,
-        &[233, 241, 1, 1],
-    ),
+    (16, 16, b"77", Scheme::Ascii, Size::Side12, &[233, 241, 1, 1]),
 ];
+
+// Whether a label opens, with no wrong module, as page m of n of the identification 0.
+fn opens(alloc: Global, label: &Grid, m: u8, n: u8, bytes: &[u8]) -> bool {
+    let Ok(opened) = open_label(alloc, label) else {
+        return false;
+    };
+    let page = opened.page;
+    (
+        opened.corrected,
+        opened.wrong,
+        page.m(),
+        page.n(),
+        page.id().words(),
+    ) == (0, 0, m, n, (1, 1))
+        && page.bytes() == bytes
+}
 
 #[test]
 fn labels_are_sealed_and_opened(rt: HostRuntime) -> Result<(), Fail> {
@@ -100,10 +68,7 @@ fn labels_are_sealed_and_opened(rt: HostRuntime) -> Result<(), Fail> {
             correct_grid(rt.alloc(), &label)?.data().starts_with(words),
             "{m} of {n}"
         );
-        let opened = open_label(rt.alloc(), &label)?;
-        assert!(rt; (opened.corrected, opened.wrong) == (0, 0));
-        assert!(rt; (opened.page.m(), opened.page.n(), opened.page.id().words()) == (m, n, (1, 1)));
-        assert!(rt; opened.page.bytes() == bytes);
+        assert!(rt; opens(rt.alloc(), &label, m, n, bytes));
     }
     let fault = sealed(rt.alloc(), 1, 2, &[233], Scheme::Ascii, Size::Side12).err();
     assert!(rt; fault == Some(SealFault::TooLong));
@@ -111,17 +76,13 @@ fn labels_are_sealed_and_opened(rt: HostRuntime) -> Result<(), Fail> {
 }
 
 // A document, the size and the encodation of its labels, and where its parts end; or none, if it has too many.
+#[rattlefmt::skip]
 const DOCUMENTS: [(&[u8], Size, Scheme, &[usize]); 10] = [
     (&[1], Size::Side14, Scheme::Base256, &[1, 1]),
     (b"", Size::Side14, Scheme::Ascii, &[0, 0]),
     (b"1234", Size::Side12, Scheme::Ascii, &[2, 4]),
     (b"AIM", Size::Side14, Scheme::C40, &[3, 3]),
-    (
-        &[b'7'; 32],
-        Size::Side12,
-        Scheme::Ascii,
-        &[2, 4, 6, 8, 10, 12, 14, 16, 18, 20, 22, 24, 26, 28, 30, 32],
-    ),
+    (&[b'7'; 32], Size::Side12, Scheme::Ascii, &[2, 4, 6, 8, 10, 12, 14, 16, 18, 20, 22, 24, 26, 28, 30, 32]),
     (&[b'7'; 33], Size::Side12, Scheme::Ascii, &[]),
     (&[233], Size::Side12, Scheme::Ascii, &[]),
     (b"", Size::Side10, Scheme::Ascii, &[]),
@@ -157,31 +118,16 @@ fn drawn_of_data(alloc: Global, size: Size, data: &[u8]) -> Result<Grid, AllocEr
 }
 
 // Data words, a size, and why such a symbol is no label.
+#[rattlefmt::skip]
 const NO_LABELS: [(&[u8], Size, LabelFault); 8] = [
-    (
-        &[233, 32, 1, 1, 129],
-        Size::Side12,
-        LabelFault::Sequence { word: 32 },
-    ),
-    (
-        &[233, 47, 1, 1, 129],
-        Size::Side12,
-        LabelFault::Sequence { word: 47 },
-    ),
-    (
-        &[233, 47, 255, 1, 129],
-        Size::Side12,
-        LabelFault::Sequence { word: 47 },
-    ),
+    (&[233, 32, 1, 1, 129], Size::Side12, LabelFault::Sequence { word: 32 }),
+    (&[233, 47, 1, 1, 129], Size::Side12, LabelFault::Sequence { word: 47 }),
+    (&[233, 47, 255, 1, 129], Size::Side12, LabelFault::Sequence { word: 47 }),
     (&[233, 15, 255, 1, 129], Size::Side12, LabelFault::FileId),
     (&[233, 15, 1, 0, 129], Size::Side12, LabelFault::FileId),
     (&[66, 15, 1, 1, 129], Size::Side12, LabelFault::NotAppended),
     (&[142, 164, 186], Size::Side10, LabelFault::NotAppended),
-    (
-        &[233, 15, 1, 1, 232],
-        Size::Side12,
-        LabelFault::Content(DecodeFault::Unsupported { at: 5, word: 232 }),
-    ),
+    (&[233, 15, 1, 1, 232], Size::Side12, LabelFault::Content(DecodeFault::Unsupported { at: 5, word: 232 })),
 ];
 
 #[test]
@@ -226,6 +172,12 @@ fn labels_are_sealed_by_a_layout(rt: HostRuntime) -> Result<(), Fail> {
     Ok(())
 }
 
+// How many words of a label were corrected, and how many modules on its frame are wrong.
+fn wear(alloc: Global, label: &Grid) -> Result<(u16, u16), LabelFault> {
+    let opened = open_label(alloc, label)?;
+    Ok((opened.corrected, opened.wrong))
+}
+
 // Of side 12 an eighth of the 44 modules on the frame are 5, and a block with 7 check words has at most 3 wrong words.
 #[test]
 fn labels_are_worn(rt: HostRuntime) -> Result<(), Fail> {
@@ -233,17 +185,13 @@ fn labels_are_worn(rt: HostRuntime) -> Result<(), Fail> {
     let on_the_frame = [(0, 0), (0, 1), (0, 2), (0, 3), (0, 4)];
     flip_all(&mut label, &on_the_frame);
     flip_all(&mut label, &[(1, 9), (4, 6), (8, 3)]);
-    let opened = open_label(rt.alloc(), &label)?;
-    assert!(rt; (opened.corrected, opened.wrong) == (3, 5));
-    assert!(rt; opened.page.bytes() == b"12".as_slice());
+    assert!(rt; wear(rt.alloc(), &label) == Ok((3, 5)));
     let mut reader = SymbolReader::new();
     let again = open_label_with(rt.alloc(), &mut reader, &label)?;
     assert!(rt; (again.corrected, again.wrong) == (3, 5));
     flip_all(&mut label, &[(9, 8)]);
-    let fault = open_label(rt.alloc(), &label).err();
-    assert!(rt; fault == Some(LabelFault::Block { block: 0 }));
+    assert!(rt; wear(rt.alloc(), &label) == Err(LabelFault::Block { block: 0 }));
     flip_all(&mut label, &[(0, 5)]);
-    let fault = open_label(rt.alloc(), &label).err();
-    assert!(rt; fault == Some(LabelFault::Border { wrong: 6 }));
+    assert!(rt; wear(rt.alloc(), &label) == Err(LabelFault::Border { wrong: 6 }));
     Ok(())
 }

@@ -88,17 +88,27 @@ const FAILED_SAVES: [(NextSave, u32, u16); 2] = [
     (NextSave::FaultNew, 9, 1),
 ];
 
+// A print whose save fails, and what follows.
+fn save_fails(rt: &impl Abort, alloc: Global, next: NextSave, left: u32, number: u16) {
+    let mut printer = created(rt, alloc, 0, 0, 9);
+    printer.set_next(next);
+    assert!(rt; print(&mut printer, b"1234").err() == Some(PrintFault::Save));
+    assert!(rt; print(&mut printer, b"1234").err() == Some(PrintFault::Failed));
+    let mut printer = opened(rt, alloc, 0, printer.close());
+    assert!(rt; printer.left() == left);
+    let printed = print(&mut printer, b"1234").map(|job| job.id().number());
+    assert!(rt; printed == Ok(number));
+}
+
 #[test]
-fn stores_fail(rt: HostRuntime) -> Result<(), Fail> {
+fn stores_fail(rt: HostRuntime) {
     for (next, left, number) in FAILED_SAVES {
-        let mut printer = created(&rt, rt.alloc(), 0, 0, 9);
-        printer.set_next(next);
-        assert!(rt; print(&mut printer, b"1234").err() == Some(PrintFault::Save));
-        assert!(rt; print(&mut printer, b"1234").err() == Some(PrintFault::Failed));
-        let mut printer = opened(&rt, rt.alloc(), 0, printer.close());
-        assert!(rt; printer.left() == left);
-        assert!(rt; print(&mut printer, b"1234")?.id().number() == number);
+        save_fails(&rt, rt.alloc(), next, left, number);
     }
+}
+
+#[test]
+fn nothing_is_created_over_what_a_failed_save_left(rt: HostRuntime) {
     let range = Range { first: 0, last: 9 };
     let mut store = MemStore::new(rt.alloc());
     store.set_next(NextSave::FaultNew);
@@ -111,7 +121,6 @@ fn stores_fail(rt: HostRuntime) -> Result<(), Fail> {
     refused.store.set_load(true);
     let refused = Printer::open(rt.alloc(), refused.store, 0).err();
     assert!(rt; refused.expect(&rt, "its load fails").fault == OpenFault::Device);
-    Ok(())
 }
 
 // Two tickets, of which the second is taken: then the first is old. Serials rise by one, and a number in the middle

@@ -5,7 +5,16 @@ use dm_check_blocks::Size;
 use dm_finder_frame::Grid;
 use dm_placement::Layout;
 use dm_symbol::{SymbolFault, SymbolReader, correct_grid, draw_symbol, draw_words, still_near};
+use std::alloc::Global;
 use std::test::Fail;
+
+// Whether a reader reads these words.
+fn reads(alloc: Global, reader: &mut SymbolReader, grid: &Grid, words: &[u8]) -> bool {
+    match reader.read(alloc, grid) {
+        Ok(symbol) => symbol.words() == words,
+        Err(_) => false,
+    }
+}
 
 // Two words of eight are wrong: modules (2, 2) and (6, 6) stand in two words, (0, 1) and (9, 3) on the frame. One
 // reader reads that symbol, one of another size, and the first again.
@@ -22,9 +31,14 @@ fn symbols_are_drawn_and_read(rt: HostRuntime) -> Result<(), Fail> {
     assert!(rt; (symbol.corrected(), symbol.wrong()) == (2, 2));
     let layout = Layout::of_size(rt.alloc(), Size::Side12)?;
     let zeros = draw_words(rt.alloc(), &layout, &[0; 12])?;
-    assert!(rt; reader.read(rt.alloc(), &zeros)?.words() == [0; 12].as_slice());
-    assert!(rt; reader.read(rt.alloc(), &grid)?.words() == WORDS.as_slice());
+    assert!(rt; reads(rt.alloc(), &mut reader, &zeros, &[0; 12]));
+    assert!(rt; reads(rt.alloc(), &mut reader, &grid, &WORDS));
     Ok(())
+}
+
+// Whether a grid is refused so.
+fn is_refused(alloc: Global, grid: &Grid, fault: SymbolFault) -> bool {
+    correct_grid(alloc, grid).err() == Some(fault)
 }
 
 // Flips in two words and on the frame, and in four words. Where all modules are light, 27 of the 36 on the frame are
@@ -40,13 +54,10 @@ fn grids_are_near_or_refused(rt: HostRuntime) -> Result<(), Fail> {
     let four = [(1, 1), (2, 2), (4, 4), (6, 6)];
     assert!(rt; !still_near(rt.alloc(), &drawn, &four)?);
     let spoiled = drawn.with_flips(rt.alloc(), &four)?;
-    let fault = correct_grid(rt.alloc(), &spoiled).err();
-    assert!(rt; fault == Some(SymbolFault::Block { block: 0 }));
-    let light = Grid::of_modules(rt.alloc(), 10, &[false; 100])?;
-    let fault = correct_grid(rt.alloc(), &light).err();
-    assert!(rt; fault == Some(SymbolFault::Border { wrong: 27 }));
-    let dark = Grid::of_modules(rt.alloc(), 10, &[true; 100])?;
-    let fault = correct_grid(rt.alloc(), &dark).err();
-    assert!(rt; fault == Some(SymbolFault::Border { wrong: 9 }));
+    assert!(rt; is_refused(rt.alloc(), &spoiled, SymbolFault::Block { block: 0 }));
+    for (dark, wrong) in [(false, 27), (true, 9)] {
+        let plain = Grid::of_modules(rt.alloc(), 10, &[dark; 100])?;
+        assert!(rt; is_refused(rt.alloc(), &plain, SymbolFault::Border { wrong }));
+    }
     Ok(())
 }
