@@ -1,0 +1,105 @@
+-- What one desk holds and gives, as a step of a relay that has just this desk.
+use Rattle.std.proofs.Common.{◌≡◌, inl, ℕ, List, [], ◌∷◌, Result, Ok, refl, sym, ap, subst, arith}
+use Rattle.std.proofs.lemmas.List.{append-nil}
+use Rattle.std.specs.FinMap as finite
+use Rattle.dm_assembly_desk.specs.Adding.{Asks, Becomes, add_verdict, forget_verdict}
+use Rattle.dm_assembly_desk.specs.Documents.{Documents}
+use Rattle.dm_assembly_desk.specs.declared.adding.AddFault.{AddFault}
+use Rattle.dm_assembly_desk.specs.declared.fault.AskFault.{AskFault}
+use Rattle.dm_assembly_desk.specs.declared.fault.ForgetFault.{ForgetFault}
+use Rattle.dm_assembly_desk.specs.declared.reply.Imported.{Imported}
+use Rattle.dm_event_history.specs.declared.event.Event.TheVariants as events
+use Rattle.dm_event_history.specs.declared.reply.Reply.{Reply}
+use Rattle.dm_event_history.specs.declared.reply.Reply.TheVariants.{Document}
+use Rattle.dm_event_history.specs.declared.stop.Stop.TheVariants as stops
+use Rattle.dm_event_history.specs.Relay.{Desk, Export, Label, Relay, Running, nothing, with_desk}
+use Rattle.dm_event_history.specs.Calls.{Saves, ending, forget_reply, pages_reply, verdict_course}
+use Rattle.dm_event_history.specs.Steps.{Step}
+use Rattle.dm_event_history.specs.Headline.{AreOfOneDocument, ArePrinted, HaveLeft, IsClean, IsCleanActor, IsCleanExport, IsTheDocument}
+use Rattle.dm_event_history.proofs.Gives.{each_clean_desk_gives}
+use Rattle.dm_event_history.proofs.Stays.{each_step_keeps_clean}
+
+module _ (labels : List Label) (printed : ArePrinted labels) (room : ℕ) (held : Documents) (clean : HaveLeft labels held) where
+  abbrev desk_of : Documents → Desk
+  desk_of now = record { room = room; actor = Running now }
+
+  abbrev relay : List Export → Relay
+  relay exports = record {
+    printers = [];
+    desks = desk_of held ∷ [];
+    labels = labels;
+    tickets = [];
+    exports = exports;
+    moves = [];
+  }
+
+  is_clean : (exports : List Export) → IsClean (relay exports) 0
+  is_clean exports desk there =
+      let same : desk_of held ≡ desk = cc (there) in
+      subst (λ (d : Desk). IsCleanActor labels d.actor) same clean
+
+  -- what it holds after a step that saved this is clean
+  holds_next : (exports : List Export) (next : Documents) →
+      IsClean (with_desk (relay exports) 0 (desk_of next) nothing) 0 → HaveLeft labels next
+  holds_next exports next c =
+      subst (λ (ls : List Label). HaveLeft ls next) (append-nil labels) (c (desk_of next) refl)
+
+  pub added : (export : Export) → IsCleanExport labels export → (next : Documents) (answer : Result Imported AddFault) →
+      add_verdict room held export.id export.pages ≡ Becomes next answer → HaveLeft labels next
+  added export sent next answer is =
+      let reply : Reply ℕ = pages_reply answer in
+      let step : Step {A = ℕ} (relay (export ∷ [])) (events.Import 0 0 stops.None) reply
+      (with_desk (relay (export ∷ [])) 0 (desk_of next) nothing) = inl (
+        (omega arith, omega arith),
+        (
+          export,
+          refl,
+          record {
+            desk = desk_of held;
+            was = refl;
+            end = ending reply (Running next) nothing;
+            acts = (Saves next nothing reply, inl (sym (ap (verdict_course pages_reply) is)), refl);
+            reply_is = refl;
+            new_is = refl;
+          },
+        ),
+      ) in
+      holds_next (export ∷ []) next (each_step_keeps_clean ℕ (relay (export ∷ []))
+      (with_desk (relay (export ∷ [])) 0 (desk_of next) nothing) (events.Import 0 0 stops.None) reply 0 printed
+      (is_clean (export ∷ [])) (λ here other there. subst (IsCleanExport labels) (cc (there)) sent) step)
+
+  pub let_go : (id : ℕ) (next : Documents) (answer : Result (Unit {0}) ForgetFault) →
+      forget_verdict held id ≡ Becomes next answer → HaveLeft labels next
+  let_go id next answer is =
+      let reply : Reply ℕ = forget_reply answer in
+      let step : Step {A = ℕ} (relay []) (events.Forget 0 id stops.None) reply
+      (with_desk (relay []) 0 (desk_of next) nothing) = inl (
+        omega arith,
+        record {
+          desk = desk_of held;
+          was = refl;
+          end = ending reply (Running next) nothing;
+          acts = (Saves next nothing reply, inl (sym (ap (verdict_course forget_reply) is)), refl);
+          reply_is = refl;
+          new_is = refl;
+        },
+      ) in
+      holds_next [] next (each_step_keeps_clean ℕ (relay []) (with_desk (relay []) 0 (desk_of next) nothing)
+      (events.Forget 0 id stops.None) reply 0 printed (is_clean []) tt step)
+
+  pub asked : AreOfOneDocument labels → (id : ℕ) (bytes : List ℕ) →
+      (let given : Result (List ℕ) AskFault = Ok bytes in Asks (λ b. b) (finite.get held id) given) →
+      IsTheDocument labels id bytes
+  asked one id bytes asks =
+      each_clean_desk_gives ℕ (relay []) (with_desk (relay []) 0 (desk_of held) nothing) 0 id bytes printed one (is_clean [])
+      (inl (
+        omega arith,
+        record {
+          desk = desk_of held;
+          was = refl;
+          end = ending (Document bytes) (Running held) nothing;
+          acts = ((Ok bytes, asks, refl, refl), refl);
+          reply_is = refl;
+          new_is = refl;
+        },
+      ))

@@ -1,0 +1,138 @@
+-- A command opens a desk that holds pages of printed labels alone: the desk shows them, and the files stay.
+use Rattle.std.proofs.Common.{◌≡◌, ℕ, false, List, None, Option, Some, Result, sym, ap, subst}
+use Rattle.dm_store.specs.Saved.{Saved, SavedSet}
+use Rattle.dm_assembly_desk.specs.Documents.{DeskView, HoldsFiles}
+use Rattle.dm_assembly_desk.specs.Opening.{Moves, early, at_key, at_last}
+use Rattle.dm_assembly_desk.specs.declared.fault.MoveFault.{MoveFault}
+use Rattle.dm_assembly_desk.specs.declared.limits.TheConstants.{MOST_CAPACITY}
+use Rattle.dm_assembly_desk.proofs.Reopening.{one_held}
+use Rattle.dm_event_history.specs.Relay.{Label}
+use Rattle.dm_event_history.specs.Headline.{HaveLeft}
+use Rattle.relay_shared.specs.Command.{StreamsView}
+use Rattle.relay_desk_commands.specs.Copy.{EndsCopy, EndsCopyOf}
+use Rattle.relay_desk_commands.specs.Copy.EndsCopyOf.{no_side, of_side}
+use Rattle.relay_desk_commands.specs.Held.{EndsHeld}
+use Rattle.relay_desk_commands.specs.declared.copy.CopyOptions.{CopyOptions}
+use Rattle.relay_desk_commands.specs.Desks.{DeskFiles, EndsAtDesk, EndsImport, EndsOnId, HasNoDesk, OnDesk, OpensDesk}
+use Rattle.relay_desk_commands.specs.Desks.EndsImport.{not_read, read}
+use Rattle.relay_desk_commands.specs.Desks.HasNoDesk.{not_moved, not_opened}
+use Rattle.relay_desk_commands.specs.Desks.EndsAtDesk.{no_desk, opened}
+use Rattle.relay_desk_commands.specs.Desks.EndsOnId.{no_id, of_id}
+use Rattle.relay_desk_runs.specs.Printed.{HasNoDocuments, HoldsPrinted, IsClean}
+use Rattle.relay_desk_runs.proofs.Saving.{ShowsPrinted}
+
+-- nothing is moved
+pub unmoved : (old : Saved) (set : SavedSet) (result : Result ℕ MoveFault) (old_after : Saved) (set_after : SavedSet) →
+    HasNoDocuments old → Moves old set result old_after set_after → (old_after ≡ old) × (set_after ≡ set)
+unmoved old set result old_after set_after none (early ends same_old same_set) = (same_old, same_set)
+unmoved old set result old_after set_after none (at_key held k now next fault reaches is saves same result_is) =
+    absurd (none.none held (reaches.joint none.honest) reaches.some)
+unmoved old set result old_after set_after none (at_last held k answer reaches is replaced memory result_is) =
+    absurd (none.none held (reaches.joint none.honest) reaches.some)
+
+-- the files are as they were
+pub record AreSame (old new : DeskFiles) : Type 0 where
+  pub joint : new.joint ≡ old.joint
+  pub set : new.set ≡ old.set
+
+pub as_they_were : (old new : DeskFiles) → new ≡ old → AreSame old new
+as_they_were old new same =
+    record { joint = ap (λ (f : DeskFiles). f.joint) same; set = ap (λ (f : DeskFiles). f.set) same }
+
+-- there is no desk
+pub unopened : (old new : DeskFiles) (capacity : ℕ) (name : List ℕ) → HasNoDocuments old.joint →
+    HasNoDesk old capacity name new → AreSame old new
+unopened old new capacity name none (not_moved fault moves is) =
+    let same = unmoved _ _ _ _ _ none moves in record { joint = same.0; set = same.1 }
+unopened old new capacity name none (not_opened fault moves has is) =
+    let same = unmoved _ _ _ _ _ none moves.1 in record { joint = same.0; set = same.1 }
+
+module _ (labels : List Label) (old new : OnDesk) where
+  pub still_clean : IsClean labels old → AreSame old.files new.files → IsClean labels new
+  still_clean clean same = record {
+    set = subst (HoldsPrinted labels) (sym same.set) clean.set;
+    joint = subst HasNoDocuments (sym same.joint) clean.joint;
+  }
+
+-- the desk that is opened runs, and shows what the set holds
+pub record IsOpened (labels : List Label) (set : SavedSet) (desk : DeskView) : Type 0 where
+  pub shows : ShowsPrinted labels desk
+  pub running : desk.is_failed ≡ false
+  pub set_is : desk.saved ≡ set
+  pub files : HoldsFiles desk.saved.content desk.held
+
+pub is_opened : (labels : List Label) (files : DeskFiles) (capacity : ℕ) (joint : Saved) (desk : DeskView) →
+    HoldsPrinted labels files.set → HasNoDocuments files.joint → OpensDesk files capacity joint desk →
+    IsOpened labels files.set desk × (joint ≡ files.joint)
+is_opened labels files capacity joint desk printed none o =
+    let same = unmoved _ _ _ _ _ none o.moves.1 in
+    let set : HoldsPrinted labels desk.saved = subst (HoldsPrinted labels) (sym same.1) printed in
+    let found : HoldsFiles desk.saved.content desk.held = o.opens.found set.honest in
+    let one : desk.held ≡ set.held = one_held desk.saved.content desk.held set.held found set.files in (
+      record {
+        shows = record { set = set; shown = subst (HaveLeft labels) (sym one) set.printed };
+        running = o.opens.running;
+        set_is = same.1;
+        files = found;
+      },
+      same.0,
+    )
+
+-- ---- commands
+
+module _ {Refuses : List ℕ → StreamsView → ℕ → StreamsView → Type 0} {Rest : DeskView → StreamsView → ℕ → OnDesk → Type 0}
+    (labels : List Label) (capacity : ℕ) (old : OnDesk) (status : ℕ) (new : OnDesk) (clean : IsClean labels old)
+    (rest_keeps : (desk : DeskView) → IsOpened labels old.files.set desk → Rest desk old.streams status new →
+    HoldsPrinted labels new.files.set) where
+  pub at_desk_keeps : EndsAtDesk Refuses capacity Rest old status new → IsClean labels new
+  at_desk_keeps (no_desk name has refuses) =
+      still_clean labels old new clean (unopened old.files new.files capacity name clean.joint has)
+  at_desk_keeps (opened desk opens rest) =
+      let o = is_opened labels old.files capacity new.files.joint desk clean.set clean.joint opens in
+      record { set = rest_keeps desk o.0 rest; joint = subst HasNoDocuments (sym o.1) clean.joint }
+
+pub on_id_keeps : {Refuses : List ℕ → StreamsView → ℕ → StreamsView → Type 0} {Ends : ℕ → OnDesk → ℕ → OnDesk → Type 0}
+    (labels : List Label) (text : List ℕ) (old : OnDesk) (status : ℕ) (new : OnDesk) → IsClean labels old →
+    ((id : ℕ) → Ends id old status new → IsClean labels new) → EndsOnId Refuses text Ends old status new →
+    IsClean labels new
+on_id_keeps labels text old status new clean each (no_id isnt same refuses) =
+    still_clean labels old new clean (as_they_were old.files new.files same)
+on_id_keeps labels text old status new clean each (of_id id text_is rest) = each id rest
+
+-- ---- the store beside any set stays
+
+pub at_desk_joint : {Refuses : List ℕ → StreamsView → ℕ → StreamsView → Type 0}
+    {Rest : DeskView → StreamsView → ℕ → OnDesk → Type 0} (capacity : ℕ) (old : OnDesk) (status : ℕ) (new : OnDesk) →
+    HasNoDocuments old.files.joint → EndsAtDesk Refuses capacity Rest old status new →
+    new.files.joint ≡ old.files.joint
+at_desk_joint capacity old status new none (no_desk name has refuses) =
+    (unopened old.files new.files capacity name none has).joint
+at_desk_joint capacity old status new none (opened desk opens rest) = (unmoved _ _ _ _ _ none opens.moves.1).0
+
+pub on_id_joint : {Refuses : List ℕ → StreamsView → ℕ → StreamsView → Type 0} {Ends : ℕ → OnDesk → ℕ → OnDesk → Type 0}
+    (text : List ℕ) (old : OnDesk) (status : ℕ) (new : OnDesk) →
+    ((id : ℕ) → Ends id old status new → new.files.joint ≡ old.files.joint) →
+    EndsOnId Refuses text Ends old status new → new.files.joint ≡ old.files.joint
+on_id_joint text old status new each (no_id isnt same refuses) = ap (λ (f : DeskFiles). f.joint) same
+on_id_joint text old status new each (of_id id text_is rest) = each id rest
+
+pub import_joint : (capacity : ℕ) (old : OnDesk) (status : ℕ) (new : OnDesk) → HasNoDocuments old.files.joint →
+    EndsImport capacity old status new → new.files.joint ≡ old.files.joint
+import_joint capacity old status new none (not_read fault has same told leaves) = ap (λ (f : DeskFiles). f.joint) same
+import_joint capacity old status new none (read bytes reads rest leaves) =
+    at_desk_joint capacity old status new none rest
+
+-- what is held is looked at, and nothing else
+pub held_same : (text : Option (List ℕ)) (old : OnDesk) (status : ℕ) (new : OnDesk) → EndsHeld text old status new →
+    new.files ≡ old.files
+held_same None old status new ends = ends.same
+held_same (Some text) old status new (no_id isnt same refuses) = same
+held_same (Some text) old status new (of_id id text_is rest) = rest.same
+
+pub copy_joint : (options : CopyOptions) (old : OnDesk) (status : ℕ) (new : OnDesk) → HasNoDocuments old.files.joint →
+    EndsCopy options old status new → new.files.joint ≡ old.files.joint
+copy_joint options old status new none ends = on_id_joint options.id.now old status new by_side ends
+  where
+    by_side : (id : ℕ) → EndsCopyOf options id old status new → new.files.joint ≡ old.files.joint
+    by_side id (no_side isnt same refuses) = ap (λ (f : DeskFiles). f.joint) same
+    by_side id (of_side size is at) = at_desk_joint MOST_CAPACITY old status new none at

@@ -1,0 +1,148 @@
+-- A scan keeps a desk so.
+use Rattle.std.proofs.Common.{◌++◌, ℕ, Bool, List, [], ◌∷◌, Result, Ok, Err, sym, subst, ◌∙◌}
+use Rattle.std.specs.List.{AllByRecursion}
+use Rattle.dm_finder_frame.specs.Frame.{GridView}
+use Rattle.dm_append_label.specs.Labels.{PageView}
+use Rattle.dm_append_label.specs.declared.fault.LabelFault.{LabelFault}
+use Rattle.dm_append_label.specs.declared.opening.Opened.{Opened}
+use Rattle.dm_append_label.specs.Opening.{LabelOpens}
+use Rattle.dm_pbm_io.specs.Image.{Picture}
+use Rattle.dm_assembly_desk.specs.Adding.{AcceptsGrid, Scans, lone, scan_of}
+use Rattle.dm_assembly_desk.specs.Documents.{DeskView}
+use Rattle.dm_assembly_desk.specs.declared.adding.AddFault.{AddFault}
+use Rattle.dm_assembly_desk.specs.declared.adding.AddFault.TheVariants as adds
+use Rattle.dm_assembly_desk.specs.declared.reply.Accepted.{Accepted}
+use Rattle.dm_assembly_desk.specs.declared.reply.Imported.{Imported}
+use Rattle.dm_assembly_desk.specs.declared.fault.ScanFault.{ScanFault}
+use Rattle.dm_assembly_desk.specs.declared.fault.ScanFault.TheVariants as scan_fault
+use Rattle.dm_event_history.specs.Relay.{Label}
+use Rattle.dm_event_history.specs.Headline.{ArePrinted, IsCleanExport}
+use Rattle.dm_event_history.proofs.Stays.{lone_clean, lone_export}
+use Rattle.relay_streams.specs.Streams.{InputView}
+use Rattle.relay_shared.specs.EachImage.{AnswersImages, Comes, EndsImages, Progress, Said, TellsImages}
+use Rattle.relay_shared.specs.EachImage.Comes.{image, unread, too_many}
+use Rattle.relay_shared.specs.EachImage.AnswersImages.{none, another}
+use Rattle.relay_shared.specs.EachImage.EndsImages.{no_image, last_line}
+use Rattle.relay_shared.specs.EachImage.TellsImages.{ended, stopped}
+use Rattle.relay_desk_commands.specs.Desks.{AtDesk, EndsScan, ScansPicture, scan_images}
+use Rattle.relay_desk_commands.specs.Desks.ScansPicture.{accepted, refused, no_grid}
+use Rattle.relay_desk_commands.specs.Desks.EndsAtDesk.{no_desk, opened}
+use Rattle.relay_desk_runs.specs.Answered.{grids_at_end, grids_before, grids_of_bytes, grids_of_images, grids_of_picture, grids_scanned, if_saved}
+use Rattle.relay_desk_runs.specs.Printed.{EachScanKeeps, HasNoDocuments, HoldsPrinted, IsClean, IsNearPrinted, IsOfLabel}
+use Rattle.relay_desk_runs.proofs.Saving.{MayBeAdded, ShowsPrinted, adding}
+use Rattle.relay_desk_runs.proofs.Opened.{is_opened, still_clean, unopened}
+
+-- what is so of both lists
+first_part : {X : Type 0} (P : X → Type 0) (xs ys : List X) → AllByRecursion P (xs ++ ys) → AllByRecursion P xs
+first_part P [] ys all = tt
+first_part P (x ∷ xs) ys all = (all.0, first_part P xs ys all.1)
+
+last_part : {X : Type 0} (P : X → Type 0) (xs ys : List X) → AllByRecursion P (xs ++ ys) → AllByRecursion P ys
+last_part P [] ys all = all
+last_part P (x ∷ xs) ys all = last_part P xs ys all.1
+
+-- the page of a label that left, alone
+page_clean : (labels : List Label) (page : PageView) → ArePrinted labels → IsOfLabel labels page →
+    IsCleanExport labels (lone_export page)
+page_clean labels page printed l = subst (λ (p : PageView). IsCleanExport labels (lone_export p)) l.page_is
+    (lone_clean labels l.number l.label l.there (printed l.number l.label l.there))
+
+module _ (A : Type 0) (labels : List Label) (printed : ArePrinted labels) where
+  -- ---- one grid
+
+  -- it was taken in, or may have been
+  abbrev MayBeIn : Result Accepted ScanFault → Type 0
+  MayBeIn (Ok reply) = Unit {0}
+  MayBeIn (Err scan_fault.Save) = Unit {0}
+  MayBeIn (Err fault) = ⊥
+
+  may_be_in : (page : PageView) (added : Result Imported AddFault) → MayBeAdded added → MayBeIn (scan_of page added)
+  may_be_in page (Ok reply) may = tt
+  may_be_in page (Err adds.Save) may = tt
+  may_be_in page (Err fault) may = absurd may
+
+  near_page : (grid : GridView) (read : Opened A) → LabelOpens grid (Ok read) → IsNearPrinted labels grid →
+      IsOfLabel labels read.page
+  near_page grid read label n = record {
+    number = n.of_label.number;
+    label = n.of_label.label;
+    there = n.of_label.there;
+    page_is = n.of_label.page_is ∙ sym (label.near n.own n.page n.carries n.near);
+  }
+
+  by_read : (grid : GridView) (old new : DeskView) (answer : Result Accepted ScanFault)
+      (read : Result (Opened A) LabelFault) → LabelOpens grid read → ShowsPrinted labels old →
+      (MayBeIn answer → IsNearPrinted labels grid) → Scans read old answer new → ShowsPrinted labels new
+  by_read grid old new answer (Ok read) label clean near (added, is, does) =
+      adding labels old new clean printed read.page.id (lone read.page) added
+      (λ may. page_clean labels read.page printed (near_page grid read label
+      (near (subst MayBeIn (sym is) (may_be_in read.page added may))))) does
+  by_read grid old new answer (Err fault) label clean near (is, same) = subst (ShowsPrinted labels) (sym same) clean
+
+  accepts : (grid : GridView) (old new : DeskView) (answer : Result Accepted ScanFault) → ShowsPrinted labels old →
+      (MayBeIn answer → IsNearPrinted labels grid) → AcceptsGrid A grid old answer new → ShowsPrinted labels new
+  accepts grid old new answer clean near does = by_read grid old new answer does.opened does.label clean near does.scans
+
+  if_in : (grid : GridView) (fault : ScanFault) → AllByRecursion (IsNearPrinted labels) (if_saved fault grid) →
+      MayBeIn (Err fault) → IsNearPrinted labels grid
+  if_in grid scan_fault.Save all may = all.0
+  if_in grid fault all may = absurd may
+
+  -- ---- one picture, and what comes on an input
+
+  abbrev Near : List GridView → Type 0
+  Near grids = AllByRecursion (IsNearPrinted labels) grids
+
+  picture : {number : ℕ} {p : Picture} {before after : AtDesk} {said : Said} (scans : ScansPicture A number p before said after) →
+      ShowsPrinted labels before.desk → Near (grids_of_picture scans) → ShowsPrinted labels after.desk
+  picture {before = before} (accepted {desk} grid reply shape inside does) clean near =
+      accepts grid before.desk desk (Ok reply) clean (λ may. near.0) does
+  picture {before = before} {after = after} (refused grid fault id shape inside does is notes) clean near =
+      accepts grid before.desk after.desk (Err fault) clean (if_in grid fault near) does
+  picture (no_grid fault has notes) clean near = clean
+
+  come : {count : ℕ} {now after : AtDesk} {bytes : List ℕ} {rest : InputView} {said : Said} {last : Bool}
+      (comes : Comes (scan_images A) count now bytes rest said last after) → ShowsPrinted labels now.desk →
+      Near (grids_of_bytes comes) → ShowsPrinted labels after.desk
+  come (image p few spells answers last_is) clean near = picture answers clean near
+  come (unread fault few is sees) clean near = subst (ShowsPrinted labels) (sym sees.0) clean
+  come (too_many all is) clean near = clean
+
+  before : {start now : Progress (scan_images A)} {count : ℕ} {any : Bool}
+      (all : AnswersImages (scan_images A) start count any now) → ShowsPrinted labels start.state.desk →
+      Near (grids_before all) → ShowsPrinted labels now.state.desk
+  before none clean near = clean
+  before (another one answers takes whole appends) clean near =
+      come takes.comes (before answers clean (first_part _ (grids_before answers) (grids_of_bytes takes.comes) near))
+      (last_part _ (grids_before answers) (grids_of_bytes takes.comes) near)
+
+  at_end : {count : ℕ} {old new : Progress (scan_images A)} {said : Said}
+      (last : EndsImages (scan_images A) count old said new) → ShowsPrinted labels old.state.desk →
+      Near (grids_at_end last) → ShowsPrinted labels new.state.desk
+  at_end (no_image few keeps ends) clean near = clean
+  at_end (last_line takes) clean near = come takes.comes clean near
+
+  images : {start new : Progress (scan_images A)} {status : ℕ} (tells : TellsImages (scan_images A) start status new) →
+      ShowsPrinted labels start.state.desk → Near (grids_of_images tells) → ShowsPrinted labels new.state.desk
+  images (ended said answers last reads appends is) clean near =
+      at_end last (before answers clean (first_part _ (grids_before answers) (grids_at_end last) near))
+      (last_part _ (grids_before answers) (grids_at_end last) near)
+  images (stopped said answers takes failed part is) clean near =
+      come takes.comes (before answers clean (first_part _ (grids_before answers) (grids_of_bytes takes.comes) near))
+      (last_part _ (grids_before answers) (grids_of_bytes takes.comes) near)
+
+-- ---- the command
+
+pub each_scan_keeps : (A : Type 0) → EachScanKeeps A
+each_scan_keeps A labels capacity old status new printed clean how near = by_desk how near
+  where
+    by_desk : (ends : EndsScan A capacity old status new) →
+        AllByRecursion (IsNearPrinted labels) (grids_scanned ends) → IsClean labels new
+    by_desk (no_desk name has refuses) near =
+        still_clean labels old new clean (unopened old.files new.files capacity name clean.joint has)
+    by_desk (opened desk opens rest) near =
+        let o = is_opened labels old.files capacity new.files.joint desk clean.set clean.joint opens in
+        record {
+          set = subst (HoldsPrinted labels) (sym rest.4) (images A labels printed rest.1 o.0.shows near).set;
+          joint = subst HasNoDocuments (sym o.1) clean.joint;
+        }

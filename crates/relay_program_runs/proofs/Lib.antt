@@ -1,0 +1,9 @@
+pub mod Lists
+pub mod Ranges
+pub mod Effects
+pub mod Printers
+pub mod Desks
+pub mod Walk
+pub mod Images
+pub mod WorkedFacts
+pub mod TenCommands

@@ -1,0 +1,544 @@
+-- The ledgers and the machine's printers, once commands ran: a printer for each number, whose range the list makes.
+use Rattle.std.proofs.Common.{◌≡◌, ◌⊎◌, ◌+◌, ◌≤◌, ◌++◌, inl, inr, true, ℕ, zero, suc, List, [], ◌∷◌, None, Option, Some, length, map, slice_get, slice_set, refl, sym, ap, subst, ◌∙◌, arith, eq-eqb}
+use Rattle.std.specs.Prelude.{◌==◌, IfSome, IsSomeAnd}
+use Rattle.std.proofs.lemmas.List.{append-nil, length-set}
+use Rattle.dm_finder_frame.specs.Frame.{GridView}
+use Rattle.dm_store.specs.Saved.{Saved}
+use Rattle.dm_print_ledger.specs.declared.range.Range.{Range}
+use Rattle.dm_print_ledger.specs.Creating.{opening}
+use Rattle.dm_print_ledger.specs.Ledger.{JobView, TicketView}
+use Rattle.dm_print_ledger.proofs.LedgerLaws.{opening_sound}
+use Rattle.dm_event_history.specs.Relay.{Label, Move, Relay, Running, Used, fresh_from, start}
+use Rattle.dm_event_history.specs.Steps.{IsRun, Moment}
+use Rattle.dm_event_history.specs.Headline.{AreDisjoint, IsSound, gone, one_if}
+use Rattle.dm_event_history.proofs.Deciding.{same_or_other}
+use Rattle.dm_event_history.proofs.Gotten.{get_more, in_either, set_at}
+use Rattle.dm_event_history.proofs.Headline.{each_run_is_sound}
+use Rattle.dm_event_history.proofs.Numbers.{gone_more}
+use Rattle.dm_event_world.proofs.Changing.{at_place}
+use Rattle.relay_command.specs.declared.command.Command.{Command}
+use Rattle.relay_desk_commands.specs.Desks.{OnDesk}
+use Rattle.relay_runs.specs.Runs.{Follows, IsOfJob, Keeps, grids_in, grids_of, listed}
+use Rattle.relay_runs.proofs.Places.{set_there}
+use Rattle.relay_runs.proofs.PrintTold.{IsOut}
+use Rattle.relay_program_runs.specs.Law.{At, Ends, IsBlank, IsFirstOfItsId, Prints, Ran, SomeRan, all_made, at_its_path, cut_short, exited, passed, passed_at}
+use Rattle.relay_program_runs.specs.Passed.{Made, made_by}
+use Rattle.relay_program_runs.proofs.Effects.{Effect, HoldsSo, Taken, effect, follows, idle, makes, out_of, unmade}
+use Rattle.relay_program_runs.proofs.Lists.{at_length, before_or_now, made_more, one_before, one_now}
+
+-- ---- what is so once commands ran
+
+-- a job with this identification was answered
+abbrev pub HasId : {A : Type 0} → ℕ → Ran A → Type 0
+HasId id ran = IsSomeAnd (passed ran).printed (λ its. its.id ≡ id)
+
+abbrev pub HasLabel : {A : Type 0} → GridView → Ran A → Type 0
+HasLabel grid ran = IsSomeAnd (passed ran).printed (λ job. (i : ℕ) × (slice_get job.labels i ≡ Some grid))
+
+abbrev pub Gave : {A : Type 0} → TicketView → Ran A → Type 0
+Gave ticket ran = (passed ran).given ≡ Some ticket
+
+-- a ledger of this number was made
+abbrev pub WasMade : List Made → ℕ → Type 0
+WasMade made number = (i : ℕ) × (one : Made) × (slice_get made i ≡ Some one) × (one.number ≡ number)
+
+-- a label that left stands there
+abbrev pub LeftAs : Relay → GridView → Type 0
+LeftAs relay grid = (number : ℕ) × (label : Label) × (slice_get relay.labels number ≡ Some label) × (label.grid ≡ grid)
+
+-- which printer's ledger each store holds, if any, and that a run of the machine led there
+pub record Stands (A : Type 0) (ranges : List Range) (earlier : List (Ran A)) (site : List At) : Type 0 where
+  pub moments : List (Moment A)
+  pub relay : Relay
+  pub run : IsRun (start ranges []) moments relay
+  pub numbers : List (Option ℕ)
+  pub count : length site ≡ length numbers
+  pub each : (place : ℕ) (at : At) (o : Option ℕ) → slice_get site place ≡ Some at → slice_get numbers place ≡ Some o →
+      HoldsSo relay at.files.joint o
+  pub once : (p q number : ℕ) → slice_get numbers p ≡ Some (Some number) → slice_get numbers q ≡ Some (Some number) → p ≡ q
+  pub fresh : (number : ℕ) (range : Range) → slice_get ranges number ≡ Some range →
+      ((p : ℕ) → slice_get numbers p ≡ Some (Some number) → ⊥) →
+      slice_get relay.printers number ≡ Some (Running (opening number range))
+  pub made : (p number : ℕ) → slice_get numbers p ≡ Some (Some number) → WasMade (all_made earlier) number
+  pub gave : (ticket : TicketView) → SomeRan (Gave ticket) earlier →
+      (it : ℕ) × (slice_get relay.tickets it ≡ Some ticket)
+  pub printed : (number : ℕ) (label : Label) → slice_get relay.labels number ≡ Some label →
+      SomeRan (Prints label.page.id label.cut.bytes) earlier
+  pub grids : (grid : GridView) → SomeRan (HasLabel grid) earlier → LeftAs relay grid
+  pub used : (id : ℕ) → SomeRan (HasId id) earlier → 1 ≤ gone relay.moves id
+
+-- ---- some lists
+
+some_none : {X : Type 0} (o : Option X) → o ≡ None → (x : X) → o ≡ Some x → ⊥
+some_none o none x some = cc (none, some)
+
+if_none : {X : Type 0} (P : X → Type 0) (o : Option X) → o ≡ None → IsSomeAnd o P → ⊥
+if_none P None none is = absurd is
+if_none P (Some x) none is = cc (none)
+
+as_some : {X : Type 0} (P : X → Type 0) (o : Option X) (x : X) → o ≡ Some x → IsSomeAnd o P → P x
+as_some P None x some is = absurd is
+as_some P (Some y) x some is = (let same : y ≡ x = cc (some) in subst P same is)
+
+some_as : {X : Type 0} (P : X → Type 0) (o : Option X) → IsSomeAnd o P → (x : X) × (o ≡ Some x) × P x
+some_as P None is = absurd is
+some_as P (Some x) is = (x, refl, is)
+
+nothing_there : {X : Type 0} (i : ℕ) (x : X) → (let xs : List X = [] in slice_get xs i ≡ Some x) → ⊥
+nothing_there i x there = cc (there)
+
+pub nothing_ran : {A : Type 0} (P : Ran A → Type 0) → SomeRan P [] → ⊥
+nothing_ran P s = nothing_there s.0 s.1 s.2
+
+grid_there : (grids : List GridView) (labels : List Label) → grids_of labels ≡ grids → (i : ℕ) (grid : GridView) →
+    slice_get grids i ≡ Some grid → (label : Label) × (slice_get labels i ≡ Some label) × (label.grid ≡ grid)
+grid_there grids [] same i grid there =
+    absurd (nothing_there i grid (subst (λ (gs : List GridView). slice_get gs i ≡ Some grid) (sym same) there))
+grid_there grids (label ∷ labels) same zero grid there =
+    let at : slice_get (grids_of (label ∷ labels)) 0 ≡ Some grid =
+    subst (λ (gs : List GridView). slice_get gs 0 ≡ Some grid) (sym same) there in
+    (label, refl, cc (at))
+grid_there grids (label ∷ labels) same (suc i) grid there =
+    grid_there (grids_of labels) labels refl i grid
+    (subst (λ (gs : List GridView). slice_get gs (suc i) ≡ Some grid) (sym same) there)
+
+after_some : {X : Type 0} (xs ys : List X) (i : ℕ) (x : X) → slice_get ys i ≡ Some x → (j : ℕ) × (slice_get (xs ++ ys) j ≡ Some x)
+after_some [] ys i x there = (i, there)
+after_some (z ∷ zs) ys i x there = let rest = after_some zs ys i x there in (suc rest.0, rest.1)
+
+-- ---- the beginning
+
+get_fresh : (from i : ℕ) (ranges : List Range) (range : Range) → slice_get ranges i ≡ Some range →
+    slice_get (fresh_from from ranges) i ≡ Some (Running (opening (from + i) range))
+get_fresh from i [] range there = cc (there)
+get_fresh from zero (one ∷ ranges) range there =
+    let same : one ≡ range = cc (there) in
+    let number : from ≡ from + 0 = omega arith in
+    ap (λ (r : Range). Some (Running (opening from r))) same
+    ∙ ap (λ (n : ℕ). Some (Running (opening n range))) number
+get_fresh from (suc i) (one ∷ ranges) range there =
+    let number : from + 1 + i ≡ from + suc i = omega arith in
+    get_fresh (from + 1) i ranges range there ∙ ap (λ (n : ℕ). Some (Running (opening n range))) number
+
+none_yet : (site : List At) → length site ≡ length (map (λ (at : At). let o : Option ℕ = None in o) site)
+none_yet [] = refl
+none_yet (at ∷ site) = ap suc (none_yet site)
+
+none_at : (site : List At) (p : ℕ) (o : Option ℕ) →
+    slice_get (map (λ (at : At). let o : Option ℕ = None in o) site) p ≡ Some o → o ≡ None
+none_at [] p o there = cc (there)
+none_at (at ∷ site) zero o there = cc (there)
+none_at (at ∷ site) (suc p) o there = none_at site p o there
+
+pub begun : (A : Type 0) (ranges : List Range) (site : List At) →
+    ((place : ℕ) (at : At) → slice_get site place ≡ Some at → IsBlank at) → Stands A ranges [] site
+begun A ranges site blank = record {
+  moments = [];
+  relay = start ranges [];
+  run = refl;
+  numbers = map (λ (at : At). None) site;
+  count = none_yet site;
+  each = λ place at o there is.
+      let b = blank place at there in
+      subst (HoldsSo (start ranges []) at.files.joint) (sym (none_at site place o is)) (b.store_honest, b.store);
+  once = λ p q number a b. absurd (let none = none_at site p (Some number) a in cc (none));
+  fresh = λ number range there none.
+      get_fresh 0 number ranges range there
+      ∙ ap (λ (n : ℕ). Some (Running (opening n range))) (let same : 0 + number ≡ number = omega arith in same);
+  made = λ p number a. absurd (let none = none_at site p (Some number) a in cc (none));
+  gave = λ ticket s. absurd (nothing_ran _ s);
+  printed = λ number label there. absurd (nothing_there number label there);
+  grids = λ grid s. absurd (nothing_ran _ s);
+  used = λ id s. absurd (nothing_ran _ s);
+}
+
+-- ---- one more command
+
+pub runs_on : {A : Type 0} (first : Relay) (earlier : List (Moment A)) (mid : Relay) (later : List (Moment A))
+    (end : Relay) → IsRun first earlier mid → IsRun mid later end → IsRun first (later ++ earlier) end
+runs_on {A} first earlier mid [] end one other = subst (IsRun first earlier) (sym other) one
+runs_on first earlier mid (moment ∷ later) end one other =
+    (runs_on first earlier mid later moment.before one other.0, other.1)
+
+other_there : {X : Type 0} (xs : List X) (i j : ℕ) (x : X) → (j ≡ i → ⊥) →
+    slice_get (slice_set xs i x) j ≡ slice_get xs j
+other_there [] i j x isnt = refl
+other_there (z ∷ zs) zero zero x isnt = absurd (isnt refl)
+other_there (z ∷ zs) zero (suc j) x isnt = refl
+other_there (z ∷ zs) (suc i) zero x isnt = refl
+other_there (z ∷ zs) (suc i) (suc j) x isnt = other_there zs i j x (λ e. isnt (ap suc e))
+
+module _ (A : Type 0) (ranges : List Range) (earlier : List (Ran A)) (site : List At) (s : Stands A ranges earlier site)
+    (ran : Ran A) (place : ℕ) (found : slice_get site place ≡ Some (at_its_path ran ran.before.files)) where
+  abbrev now : List (Ran A)
+  now = earlier ++ ran ∷ []
+
+  abbrev next : List At
+  next = slice_set site place (at_its_path ran ran.after.files)
+
+  pub its_number : (o : Option ℕ) × (slice_get s.numbers place ≡ Some o)
+  its_number = let its = at_place site s.numbers place (at_its_path ran ran.before.files) s.count found in (its.0, its.1)
+
+  pub holds : HoldsSo s.relay ran.before.files.joint its_number.0
+  holds = s.each place (at_its_path ran ran.before.files) its_number.0 found its_number.1
+
+  as_many : length next ≡ length s.numbers
+  as_many = length-set site place (at_its_path ran ran.after.files) ∙ s.count
+
+  made_now : (number : ℕ) → WasMade (all_made earlier) number → WasMade (all_made now) number
+  made_now number (i, one, there, is) = (
+    i,
+    one,
+    subst (λ (ms : List Made). slice_get ms i ≡ Some one) (sym (made_more earlier ran))
+        (get_more (all_made earlier) (made_by ran.command ran.before ran.after) i one there),
+    is,
+  )
+
+  -- nothing was printed, or given
+  module _ (no_job : (passed ran).printed ≡ None) (no_ticket : (passed ran).given ≡ None) where
+    gave_before : (ticket : TicketView) → SomeRan (Gave ticket) now → (it : ℕ) × (slice_get s.relay.tickets it ≡ Some ticket)
+    gave_before ticket some = elim (before_or_now (Gave ticket) earlier ran some) [
+      | inl old ↦ s.gave ticket old
+      | inr new ↦ absurd (some_none _ no_ticket ticket new)
+    ]
+
+    grids_before : (grid : GridView) → SomeRan (HasLabel grid) now → LeftAs s.relay grid
+    grids_before grid some = elim (before_or_now (HasLabel grid) earlier ran some) [
+      | inl old ↦ s.grids grid old
+      | inr new ↦ absurd (if_none _ (passed ran).printed no_job new)
+    ]
+
+    used_before : (id : ℕ) → SomeRan (HasId id) now → 1 ≤ gone s.relay.moves id
+    used_before id some = elim (before_or_now (HasId id) earlier ran some) [
+      | inl old ↦ s.used id old
+      | inr new ↦ absurd (if_none _ (passed ran).printed no_job new)
+    ]
+
+    -- these stores hold ledgers of these numbers
+    stays : (numbers : List (Option ℕ)) → length next ≡ length numbers →
+        ((place : ℕ) (at : At) (o : Option ℕ) → slice_get next place ≡ Some at → slice_get numbers place ≡ Some o →
+        HoldsSo s.relay at.files.joint o) →
+        ((p q number : ℕ) → slice_get numbers p ≡ Some (Some number) → slice_get numbers q ≡ Some (Some number) → p ≡ q) →
+        ((number : ℕ) (range : Range) → slice_get ranges number ≡ Some range →
+        ((p : ℕ) → slice_get numbers p ≡ Some (Some number) → ⊥) →
+        slice_get s.relay.printers number ≡ Some (Running (opening number range))) →
+        ((p number : ℕ) → slice_get numbers p ≡ Some (Some number) → WasMade (all_made now) number) →
+        Stands A ranges now next
+    stays numbers count each once fresh made = record {
+      moments = s.moments;
+      relay = s.relay;
+      run = s.run;
+      numbers = numbers;
+      count = count;
+      each = each;
+      once = once;
+      fresh = fresh;
+      made = made;
+      gave = gave_before;
+      printed = λ number label there. one_before _ earlier ran (s.printed number label there);
+      grids = grids_before;
+      used = used_before;
+    }
+
+    -- the store holds what it did, or as good as
+    still_holds : HoldsSo s.relay ran.after.files.joint its_number.0 → Stands A ranges now next
+    still_holds here = stays s.numbers as_many
+        (λ p at o there is. elim (set_at site place p (at_its_path ran ran.after.files) at there) [
+          | inl same ↦
+              let o_is : its_number.0 ≡ o =
+              (let mine = its_number.1 in let at_p : slice_get s.numbers place ≡ Some o =
+              subst (λ (n : ℕ). slice_get s.numbers n ≡ Some o) (sym same.0) is in cc (mine, at_p)) in
+              subst (λ (a : At). HoldsSo s.relay a.files.joint o) same.1
+              (subst (HoldsSo s.relay ran.after.files.joint) o_is here)
+          | inr other ↦ s.each p at o other.1 is
+        ])
+        s.once s.fresh (λ p number is. made_now number (s.made p number is))
+
+    -- a ledger was made
+    module _ (number : ℕ) (range : Range) (none : its_number.0 ≡ None)
+        (is_one : made_by ran.command ran.before ran.after ≡ record { number = number; range = range } ∷ [])
+        (in_ranges : slice_get ranges number ≡ Some range) (first : (p : ℕ) → slice_get s.numbers p ≡ Some (Some number) → ⊥)
+        (keeps : Keeps ran.after.files.joint (Running (opening number range))) where
+      abbrev numbered : List (Option ℕ)
+      numbered = slice_set s.numbers place (Some number)
+
+      here_once : (q other : ℕ) → slice_get numbered q ≡ Some (Some other) → (place ≡ q → ⊥) →
+          slice_get s.numbers q ≡ Some (Some other)
+      here_once q other is isnt = sym (other_there s.numbers place q (Some number) (λ e. isnt (sym e))) ∙ is
+
+      mine : (q other : ℕ) → slice_get numbered q ≡ Some (Some other) → place ≡ q → number ≡ other
+      mine q other is same =
+          let here : slice_get numbered place ≡ Some (Some number) =
+          set_there s.numbers place its_number.0 (Some number) its_number.1 in
+          let there : slice_get numbered place ≡ Some (Some other) =
+          subst (λ (n : ℕ). slice_get numbered n ≡ Some (Some other)) (sym same) is in
+          cc (here, there)
+
+      numbered_once : (p q other : ℕ) → slice_get numbered p ≡ Some (Some other) → slice_get numbered q ≡ Some (Some other) →
+          p ≡ q
+      numbered_once p q other a b = by_place (same_or_other place p) (same_or_other place q)
+        where
+          by_place : ((place ≡ p) ⊎ (place ≡ p → ⊥)) → ((place ≡ q) ⊎ (place ≡ q → ⊥)) → p ≡ q
+          by_place (inl e) (inl f) = sym e ∙ f
+          by_place (inl e) (inr isnt) = absurd (first q (subst (λ (n : ℕ). slice_get s.numbers q ≡ Some (Some n))
+              (sym (mine p other a e)) (here_once q other b isnt)))
+          by_place (inr isnt) (inl f) = absurd (first p (subst (λ (n : ℕ). slice_get s.numbers p ≡ Some (Some n))
+              (sym (mine q other b f)) (here_once p other a isnt)))
+          by_place (inr isnt) (inr isnt_too) =
+              s.once p q other (here_once p other a isnt) (here_once q other b isnt_too)
+
+      makes_one : Stands A ranges now next
+      makes_one = stays numbered (as_many ∙ sym (length-set s.numbers place (Some number)))
+          (λ p at o there is. elim (set_at site place p (at_its_path ran ran.after.files) at there) [
+            | inl same ↦
+                let here : slice_get numbered place ≡ Some (Some number) =
+                set_there s.numbers place its_number.0 (Some number) its_number.1 in
+                let at_p : slice_get numbered place ≡ Some o =
+                subst (λ (n : ℕ). slice_get numbered n ≡ Some o) (sym same.0) is in
+                let o_is : Some number ≡ o = cc (here, at_p) in
+                subst (λ (a : At). HoldsSo s.relay a.files.joint o) same.1 (subst (HoldsSo s.relay ran.after.files.joint) o_is
+                (Running (opening number range), s.fresh number range in_ranges first, keeps))
+            | inr other ↦ s.each p at o other.1
+                (sym (other_there s.numbers place p (Some number) (λ e. other.0 (sym e))) ∙ is)
+          ])
+          numbered_once
+          (λ other its there unmade. s.fresh other its there (λ p is. elim (same_or_other place p) [
+            | inl e ↦ absurd (let at : slice_get s.numbers place ≡ Some (Some other) =
+                subst (λ (n : ℕ). slice_get s.numbers n ≡ Some (Some other)) (sym e) is in
+                let own = its_number.1 in cc (at, own, none))
+            | inr isnt ↦ unmade p (other_there s.numbers place p (Some number) (λ e. isnt (sym e)) ∙ is)
+          ]))
+          (λ p other is. elim (same_or_other place p) [
+            | inl e ↦ (
+              length (all_made earlier),
+              record { number = number; range = range },
+              subst (λ (ms : List Made). slice_get ms (length (all_made earlier)) ≡ Some (record { number = number; range = range }))
+                  (sym (made_more earlier ran ∙ ap (λ (ms : List Made). all_made earlier ++ ms) is_one))
+                  (at_length (all_made earlier) (record { number = number; range = range })),
+              mine p other is e,
+            )
+            | inr isnt ↦ made_now other (s.made p other (here_once p other is isnt))
+          ])
+
+  -- ---- its printer was called
+
+  module _ (disjoint : AreDisjoint ranges) (number : ℕ) (is_number : its_number.0 ≡ Some number)
+      (f : Follows A s.relay number ran.before.streams.input ran.after.files.joint (passed ran).printed (passed ran).given)
+      (out : (job : JobView) → (passed ran).printed ≡ Some job →
+      IsOut ran.before.streams ran.after.streams job) where
+    whole : IsRun (start ranges []) (f.moments ++ s.moments) f.after
+    whole = runs_on (start ranges []) s.moments s.relay f.moments f.after s.run f.runs.run
+
+    sound_before : IsSound s.relay
+    sound_before = (each_run_is_sound A ranges [] s.moments s.relay disjoint s.run).0
+
+    sound_after : IsSound f.after
+    sound_after = (each_run_is_sound A ranges [] (f.moments ++ s.moments) f.after disjoint whole).0
+
+    moved : (id : ℕ) → gone f.after.moves id ≡ gone s.relay.moves id + gone f.goods.moves id
+    moved id = ap (λ (r : Relay). gone r.moves id) f.runs.after_is ∙ gone_more s.relay.moves f.goods.moves id
+
+    used_one : (id : ℕ) → gone (Used id ∷ []) id ≡ 1
+    used_one id = let same : (id == id) ≡ true = eq-eqb id id refl in ap (λ b. one_if b + 0) same
+
+    -- its identification was not used before
+    uses_new : (job : JobView) → (passed ran).printed ≡ Some job → (gone s.relay.moves job.id ≡ 0) × (gone f.after.moves job.id ≡ 1)
+    uses_new job is =
+        let one : gone f.goods.moves job.id ≡ 1 =
+        ap (λ (ms : List Move). gone ms job.id) (f.used job is) ∙ used_one job.id in
+        let all = moved job.id in
+        let most : gone f.after.moves job.id ≤ 1 = (let apart = sound_after.apart job.id in omega arith) in
+        (omega arith, omega arith)
+
+    first_of_its_id : IsFirstOfItsId earlier ran
+    first_of_its_id = by (passed ran).printed refl
+      where
+        by : (o : Option JobView) → (passed ran).printed ≡ o → IfSome o (λ job.
+            ¬ SomeRan (λ other. IsSomeAnd (passed other).printed (λ its. its.id ≡ job.id)) earlier)
+        by None is = tt
+        by (Some job) is = λ before. let one = s.used job.id before in let none = (uses_new job is).0 in omega arith
+
+    other_printer : (other : ℕ) → (other ≡ number → ⊥) → slice_get f.after.printers other ≡ slice_get s.relay.printers other
+    other_printer other isnt = ap (λ (r : Relay). slice_get r.printers other) f.runs.after_is
+        ∙ other_there s.relay.printers number other f.runs.actor isnt
+
+    -- the number stands at this place alone
+    away : (p other : ℕ) → (place ≡ p → ⊥) → slice_get s.numbers p ≡ Some (Some other) → other ≡ number → ⊥
+    away p other isnt is same = isnt (s.once place p number (its_number.1 ∙ ap (λ (o : Option ℕ). Some o) is_number)
+        (is ∙ ap (λ (n : ℕ). Some (Some n)) same))
+
+    still_elsewhere : (p : ℕ) (saved : Saved) (o : Option ℕ) → (place ≡ p → ⊥) → slice_get s.numbers p ≡ Some o →
+        HoldsSo s.relay saved o → HoldsSo f.after saved o
+    still_elsewhere p saved None isnt is h = h
+    still_elsewhere p saved (Some other) isnt is (actor, there, keeps) =
+        (actor, other_printer other (away p other isnt is) ∙ there, keeps)
+
+    label_new : (i : ℕ) (label : Label) → slice_get f.goods.labels i ≡ Some label → Prints label.page.id label.cut.bytes ran
+    label_new i label there =
+        let its : IsOfJob ran.before.streams.input (passed ran).printed label = f.printed i label there in
+        let o = out its.it its.job_is in
+        record {
+          rest = its.rest;
+          read = its.read;
+          job = its.it;
+          job_is = its.job_is;
+          id_is = sym its.id_is;
+          labels = λ k grid at. let c = o.labels k grid at in (c.0, c.1, c.2 ∙ sym its.id_is);
+          written = o.written;
+        }
+
+    labels_are : f.after.labels ≡ s.relay.labels ++ f.goods.labels
+    labels_are = ap (λ (r : Relay). r.labels) f.runs.after_is
+
+    tickets_are : f.after.tickets ≡ s.relay.tickets ++ f.goods.tickets
+    tickets_are = ap (λ (r : Relay). r.tickets) f.runs.after_is
+
+    old_label : (grid : GridView) → LeftAs s.relay grid → LeftAs f.after grid
+    old_label grid (n, label, there, is) = (
+      n,
+      label,
+      subst (λ (ls : List Label). slice_get ls n ≡ Some label) (sym labels_are)
+          (get_more s.relay.labels f.goods.labels n label there),
+      is,
+    )
+
+    new_label : (grid : GridView) → HasLabel grid ran → LeftAs f.after grid
+    new_label grid has =
+        let j = some_as _ (passed ran).printed has in
+        let same : grids_of f.goods.labels ≡ j.0.labels = f.labels ∙ ap grids_in j.1 in
+        let g = grid_there j.0.labels f.goods.labels same j.2.0 grid j.2.1 in
+        let a = after_some s.relay.labels f.goods.labels j.2.0 g.0 g.1 in
+        (a.0, g.0, subst (λ (ls : List Label). slice_get ls a.0 ≡ Some g.0) (sym labels_are) a.1, g.2)
+
+    called : Stands A ranges now next
+    called = record {
+      moments = f.moments ++ s.moments;
+      relay = f.after;
+      run = whole;
+      numbers = s.numbers;
+      count = as_many;
+      each = λ p at o there is. elim (set_at site place p (at_its_path ran ran.after.files) at there) [
+        | inl same ↦
+            let at_p : slice_get s.numbers place ≡ Some o =
+            subst (λ (n : ℕ). slice_get s.numbers n ≡ Some o) (sym same.0) is in
+            let own = its_number.1 in
+            let o_is : Some number ≡ o = cc (own, at_p, is_number) in
+            subst (λ (a : At). HoldsSo f.after a.files.joint o) same.1 (subst (HoldsSo f.after ran.after.files.joint) o_is
+            (f.runs.actor, f.runs.there, f.runs.keeps))
+        | inr other ↦ still_elsewhere p at.files.joint o (λ e. other.0 e) is (s.each p at o other.1 is)
+      ];
+      once = s.once;
+      fresh = λ other range there unmade. other_printer other (λ e. unmade place
+          (its_number.1 ∙ ap (λ (o : Option ℕ). Some o) is_number ∙ ap (λ (n : ℕ). Some (Some n)) (sym e)))
+          ∙ s.fresh other range there unmade;
+      made = λ p other is. made_now other (s.made p other is);
+      gave = λ ticket some. elim (before_or_now (Gave ticket) earlier ran some) [
+        | inl old ↦
+            let t = s.gave ticket old in (
+              t.0,
+              subst (λ (ts : List TicketView). slice_get ts t.0 ≡ Some ticket) (sym tickets_are)
+                  (get_more s.relay.tickets f.goods.tickets t.0 ticket t.1),
+            )
+        | inr new ↦
+            let one : f.goods.tickets ≡ ticket ∷ [] = f.tickets ∙ ap (listed {X = TicketView}) new in
+            let at : slice_get f.goods.tickets 0 ≡ Some ticket = ap (λ (ts : List TicketView). slice_get ts 0) one in
+            let a = after_some s.relay.tickets f.goods.tickets 0 ticket at in
+            (a.0, subst (λ (ts : List TicketView). slice_get ts a.0 ≡ Some ticket) (sym tickets_are) a.1)
+      ];
+      printed = λ n label there. elim (in_either s.relay.labels f.goods.labels n label
+          (subst (λ (ls : List Label). slice_get ls n ≡ Some label) labels_are there)) [
+            | inl old ↦ one_before _ earlier ran (s.printed n label old)
+            | inr new ↦ one_now _ earlier ran (label_new new.0 label new.2)
+          ];
+      grids = λ grid some. elim (before_or_now (HasLabel grid) earlier ran some) [
+        | inl old ↦ old_label grid (s.grids grid old)
+        | inr new ↦ new_label grid new
+      ];
+      used = λ id some. elim (before_or_now (HasId id) earlier ran some) [
+        | inl old ↦ let one = s.used id old in let all = moved id in omega arith
+        | inr new ↦
+            let j = some_as _ (passed ran).printed new in
+            subst (λ (n : ℕ). 1 ≤ gone f.after.moves n) j.2 (let one = (uses_new j.0 j.1).1 in omega arith)
+      ];
+    }
+
+-- ---- whatever the command
+
+effect_at : (A : Type 0) (relay : Relay) (command : Command) (before after : OnDesk) (ends : Ends A command before after)
+    (o : Option ℕ) → HoldsSo relay before.files.joint o → Taken relay (passed_at ends).taken →
+    Effect A relay o command before after (passed_at ends)
+effect_at A relay command before after (exited status does) o holds left =
+    effect A relay before after status command does o holds left
+effect_at A relay command before after (cut_short status does) o holds left =
+    effect A relay before after status command does o holds left
+
+out_at : (A : Type 0) (command : Command) (before after : OnDesk) (ends : Ends A command before after) (job : JobView) →
+    (passed_at ends).printed ≡ Some job → IsOut before.streams after.streams job
+out_at A command before after (exited status does) job is = out_of A before after status command does job is
+out_at A command before after (cut_short status does) job is = out_of A before after status command does job is
+
+-- what is so once it ran: more labels may have left
+pub record OneMore (A : Type 0) (ranges : List Range) (earlier : List (Ran A)) (relay : Relay) (ran : Ran A)
+    (next : List At) : Type 0 where
+  pub stands : Stands A ranges (earlier ++ ran ∷ []) next
+  pub first : IsFirstOfItsId earlier ran
+  pub more : List Label
+  pub labels : stands.relay.labels ≡ relay.labels ++ more
+
+no_first : {A : Type 0} (earlier : List (Ran A)) (ran : Ran A) → (passed ran).printed ≡ None → IsFirstOfItsId earlier ran
+no_first earlier ran none = by (passed ran).printed none
+  where
+    by : (o : Option JobView) → o ≡ None → IfSome o (λ job.
+        ¬ SomeRan (λ other. IsSomeAnd (passed other).printed (λ its. its.id ≡ job.id)) earlier)
+    by None is = tt
+    by (Some job) is = absurd (cc (is))
+
+module _ (A : Type 0) (ranges : List Range) (disjoint : AreDisjoint ranges) (earlier : List (Ran A)) (site : List At)
+    (s : Stands A ranges earlier site) (ran : Ran A) (place : ℕ)
+    (found : slice_get site place ≡ Some (at_its_path ran ran.before.files))
+    (made_apart : (one : Made) → made_by ran.command ran.before ran.after ≡ one ∷ [] →
+    (slice_get ranges one.number ≡ Some one.range) × (WasMade (all_made earlier) one.number → ⊥))
+    (left : Taken s.relay (passed ran).taken) where
+  abbrev Next : Type 0
+  Next = OneMore A ranges earlier s.relay ran (slice_set site place (at_its_path ran ran.after.files))
+
+  by_effect : Effect A s.relay (its_number A ranges earlier site s ran place found).0 ran.command ran.before ran.after
+      (passed ran) → Next
+  unfolding still_holds stays makes_one called
+  by_effect (idle same no_job no_ticket) = record {
+    stands = still_holds A ranges earlier site s ran place found no_job no_ticket
+        (subst (λ (j : Saved). HoldsSo s.relay j (its_number A ranges earlier site s ran place found).0) (sym same)
+        (holds A ranges earlier site s ran place found));
+    first = no_first earlier ran no_job;
+    more = [];
+    labels = sym (append-nil s.relay.labels);
+  }
+  by_effect (unmade none honest content no_job no_ticket) = record {
+    stands = still_holds A ranges earlier site s ran place found no_job no_ticket
+        (subst (HoldsSo s.relay ran.after.files.joint) (sym none) (honest, content));
+    first = no_first earlier ran no_job;
+    more = [];
+    labels = sym (append-nil s.relay.labels);
+  }
+  by_effect (makes number range none honest ranged content is_one no_job no_ticket) =
+      let its = made_apart (record { number = number; range = range }) is_one in
+      record {
+        stands = makes_one A ranges earlier site s ran place found no_job no_ticket number range none is_one its.0
+            (λ p is. its.1 (s.made p number is))
+            (record { honest = honest; sound = opening_sound number range ranged; content = content });
+        first = no_first earlier ran no_job;
+        more = [];
+        labels = sym (append-nil s.relay.labels);
+      }
+  by_effect (follows number is f) = record {
+    stands = called A ranges earlier site s ran place found disjoint number is f
+        (out_at A ran.command ran.before ran.after ran.ends);
+    first = first_of_its_id A ranges earlier site s ran place found disjoint number is f
+        (out_at A ran.command ran.before ran.after ran.ends);
+    more = f.goods.labels;
+    labels = ap (λ (r : Relay). r.labels) f.runs.after_is;
+  }
+
+  pub one_more : Next
+  one_more = by_effect (effect_at A s.relay ran.command ran.before ran.after ran.ends
+      (its_number A ranges earlier site s ran place found).0 (holds A ranges earlier site s ran place found) left)

@@ -1,0 +1,164 @@
+-- The commands of the program, one after another: what each found and left, and two laws. No identification is printed
+-- twice, and what is delivered was printed. Neither law says that any command succeeds.
+--
+-- The stores and sets are honest: each holds what it was last given to hold, or, after a save that failed, that or what it
+-- held before. Files on a disk that keeps its promise are such stores; that a system's disk keeps it is trusted. Each
+-- command has what is at its path to itself until it ends: of two at one path at once nothing is said.
+use Rattle.std.specs.Prelude.{◌≡◌, ◌≢◌, ◌++◌, ◌∷◌, ◌⊎◌, ℕ, AllPairs, Bool, IfSome, IsSomeAnd, IsTrue, List, [], None, Option, Some, slice_get, slice_set}
+use Rattle.std.specs.List.{AllByRecursion}
+use Rattle.std.specs.FinMap as finite
+use Rattle.std.specs.Io.KnownBytes.{Appends}
+use Rattle.dm_finder_frame.specs.Frame.{GridView}
+use Rattle.dm_symbol.specs.Correction.{IsNear}
+use Rattle.dm_append_label.specs.Labels.{Carries, PageView}
+use Rattle.dm_print_ledger.specs.Ledger.{JobView}
+use Rattle.dm_event_history.specs.Headline.{IsApart}
+use Rattle.relay_command.specs.declared.command.Command.{Command}
+use Rattle.relay_streams.specs.Streams.{AppendsPart, InputView}
+use Rattle.relay_shared.specs.Command.{ReadsDocument}
+use Rattle.relay_printer_commands.specs.Print.{images_of}
+use Rattle.relay_desk_commands.specs.Desks.{DeskFiles, IsTextOfId, OnDesk}
+use Rattle.relay.specs.Commands.{Does}
+use Rattle.relay_program_runs.specs.Passed.{Made, Passed, made_by, passed_by, path_of, text_of}
+
+-- ---- commands that ran
+
+-- A command exited with this status. Or the machine cut it short: then it left what it leaves if from some point on each
+-- call and each write fails, and nobody saw the status of that. If a save failed and the machine stopped before the file
+-- was read again, the command counts as cut short, since the stop may have undone the save.
+pub data Ends (A : Type 0) (command : Command) (before after : OnDesk) : Type 0 where
+  exited : (status : ℕ) → Does A command before status after → Ends A command before after
+  cut_short : (status : ℕ) → Does A command before status after → Ends A command before after
+
+-- A command with its options; what it found and what it left: the store at its path, the set beside it, and its streams;
+-- and how it ended, with the clause of `do_command` that says so. `A` is what it allocates in.
+pub record Ran (A : Type 0) : Type 0 where
+  pub command : Command
+  pub before : OnDesk
+  pub after : OnDesk
+  pub ends : Ends A command before after
+
+abbrev pub status_of : {A : Type 0} {command : Command} {before after : OnDesk} → Ends A command before after → Option ℕ
+status_of (exited status does) = Some status
+status_of (cut_short status does) = None
+
+-- what it let out and took in
+abbrev pub passed_at : {A : Type 0} {command : Command} {before after : OnDesk} → Ends A command before after → Passed
+passed_at {A} {command} {before} {after} (exited status does) = passed_by A command before status after does
+passed_at {A} {command} {before} {after} (cut_short status does) = passed_by A command before status after does
+
+abbrev pub passed : {A : Type 0} → Ran A → Passed
+passed ran = passed_at ran.ends
+
+-- ---- a site
+
+-- what is at a path: a store, and a set beside it
+pub record At : Type 0 where
+  pub path : List ℕ
+  pub files : DeskFiles
+
+-- they are honest, and hold nothing
+pub record IsBlank (at : At) : Type 0 where
+  pub store_honest : IsTrue at.files.joint.is_honest
+  pub store : at.files.joint.content ≡ None
+  pub set_honest : IsTrue at.files.set.is_honest
+  pub set : at.files.set.content ≡ finite.empty
+
+-- no path stands there twice, and nothing is at any
+pub record IsNew (site : List At) : Type 0 where
+  pub paths : AllPairs (λ one other. one.path ≢ other.path) site
+  pub blank : (place : ℕ) (at : At) → slice_get site place ≡ Some at → IsBlank at
+
+abbrev pub at_its_path : {A : Type 0} → Ran A → DeskFiles → At
+at_its_path ran files = record { path = path_of ran.command; files = files }
+
+-- The commands ran one after another, the oldest first. Each found at its path what is there, and what it left is there
+-- then; nothing else changes it.
+abbrev pub Runs : {A : Type 0} → List At → List (Ran A) → Type 0
+Runs site [] = Unit {0}
+Runs site (ran ∷ later) = (place : ℕ) × (slice_get site place ≡ Some (at_its_path ran ran.before.files))
+    × Runs (slice_set site place (at_its_path ran ran.after.files)) later
+
+-- so it is of each of them, by those that ran before it
+abbrev pub Each : {A : Type 0} → (List (Ran A) → Ran A → Type 0) → List (Ran A) → List (Ran A) → Type 0
+Each P earlier [] = Unit {0}
+Each P earlier (ran ∷ later) = P earlier ran × Each P (earlier ++ ran ∷ []) later
+
+-- so it is of one of these
+abbrev pub SomeRan : {A : Type 0} → (Ran A → Type 0) → List (Ran A) → Type 0
+SomeRan {A} P rans = (number : ℕ) × (ran : Ran A) × (slice_get rans number ≡ Some ran) × P ran
+
+-- ---- premises
+
+abbrev pub all_made : {A : Type 0} → List (Ran A) → List Made
+all_made [] = []
+all_made (ran ∷ later) = made_by ran.command ran.before ran.after ++ all_made later
+
+-- two ledgers are of two numbers, and no identification is in both ranges
+abbrev pub AreApart : Made → Made → Type 0
+AreApart one other = (one.number ≢ other.number) × IsApart one.range other.range
+
+-- a ticket that it took in was given before
+abbrev pub TakesGiven : {A : Type 0} → List (Ran A) → Ran A → Type 0
+TakesGiven earlier ran = IfSome (passed ran).taken (λ ticket. SomeRan (λ giver. (passed giver).given ≡ Some ticket) earlier)
+
+-- the grid is one of the labels of its job, or it is the label that `copy` wrote at one of these paths
+abbrev pub LetsOut : {A : Type 0} → (List ℕ → Type 0) → GridView → Ran A → Type 0
+LetsOut IsAmong grid ran = IsSomeAnd (passed ran).printed (λ job. (i : ℕ) × (slice_get job.labels i ≡ Some grid))
+    ⊎ (((passed ran).copied ≡ Some grid) × IsAmong (path_of ran.command))
+
+-- At one of these paths it took in grids near such labels alone, and files that were exported before at one of these paths.
+pub record TakesPrinted {A : Type 0} (IsAmong : List ℕ → Type 0) (earlier : List (Ran A)) (ran : Ran A) : Type 0 where
+  pub scans : IsAmong (path_of ran.command) → AllByRecursion (λ grid. (own : GridView) × IsNear grid own
+      × SomeRan (LetsOut IsAmong own) earlier) (passed ran).scanned
+  pub imports : IsAmong (path_of ran.command) → IfSome (passed ran).imported (λ bytes.
+      SomeRan (λ other. ((passed other).exported ≡ Some bytes) × IsAmong (path_of other.command)) earlier)
+
+-- ---- conclusions
+
+-- no job before had the identification of its job
+abbrev pub IsFirstOfItsId : {A : Type 0} → List (Ran A) → Ran A → Type 0
+IsFirstOfItsId earlier ran = IfSome (passed ran).printed (λ job.
+    ¬ SomeRan (λ other. IsSomeAnd (passed other).printed (λ its. its.id ≡ job.id)) earlier)
+
+-- It read the document, and its job has the identification. Each label of the job carries a page of it, and a first part
+-- of their images was written. Where the bytes of a stream are not known, the clause of the command alone says which.
+pub record Prints {A : Type 0} (id : ℕ) (document : List ℕ) (ran : Ran A) : Type 0 where
+  pub rest : InputView
+  pub read : ReadsDocument ran.before.streams.input rest document
+  pub job : JobView
+  pub job_is : (passed ran).printed ≡ Some job
+  pub id_is : job.id ≡ id
+  pub labels : (i : ℕ) (grid : GridView) → slice_get job.labels i ≡ Some grid →
+      (page : PageView) × Carries page grid × (page.id ≡ id)
+  pub written : AppendsPart ran.before.streams.output.contents ran.after.streams.output.contents (images_of job.labels)
+
+-- It wrote nothing, and its status is 1; or it wrote a first part of a document that was printed before under the
+-- identification of the text, and all of it if its status is 0.
+pub data WritesPrinted {A : Type 0} (earlier : List (Ran A)) (text : List ℕ) (ran : Ran A) : Type 0 where
+  writes_nothing : ran.after.streams.output ≡ ran.before.streams.output
+      → IfSome (status_of ran.ends) (λ status. status ≡ 1) → WritesPrinted earlier text ran
+  writes : (id : ℕ) (document : List ℕ) → IsTextOfId text id → SomeRan (Prints id document) earlier
+      → AppendsPart ran.before.streams.output.contents ran.after.streams.output.contents document
+      → IfSome (status_of ran.ends) (λ status. status ≡ 0 → Appends ran.before.streams.output.contents
+      ran.after.streams.output.contents document) → WritesPrinted earlier text ran
+
+-- so does `deliver` at one of these paths
+abbrev pub DeliversPrinted : {A : Type 0} → (List ℕ → Type 0) → List (Ran A) → Ran A → Type 0
+DeliversPrinted IsAmong earlier ran =
+    IfSome (text_of ran.command) (λ text. IsAmong (path_of ran.command) → WritesPrinted earlier text ran)
+
+-- ---- the laws
+
+-- No identification is printed twice, if ledgers are made apart and tickets are taken as they were given. Of scans nothing
+-- is asked.
+abbrev pub NoIdIsPrintedTwice : Type 0 → Type 0
+NoIdIsPrintedTwice A = (site : List At) (rans : List (Ran A)) → IsNew site → Runs site rans →
+    AllPairs AreApart (all_made rans) → Each TakesGiven [] rans → Each IsFirstOfItsId [] rans
+
+-- What is delivered at some paths was printed, if besides what they took in was printed. So a misread elsewhere is no
+-- matter, unless a copy or an export comes from there.
+abbrev pub WhatIsDeliveredWasPrinted : Type 0 → Type 0
+WhatIsDeliveredWasPrinted A = (among : List ℕ → Bool) (site : List At) (rans : List (Ran A)) → IsNew site →
+    Runs site rans → AllPairs AreApart (all_made rans) → Each TakesGiven [] rans → Each (TakesPrinted (λ path. IsTrue (among path))) [] rans →
+    Each (DeliversPrinted (λ path. IsTrue (among path))) [] rans

@@ -1,0 +1,3 @@
+pub mod Passed
+pub mod Law
+pub mod Worked

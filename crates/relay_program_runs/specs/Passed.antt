@@ -1,0 +1,86 @@
+-- Of each command: the path that it names, what it let out and took in, and which ledger it made.
+use Rattle.std.specs.Prelude.{◌∷◌, ℕ, List, [], None, Option, Some}
+use Rattle.dm_finder_frame.specs.Frame.{GridView}
+use Rattle.dm_print_ledger.specs.declared.range.Range.{Range}
+use Rattle.dm_print_ledger.specs.Ledger.{JobView, TicketView}
+use Rattle.relay_command.specs.declared.command.Command.{Command}
+use Rattle.relay_command.specs.declared.command.Command.TheVariants.{Copy, Deliver, Export, Forget, Give, Held, Import, Ledger, Left, Print, Scan, Take}
+use Rattle.relay_desk_commands.specs.Desks.{OnDesk}
+use Rattle.relay_runs.specs.Answered.{job_ended, ticket_given, ticket_taken}
+use Rattle.relay_desk_runs.specs.Answered.{file_exported, file_imported, grids_scanned, label_copied}
+use Rattle.relay.specs.Commands.{Does}
+
+-- the path, or the empty one if the command names none
+abbrev pub path_of : Command → List ℕ
+path_of (Ledger file number first last) = file.now
+path_of (Print file number labels scheme) = file.now
+path_of (Give file number to first last) = file.now
+path_of (Take file number ticket) = file.now
+path_of (Left file) = file.now
+path_of (Scan file capacity) = file.now
+path_of (Deliver file id) = file.now
+path_of (Forget file id) = file.now
+path_of (Export file id) = file.now
+path_of (Import file capacity) = file.now
+path_of (Held file id) = file.now
+path_of (Copy file id page side scheme) = file.now
+path_of other = []
+
+-- the text of the identification that `deliver` is to give
+abbrev pub text_of : Command → Option (List ℕ)
+text_of (Deliver file id) = Some id.now
+text_of other = None
+
+-- ---- what was let out and taken in
+
+-- the job of a print, by which its identification is used whatever is written of it; the ticket of a give; the label that
+-- `copy` wrote; the file of an export. And what was taken in, or may have been, since its save failed: a ticket, the grids
+-- of a scan, the file of an import.
+pub record Passed : Type 0 where
+  pub printed : Option JobView
+  pub given : Option TicketView
+  pub copied : Option GridView
+  pub exported : Option (List ℕ)
+  pub taken : Option TicketView
+  pub scanned : List GridView
+  pub imported : Option (List ℕ)
+
+abbrev pub nothing : Passed
+nothing = record {
+  printed = None;
+  given = None;
+  copied = None;
+  exported = None;
+  taken = None;
+  scanned = [];
+  imported = None;
+}
+
+-- by the clause of the command
+abbrev pub passed_by : (A : Type 0) (command : Command) (before : OnDesk) (status : ℕ) (after : OnDesk) →
+    Does A command before status after → Passed
+passed_by A (Print file number labels scheme) before status after does = record nothing { printed = job_ended does.0.0 }
+passed_by A (Give file number to first last) before status after does = record nothing { given = ticket_given does.0 }
+passed_by A (Take file number ticket) before status after does = record nothing { taken = ticket_taken does.0 }
+passed_by A (Scan file capacity) before status after does = record nothing { scanned = grids_scanned does }
+passed_by A (Export file id) before status after does = record nothing { exported = file_exported does }
+passed_by A (Import file capacity) before status after does = record nothing { imported = file_imported does.0 }
+passed_by A (Copy file id page side scheme) before status after does = record nothing { copied = label_copied does }
+passed_by A other before status after does = nothing
+
+-- ---- ledgers
+
+-- the number of its printer, and its range
+pub record Made : Type 0 where
+  pub number : ℕ
+  pub range : Range
+
+abbrev pub made_where : Option (List ℕ) → Option (List ℕ) → Made → List Made
+made_where None (Some bytes) ledger = ledger ∷ []
+made_where before after ledger = []
+
+-- `ledger` made one if there is a file at its path then, and there was none before
+abbrev pub made_by : Command → OnDesk → OnDesk → List Made
+made_by (Ledger file number first last) before after = made_where before.files.joint.content after.files.joint.content
+    (record { number = number; range = record { first = first; last = last } })
+made_by other before after = []

@@ -1,0 +1,21 @@
+//! The two laws: each function's contract is the law.
+
+ghost use Rattle.relay_program_runs.specs.Law.{NoIdIsPrintedTwice, WhatIsDeliveredWasPrinted};
+ghost use Rattle.relay_program_runs.specs.Worked.{RefusalsCountNot};
+
+use std::alloc::Allocator;
+
+/// No identification is printed twice.
+pub fn no_id_is_printed_twice<A: Allocator>()
+    ensures { NoIdIsPrintedTwice A }
+{}
+
+/// What is delivered was printed.
+pub fn what_is_delivered_was_printed<A: Allocator>()
+    ensures { WhatIsDeliveredWasPrinted A }
+{}
+
+/// What is refused counts neither as taken in nor as made.
+pub fn refusals()
+    ensures { RefusalsCountNot }
+{}

@@ -1,0 +1,6 @@
+//! The commands of the program, one after another: no identification is printed twice, and what is delivered was printed. Read
+//! `specs/Law.antt` from top to bottom. The contracts of [`laws`] are what it says.
+#![tactic(auto)]
+
+pub mod laws;
+pub mod worked;

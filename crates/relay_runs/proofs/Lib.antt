@@ -1,0 +1,14 @@
+pub mod Plans
+pub mod Files
+pub mod Places
+pub mod Calling
+pub mod Printing
+pub mod PrintTold
+pub mod Uncalled
+pub mod EachPrint
+pub mod Giving
+pub mod EachGive
+pub mod TicketTexts
+pub mod Taking
+pub mod EachTake
+pub mod Ledgers
