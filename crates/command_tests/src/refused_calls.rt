@@ -3,7 +3,7 @@
 //! command writes.
 
 use dm_append_label::{FileId, LabelFault, Page, SealFault, open_label, seal, still_near};
-use dm_check_blocks::Size;
+use dm_size::Size;
 use dm_encodation::{DecodeFault, Scheme, decode};
 use dm_finder_frame::Grid;
 use dm_pbm_io::{PbmFault, ShapeFault, grid_of, read_image};

@@ -1,8 +1,8 @@
 -- What a grid opens as, from its corrected symbol and the symbol's page; a grid near a label opens as that label's
 -- page.
 use Rattle.std.proofs.Common.{◌≡◌, ℕ, ◌+◌, ◌-◌, ◌*◌, ◌/◌, ◌%◌, ◌≤◌, List, [], ◌∷◌, Result, Ok, Err, take, drop, length, get_or, sym, ap, subst, ◌∙◌, arith, eq-eqb, le-ltb}
-use Rattle.dm_check_blocks.specs.declared.size.Size.{Size}
-use Rattle.dm_check_blocks.specs.Sizes.{IsSymbol}
+use Rattle.dm_size.specs.declared.size.Size.{Size}
+use Rattle.dm_check_blocks.specs.Blocks.{IsSymbol}
 use Rattle.dm_encodation.specs.Grammar.{ReadsOnly}
 use Rattle.dm_finder_frame.specs.Frame.{GridView}
 use Rattle.dm_symbol.specs.Correction.{CorrectedView, CorrectsGrid, CorrectsNear, IsCorrectedAs, IsNear, data_of, grid_of_words}

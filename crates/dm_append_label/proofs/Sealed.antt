@@ -1,6 +1,6 @@
 -- A sealed grid carries its page.
 use Rattle.std.proofs.Common.{◌≡◌, ℕ, List, take, drop, refl, sym, ap, subst, ◌∙◌}
-use Rattle.dm_check_blocks.specs.declared.size.Size.{Size}
+use Rattle.dm_size.specs.declared.size.Size.{Size}
 use Rattle.dm_encodation.specs.declared.scheme.Scheme.{Scheme}
 use Rattle.dm_encodation.specs.Grammar.{ReadsOnly}
 use Rattle.dm_finder_frame.specs.Frame.{GridView}

@@ -2,8 +2,9 @@
 use Rattle.std.specs.Prelude.{ℕ, ◌+◌, ◌/◌, ◌%◌, ◌≤◌, List, [], ◌∷◌, ◌-◌, ◌*◌, ◌<◌, Bool, Result, Ok, Err, ◌||◌, nat_lt, ◌==◌, if◌then◌else◌, ◌≡◌, ◌⊎◌, take, drop, length, slice_range}
 use Rattle.std.specs.List.{concat}
 use Rattle.dm_append_label.specs.declared.fault.HeadFault.{HeadFault}
-use Rattle.dm_check_blocks.specs.declared.size.Size.{Size}
-use Rattle.dm_check_blocks.specs.Sizes.{data_words, IsSymbol}
+use Rattle.dm_size.specs.declared.size.Size.{Size}
+use Rattle.dm_size.specs.Sizes.{data_words}
+use Rattle.dm_check_blocks.specs.Blocks.{IsSymbol}
 use Rattle.dm_encodation.specs.declared.scheme.Scheme.{Scheme}
 use Rattle.dm_encodation.specs.Written.{filled, need_of, IsGreatestPrefix}
 use Rattle.dm_encodation.specs.Grammar.{ReadsOnly}

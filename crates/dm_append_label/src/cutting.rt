@@ -6,7 +6,7 @@ ghost use Rattle.dm_append_label.specs.Labels.{AreEnds, HasNoEnds, IsCut, until_
 use crate::head::HEAD_WORDS;
 use crate::laws::parts_of_a_document;
 use arrayvec::ArrayVec;
-use dm_check_blocks::Size;
+use dm_size::Size;
 use dm_encodation::{Scheme, fit};
 use thiserror::Error;
 

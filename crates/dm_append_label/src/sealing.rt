@@ -8,7 +8,7 @@ ghost use Rattle.dm_append_label.specs.declared.fault.SealFault.TheVariants.{Too
 use crate::fault::SealFault;
 use crate::head::{HEAD_WORDS, Head, words_of_head};
 use crate::page::Page;
-use dm_check_blocks::Size;
+use dm_size::Size;
 use dm_encodation::{EncodeFault, Scheme, encode};
 use dm_finder_frame::Grid;
 use dm_placement::Layout;

@@ -8,9 +8,10 @@ use Rattle.std.proofs.lemmas.Bool.Decides.{nat_tests}
 use Rattle.std.proofs.lemmas.List.{ext_get_or, get_or-append_right}
 use Rattle.std.proofs.Math.ListN.{get_or-append}
 use Rattle.std.proofs.lemmas.List.FromFn.{get_or-map-range_with_len, length-map-range_with_len}
-use Rattle.dm_check_blocks.specs.declared.size.Size.{Size}
-use Rattle.dm_check_blocks.specs.Sizes.{data_words, all_words, blocks, block_checks, block_length, block_data, position, block_of}
-use Rattle.dm_check_blocks.proofs.Sound.{sound}
+use Rattle.dm_size.specs.declared.size.Size.{Size}
+use Rattle.dm_size.specs.Sizes.{data_words, all_words, blocks, block_checks, block_length, block_data}
+use Rattle.dm_check_blocks.specs.Blocks.{position, block_of}
+use Rattle.dm_size.proofs.Sound.{sound}
 
 -- counting on from the end of the data words is counting from the start
 past_data : (i d n e : ℕ) → d ≤ i → e ≡ d * n → e + (i - d) * n ≡ i * n

@@ -4,5 +4,4 @@ pub mod Interleaving
 pub mod ListedGenerators
 pub mod OneCompletion
 pub mod Remainders
-pub mod Sound
 pub mod Symbols

@@ -5,9 +5,10 @@ use Rattle.std.proofs.lemmas.List.{ext_get_or, get_or-take, take_at, take-append
 use Rattle.std.proofs.lemmas.List.Elements.{All-from_get_or, recursion_from_All}
 use Rattle.dm_gf256.specs.Field.{IsBlockWord}
 use Rattle.dm_gf256.proofs.Vanish.{Bytes}
-use Rattle.dm_check_blocks.specs.declared.size.Size.{Size}
-use Rattle.dm_check_blocks.specs.Sizes.{data_words, all_words, blocks, block_checks, block_length, block_data, position, block_of, IsSymbol, Completes}
-use Rattle.dm_check_blocks.proofs.Sound.{sound}
+use Rattle.dm_size.specs.declared.size.Size.{Size}
+use Rattle.dm_size.specs.Sizes.{data_words, all_words, blocks, block_checks, block_length, block_data}
+use Rattle.dm_check_blocks.specs.Blocks.{position, block_of, IsSymbol, Completes}
+use Rattle.dm_size.proofs.Sound.{sound}
 use Rattle.dm_check_blocks.proofs.OneCompletion.{one_completion}
 use Rattle.dm_check_blocks.proofs.Interleaving.{position-lt, position_in_data, length-block_of, get_or-block_of, same_from_blocks}
 

@@ -1,2 +1,2 @@
-pub mod Sizes
+pub mod Blocks
 pub mod inner

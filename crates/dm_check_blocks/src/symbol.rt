@@ -3,12 +3,13 @@
 ghost use Rattle.std.specs.Prelude.{◌≡◌, ◌<◌, ◌+◌, ℕ, List, IfOk, length, slice_index, take};
 ghost use Rattle.std.specs.List.{All};
 ghost use Rattle.dm_gf256.specs.Field.{IsBlockWord};
-ghost use Rattle.dm_check_blocks.specs.Sizes.{data_words, all_words, blocks, block_data, block_checks, block_length, position, block_of, Completes};
+ghost use Rattle.dm_size.specs.Sizes.{data_words, all_words, blocks, block_data, block_checks, block_length};
+ghost use Rattle.dm_check_blocks.specs.Blocks.{position, block_of, Completes};
 ghost use Rattle.dm_check_blocks.specs.inner.Remainders.{row_at, KeepsOtherWords, HoldsData, HoldsChecks};
 
 use crate::checks::fill;
 use crate::multiples::{Multiples, WINDOW_WORDS, Window};
-use crate::size::Size;
+use dm_size::Size;
 use std::alloc::{AllocError, Allocator};
 
 // The most blocks of a symbol, those of side 132.

@@ -84,8 +84,8 @@ fn correct_wrong<L: Locate>(
     }
 }
 
-// Writes the remainder of a block by the generator polynomial, given the block word that its data words have: the sum of
-// the check words of both.
+// Writes the remainder of a block by the generator polynomial, given the block word that its data words have: the sum
+// of the check words of both.
 fn write_remainder(block: &[u8], word: &[u8], remainder: &mut [u8])
     requires most { length remainder.old ≤ MOST_CHECKS }
     requires longer { length remainder.old < length block.now }

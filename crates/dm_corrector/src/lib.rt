@@ -8,10 +8,10 @@
 //!
 //! The way of a block: its data words are completed anew, and by how much its check words differ from the new ones is
 //! its remainder by the generator polynomial. That is zero exactly if the block is a block word, and it has the block's
-//! `syndromes`. For another block these give a locator polynomial, by `massey` or `elimination`, then its `roots` and the
-//! `error_values` at them, and `block` corrects a copy, which counts only if it is a block word. `symbol` completes all
-//! blocks and corrects one after another. Syndromes and roots both come from `values` of polynomials at successive powers
-//! of 2.
+//! `syndromes`. For another block these give a locator polynomial, by `massey` or `elimination`, then its `roots` and
+//! the `error_values` at them, and `block` corrects a copy, which counts only if it is a block word. `symbol` completes
+//! all blocks and corrects one after another. Syndromes and roots both come from `values` of polynomials at successive
+//! powers of 2.
 #![tactic(auto)]
 
 mod block;
@@ -23,13 +23,11 @@ mod massey;
 mod roots;
 mod symbol;
 mod syndromes;
-#[cfg(test)]
-mod tests;
 mod values;
 
 pub use block::{Uncorrectable, correct, correct_with};
 pub use elimination::Elimination;
 pub use locate::{Locate, MOST_COEFFICIENTS};
-pub use massey::Massey;
+pub use massey::{Massey, shortest_recurrence};
 pub use symbol::{BlockFault, correct_symbol};
-pub use syndromes::MOST_WORDS;
+pub use syndromes::{MOST_WORDS, syndromes_of};

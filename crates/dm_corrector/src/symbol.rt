@@ -2,14 +2,16 @@
 
 ghost use Rattle.std.specs.Prelude.{◌≡◌, ◌≢◌, ◌<◌, ◌+◌, ◌*◌, ◌%◌, ℕ, List, length, slice_index, take, IfOk, IfErr, OnOk, OnErr};
 ghost use Rattle.dm_gf256.specs.Field.{differ, IsBlockWord};
-ghost use Rattle.dm_check_blocks.specs.Sizes.{all_words, blocks, block_checks, block_data, block_of, IsSymbol};
+ghost use Rattle.dm_size.specs.Sizes.{all_words, blocks, block_checks, block_data};
+ghost use Rattle.dm_check_blocks.specs.Blocks.{block_of, IsSymbol};
 ghost use Rattle.dm_corrector.specs.Symbols.{Corrects, CorrectsSymbol, IsFirstFaulty};
 ghost use Rattle.dm_corrector.specs.inner.Polynomials.{AddsDifferences};
 
 use crate::block::{Uncorrectable, correct_completed};
 use crate::massey::Massey;
 use crate::syndromes::MOST_WORDS;
-use dm_check_blocks::{Size, complete_blocks};
+use dm_check_blocks::complete_blocks;
+use dm_size::Size;
 use thiserror::Error;
 
 // The most words of a symbol: those of side 132.

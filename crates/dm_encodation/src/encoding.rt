@@ -1,7 +1,7 @@
 //! A symbol's data words.
 
 ghost use Rattle.std.specs.Prelude.{◌≡◌, ◌+◌, ◌-◌, ◌<◌, ◌≤◌, ◌^◌, ◌++◌, ◌↔◌, length, take, drop, IfOk, OnOk, IsErrOf, vec_len};
-ghost use Rattle.dm_check_blocks.specs.Sizes.{data_words};
+ghost use Rattle.dm_size.specs.Sizes.{data_words};
 ghost use Rattle.dm_encodation.specs.Grammar.{ReadsOnly};
 ghost use Rattle.dm_encodation.specs.Written.{text, ends_in_run, filled, need_of};
 ghost use Rattle.dm_encodation.specs.declared.fault.EncodeFault.TheVariants.{TooLong};
@@ -14,7 +14,7 @@ use crate::letters::Letters;
 use crate::pads::fill_up;
 use crate::run::push_run;
 use crate::scheme::Scheme;
-use dm_check_blocks::Size;
+use dm_size::Size;
 use std::alloc::{AllocError, Allocator};
 
 // Writes the words of a text, the first at the position after what was written. Gives whether the

@@ -1,7 +1,7 @@
 -- Calls of each kind: their replies are plain; and a walk over all events by the kind of what each does.
 use Rattle.std.proofs.Common.{arith, ◌≡◌, ℕ, Bool, true, false, length, Option, None, Some, Ok, Err, Result, List, refl}
 use Rattle.dm_finder_frame.specs.Frame.{GridView, flipped}
-use Rattle.dm_check_blocks.specs.declared.size.Size.{Size}
+use Rattle.dm_size.specs.declared.size.Size.{Size}
 use Rattle.dm_encodation.specs.declared.scheme.Scheme.{Scheme}
 use Rattle.dm_append_label.specs.declared.opening.Opened.{Opened}
 use Rattle.dm_append_label.specs.declared.fault.LabelFault.{LabelFault}

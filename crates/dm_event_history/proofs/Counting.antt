@@ -2,7 +2,7 @@
 use Rattle.std.proofs.Common.{◌≡◌, ◌≢◌, ◌⊎◌, ◌+◌, ◌==◌, ◌&&◌, ◌||◌, not, inl, inr, ℕ, zero, suc, Bool, true, false, if◌then◌else◌, Option, Some, List, [], ◌∷◌, length, slice_get, slice_set, refl, sym, ap, subst, ◌∙◌, arith, eq-eqb}
 use Rattle.std.proofs.lemmas.Bool.Decides.{nat_tests}
 use Rattle.std.specs.Option.{option_map_or}
-use Rattle.dm_check_blocks.specs.declared.size.Size.{Size}
+use Rattle.dm_size.specs.declared.size.Size.{Size}
 use Rattle.dm_encodation.specs.declared.scheme.Scheme.{Scheme}
 use Rattle.dm_print_ledger.specs.Ledger.{free_count, size_of, LedgerView, TicketView}
 use Rattle.dm_print_ledger.specs.declared.range.Range.{Range}

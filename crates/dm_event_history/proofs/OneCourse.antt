@@ -1,7 +1,7 @@
 -- What a call comes to is one thing, but for memory.
 use Rattle.std.proofs.Common.{arith, ◌≡◌, ◌⊎◌, ℕ, Option, None, Some, List, Result, refl, ap, subst}
 use Rattle.std.specs.Prelude.{IsSomeAnd, is_some}
-use Rattle.dm_check_blocks.specs.declared.size.Size.{Size}
+use Rattle.dm_size.specs.declared.size.Size.{Size}
 use Rattle.dm_encodation.specs.declared.scheme.Scheme.{Scheme}
 use Rattle.dm_finder_frame.specs.Frame.{GridView}
 use Rattle.dm_print_ledger.specs.declared.range.Range.{Range}

@@ -1,6 +1,6 @@
 -- Each label that leaves is as it was printed.
 use Rattle.std.proofs.Common.{◌≡◌, ◌+◌, ℕ, zero, suc, Some, List, [], ◌∷◌, ◌++◌, length, slice_get, take, sym, ap, subst, ◌∙◌, arith}
-use Rattle.dm_check_blocks.specs.declared.size.Size.{Size}
+use Rattle.dm_size.specs.declared.size.Size.{Size}
 use Rattle.dm_encodation.specs.declared.scheme.Scheme.{Scheme}
 use Rattle.dm_append_label.specs.Labels.{Carries, PageView, AreParts}
 use Rattle.dm_print_ledger.specs.declared.range.Range.{Range}

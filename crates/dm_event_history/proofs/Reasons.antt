@@ -1,7 +1,7 @@
 -- Why events are refused.
 use Rattle.std.proofs.Common.{arith, None, ◌≡◌, ◌≢◌, inl, inr, ℕ, true, false, Some, Err, Result, List, slice_get, sym, ap, subst, Option, is_some}
 use Rattle.dm_finder_frame.specs.Frame.{GridView, flipped}
-use Rattle.dm_check_blocks.specs.declared.size.Size.{Size}
+use Rattle.dm_size.specs.declared.size.Size.{Size}
 use Rattle.dm_encodation.specs.declared.scheme.Scheme.{Scheme}
 use Rattle.dm_append_label.specs.Labels.{PageView, HasNoEnds}
 use Rattle.dm_append_label.specs.Opening.{LabelOpens, OpensNear}

@@ -1,7 +1,7 @@
 -- The parts of the digits.
 use Rattle.std.proofs.Common.{◌≤◌, ℕ, zero, suc, [], ◌∷◌, take, refl, arith}
-use Rattle.dm_check_blocks.specs.declared.size.Size.TheVariants.{Side12}
-use Rattle.dm_check_blocks.specs.Sizes.{row}
+use Rattle.dm_size.specs.declared.size.Size.TheVariants.{Side12}
+use Rattle.dm_size.specs.Sizes.{row}
 use Rattle.dm_encodation.specs.declared.scheme.Scheme.TheVariants.{Ascii}
 use Rattle.dm_encodation.specs.Written.{IsGreatestPrefix, need_of}
 use Rattle.dm_encodation.specs.Written as written

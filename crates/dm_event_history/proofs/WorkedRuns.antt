@@ -4,7 +4,7 @@ use Rattle.std.specs.Prelude.{◌<◌, unwrap_or, if◌then◌else◌, is_none}
 use Rattle.std.specs.FinMap as finite
 use Rattle.std.specs.FinMap.{get-empty, len-empty}
 use Rattle.std.specs.Ordering.{nat_cmp}
-use Rattle.dm_check_blocks.specs.declared.size.Size.TheVariants.{Side12}
+use Rattle.dm_size.specs.declared.size.Size.TheVariants.{Side12}
 use Rattle.dm_encodation.specs.declared.scheme.Scheme.TheVariants.{Ascii}
 use Rattle.dm_symbol.specs.Correction.{CarriesItsWords}
 use Rattle.dm_append_label.specs.Labels.{PageView}

@@ -1,6 +1,6 @@
 -- Single steps of the worked runs.
 use Rattle.std.proofs.Common.{arith, ◌≡◌, ℕ, true, Ok, Some, List, [], ◌∷◌, slice_get, refl}
-use Rattle.dm_check_blocks.specs.declared.size.Size.TheVariants.{Side12}
+use Rattle.dm_size.specs.declared.size.Size.TheVariants.{Side12}
 use Rattle.dm_encodation.specs.declared.scheme.Scheme.TheVariants.{Ascii}
 use Rattle.dm_symbol.specs.Correction.{grid_of_words}
 use Rattle.dm_append_label.specs.Labels.{PageView}

@@ -8,7 +8,7 @@ use Rattle.dm_event_history.specs.declared.reply.Reply.{Reply}
 use Rattle.dm_event_history.specs.declared.stop.Stop.{Stop}
 use Rattle.dm_event_history.specs.declared.stop.Stop.TheVariants.{BeforeSave, InSave, SaveFault, AfterLabels}
 use Rattle.dm_event_history.specs.Relay.{Actor, Running, Failed, Down, stored_of, Goods, Move, Lost, nothing, CutDocument, Label, Used, Took, Export}
-use Rattle.dm_check_blocks.specs.declared.size.Size.{Size}
+use Rattle.dm_size.specs.declared.size.Size.{Size}
 use Rattle.dm_encodation.specs.declared.scheme.Scheme.{Scheme}
 use Rattle.dm_append_label.specs.Labels.{PageView, AreParts, HasNoEnds}
 use Rattle.dm_print_ledger.specs.declared.range.Range.{Range}

@@ -7,7 +7,7 @@ use Rattle.dm_print_ledger.specs.declared.range.Range.{Range}
 use Rattle.dm_print_ledger.specs.Ledger.{LedgerView, TicketView}
 use Rattle.dm_print_ledger.specs.Creating.{opening}
 use Rattle.dm_assembly_desk.specs.Documents.{Pages, Documents}
-use Rattle.dm_check_blocks.specs.declared.size.Size.{Size}
+use Rattle.dm_size.specs.declared.size.Size.{Size}
 use Rattle.dm_encodation.specs.declared.scheme.Scheme.{Scheme}
 
 -- one that runs shows what its store holds; one whose save failed shows what it did before, and its store holds that or

@@ -7,7 +7,7 @@ use Rattle.dm_event_history.specs.declared.reply.Reply.{Reply}
 use Rattle.dm_event_history.specs.declared.reply.Reply.TheVariants.{Printed, PrintRefused, Scanned, ScanRefused, Forgotten, ForgetRefused, Given, GiveRefused, Taken, TakeRefused, Imported, ImportRefused, Stopped, NoSuch, PrinterRefused, DeskRefused}
 use Rattle.dm_event_history.specs.declared.stop.Stop.{Stop}
 use Rattle.dm_event_history.specs.declared.stop.Stop.TheVariants.{BeforeSave, InSave, SaveFault, AfterLabels}
-use Rattle.dm_check_blocks.specs.Sizes.{side}
+use Rattle.dm_size.specs.Sizes.{side}
 use Rattle.dm_finder_frame.specs.Frame.{flipped}
 use Rattle.dm_print_ledger.specs.Ledger.{LedgerView, TicketView}
 use Rattle.dm_assembly_desk.specs.Documents.{Documents}

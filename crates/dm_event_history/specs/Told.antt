@@ -2,7 +2,7 @@
 -- memory is open.
 use Rattle.std.specs.Prelude.{◌≡◌, ◌≢◌, ◌+◌, ◌==◌, ◌&&◌, ◌||◌, not, ℕ, Bool, true, false, if◌then◌else◌, Some, List, [], ◌∷◌, slice_get, ◌↔◌, ◌⊎◌, IsSomeAnd}
 use Rattle.std.specs.Option.{option_map_or}
-use Rattle.dm_check_blocks.specs.declared.size.Size.{Size}
+use Rattle.dm_size.specs.declared.size.Size.{Size}
 use Rattle.dm_encodation.specs.declared.scheme.Scheme.{Scheme}
 use Rattle.dm_finder_frame.specs.Frame.{GridView, flipped, HasGoodFrame, HasBadFrame}
 use Rattle.dm_append_label.specs.Labels.{HasNoEnds}

@@ -4,9 +4,9 @@ use crate::bytes::Bytes;
 use crate::flips::Flips;
 use crate::stop::Stop;
 use dm_append_label::FileId;
-use dm_check_blocks::Size;
 use dm_encodation::Scheme;
 use dm_print_ledger::Range;
+use dm_size::Size;
 use std::alloc::{Allocator, Global};
 
 /// One call on one printer or one desk. Printers, desks, labels, tickets and exports are named by their number, from 0;

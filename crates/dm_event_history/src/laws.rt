@@ -6,7 +6,7 @@ ghost use Rattle.dm_event_history.specs.Told.{EachExhaustedIsSo, EachFailedFaile
 ghost use Rattle.dm_event_history.specs.Safe.{EachFairDeskIsBetween, EachFairReplyIsSafe};
 ghost use Rattle.dm_event_history.specs.Worked.{AreNone, AreRuns};
 
-use dm_check_blocks::Size;
+use dm_size::Size;
 use dm_symbol::laws::grid_carries_its_words;
 use std::alloc::Allocator;
 

@@ -1,7 +1,7 @@
 -- Each event of a world, from what its printer or desk did.
 use Rattle.std.proofs.Common.{◌≡◌, ◌≤◌, inl, ℕ, Some, List, [], length, slice_get, slice_set, sym, ap, subst}
 use Rattle.std.proofs.lemmas.Option.{slice_get_within}
-use Rattle.dm_check_blocks.specs.declared.size.Size.{Size}
+use Rattle.dm_size.specs.declared.size.Size.{Size}
 use Rattle.dm_encodation.specs.declared.scheme.Scheme.{Scheme}
 use Rattle.dm_finder_frame.specs.Frame.{GridView, flipped}
 use Rattle.dm_print_ledger.specs.declared.range.Range.{Range}

@@ -1,6 +1,6 @@
 -- How many labels a job has.
 use Rattle.std.proofs.Common.{◌≡◌, ◌+◌, ℕ, suc, List, [], ◌∷◌, length, refl, ap}
-use Rattle.dm_check_blocks.specs.declared.size.Size.{Size}
+use Rattle.dm_size.specs.declared.size.Size.{Size}
 use Rattle.dm_encodation.specs.declared.scheme.Scheme.{Scheme}
 use Rattle.dm_finder_frame.specs.Frame.{GridView}
 use Rattle.dm_print_ledger.specs.Verdicts.{AreLabels}

@@ -1,7 +1,7 @@
 -- Worlds of printers and desks as contracts see them, which relay one shows, and what holds of their runs.
 use Rattle.std.specs.Prelude.{◌≡◌, ◌<◌, ℕ, Some, List, length, slice_get, All, ◌≤◌, Bool, true, false, map, ◌∷◌, IsTrue, ◌↔◌, [], codes}
 use Rattle.std.specs.FinMap as finite
-use Rattle.dm_check_blocks.specs.Sizes.{side}
+use Rattle.dm_size.specs.Sizes.{side}
 use Rattle.dm_finder_frame.specs.Frame.{GridView, flipped}
 use Rattle.dm_symbol.specs.Correction.{IsNear}
 use Rattle.dm_print_ledger.specs.Ledger.{TicketView, LedgerView, is_range}

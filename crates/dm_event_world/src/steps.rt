@@ -9,7 +9,7 @@ use crate::scanned::are_within;
 use crate::world::World;
 use crate::{desk_act, printer_act};
 use dm_append_label::FileId;
-use dm_check_blocks::Size;
+use dm_size::Size;
 use dm_encodation::Scheme;
 use dm_event_history::{Event, Reply, Stop};
 use dm_print_ledger::Range;

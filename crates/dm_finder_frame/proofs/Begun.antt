@@ -7,7 +7,7 @@ use Rattle.std.proofs.lemmas.Nat.{div-mul-add, mod-mul-add, mul-add-lt}
 use Rattle.std.proofs.lemmas.List.{get_or_append_left, get_or-append_right}
 use Rattle.std.proofs.lemmas.List.Edits.{length-between, get_or-between}
 use Rattle.std.proofs.lemmas.List.FromFn.{fill_by_all, get_or-map-range_with_len, length-map-range_with_len}
-use Rattle.dm_placement.specs.Placement.{Square, IsWhole, module_at}
+use Rattle.dm_size.specs.Squares.{Square, IsWhole, module_at}
 use Rattle.dm_finder_frame.specs.inner.Filled.{first_modules}
 
 -- a piece of a row more

@@ -5,8 +5,8 @@ use Rattle.std.proofs.lemmas.Nat.{mul-add-lt, mod_below, same_from_place, div-mu
 use Rattle.std.proofs.lemmas.Bool.Decides.{eqb_tells}
 use Rattle.std.proofs.lemmas.List.{ext_get_or}
 use Rattle.std.proofs.lemmas.List.FromFn.{get_or-map-range_with_len}
-use Rattle.dm_check_blocks.specs.Sizes.{side, region, across, mapping}
-use Rattle.dm_placement.specs.Placement.{Square, IsWhole, module_at, with_flipped}
+use Rattle.dm_size.specs.Sizes.{side, region, across, mapping}
+use Rattle.dm_size.specs.Squares.{Square, IsWhole, module_at, with_flipped}
 use Rattle.dm_finder_frame.specs.Frame.{is_on_frame, mapping_place, grid_place, matrix_module, matrix_modules, FlipsOneModule, GridView, IsWholeGrid, grid_module_at, square_of, grid_with_flipped}
 use Rattle.dm_finder_frame.proofs.FramedGrids.{matrix_is_whole, column_below, place_within, place_inside}
 use Rattle.dm_finder_frame.proofs.GridPlaces.{fills_side, some_region, mapping_of_grid_place, grid_of_mapping_place, mapping_place_below, no_frame_inside}

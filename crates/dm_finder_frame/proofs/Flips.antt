@@ -1,7 +1,7 @@
 -- Lists of flipped modules.
 use Rattle.std.specs.Prelude.{not}
 use Rattle.std.proofs.Common.{◌≡◌, ℕ, zero, suc, ◌+◌, ◌*◌, ◌<◌, refl, List, [], ◌∷◌, ◌++◌, length, get_or, take, ◌∙◌, arith, length-set}
-use Rattle.dm_check_blocks.specs.Sizes.{side}
+use Rattle.dm_size.specs.Sizes.{side}
 use Rattle.dm_finder_frame.specs.Frame.{GridView, IsWholeGrid, grid_module_at, grid_with_flipped, flipped}
 
 -- Flipped modules leave the size of a grid as it is.

@@ -5,9 +5,9 @@ use Rattle.std.proofs.Common.{◌≡◌, ℕ, ◌+◌, ◌*◌, ◌<◌, ◌≤�
 use Rattle.std.proofs.Math.Nat.{mul-le-mul_right}
 use Rattle.std.proofs.lemmas.List.{length-take-le}
 use Rattle.std.proofs.lemmas.List.Edits.{length-between}
-use Rattle.dm_check_blocks.specs.declared.size.Size.{Size}
-use Rattle.dm_check_blocks.specs.Sizes.{side, region, across, mapping}
-use Rattle.dm_placement.specs.Placement.{Square, IsWhole}
+use Rattle.dm_size.specs.declared.size.Size.{Size}
+use Rattle.dm_size.specs.Sizes.{side, region, across, mapping}
+use Rattle.dm_size.specs.Squares.{Square, IsWhole}
 use Rattle.dm_finder_frame.specs.declared.framing.TheConstants.{TOP, BOTTOM}
 use Rattle.dm_finder_frame.specs.Frame.{mapping_place, grid_place, grid_module, matrix_module, GridView, IsWholeGrid, square_of}
 use Rattle.dm_finder_frame.specs.inner.Filled.{first_modules}

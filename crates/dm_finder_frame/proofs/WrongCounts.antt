@@ -8,7 +8,7 @@ use Rattle.std.proofs.lemmas.List.Edits.{get_or-between}
 use Rattle.std.proofs.lemmas.List.FromFn.{sum_by-map-range_with_len_more}
 use Rattle.std.proofs.Math.Nat.{mul-le-mul_right}
 use Rattle.std.proofs.lemmas.Nat.{div-mul-add, mod-mul-add}
-use Rattle.dm_check_blocks.specs.Sizes.{side, region, across}
+use Rattle.dm_size.specs.Sizes.{side, region, across}
 use Rattle.dm_finder_frame.specs.Frame.{is_wrong, is_wrong_at, wrong_module, is_on_frame, frame_value, GridView, grid_module_at}
 use Rattle.dm_finder_frame.proofs.GridPlaces.{fills_side}
 use Rattle.dm_finder_frame.specs.inner.Filled.{wrong_among}

@@ -3,9 +3,9 @@
 use Rattle.std.specs.Prelude.{ℕ, ◌≡◌, ◌*◌, ◌<◌, Bool, List, [], ◌∷◌, length, ◌+◌, ◌-◌, ◌/◌, ◌%◌, true, ◌==◌, ◌&&◌, ◌||◌, not, if◌then◌else◌, Option, Some, None, map, count_by, Result, Ok, Err, ◌≤◌}
 use Rattle.std.specs.List.{range_with_len}
 use Rattle.std.specs.Option.{option_map_or}
-use Rattle.dm_check_blocks.specs.declared.size.Size.{Size}
-use Rattle.dm_check_blocks.specs.Sizes.{IsSide, side, region, regions, mapping}
-use Rattle.dm_placement.specs.Placement.{Square, IsWhole, module_at, with_flipped}
+use Rattle.dm_size.specs.declared.size.Size.{Size}
+use Rattle.dm_size.specs.Sizes.{IsSide, side, region, regions, mapping}
+use Rattle.dm_size.specs.Squares.{Square, IsWhole, module_at, with_flipped}
 use Rattle.dm_finder_frame.specs.declared.fault.GridFault.{GridFault}
 use Rattle.dm_finder_frame.specs.declared.fault.GridFault.TheVariants.{Side, Memory}
 use Rattle.dm_finder_frame.specs.declared.unframing.Framed.{Framed}

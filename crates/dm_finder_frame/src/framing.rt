@@ -1,13 +1,12 @@
 //! From the mapping matrix to the grid.
 
 ghost use Rattle.std.specs.Prelude.{◌≡◌, ◌<◌, ◌≤◌, ◌+◌, ◌*◌, ◌%◌, IfOk, OnOk};
-ghost use Rattle.dm_check_blocks.specs.Sizes.{mapping, region, side};
+ghost use Rattle.dm_size.specs.Sizes.{mapping, region, side};
 ghost use Rattle.dm_finder_frame.specs.Frame.{grid_module, grid_of_matrix};
 ghost use Rattle.dm_finder_frame.specs.inner.Filled.{first_modules};
 
 use crate::grid::Grid;
-use dm_check_blocks::Size;
-use dm_placement::Matrix;
+use dm_size::{Matrix, Size};
 use std::alloc::{AllocError, Allocator};
 
 // The top row of the framed regions, as wide as the largest grid: dark at even columns.

@@ -1,11 +1,11 @@
 //! A symbol as a grid of modules.
 
 ghost use Rattle.std.specs.Prelude.{◌≡◌, ◌<◌, ◌+◌, ◌*◌, All, IfOk, length, slice_range};
-ghost use Rattle.dm_check_blocks.specs.Sizes as sizes;
+ghost use Rattle.dm_size.specs.Sizes as sizes;
 ghost use Rattle.dm_finder_frame.specs.Frame.{GridView, IsInGrid, IsWholeGrid, flipped, grid_module_at, grid_with_flipped};
 
 use crate::fault::GridFault;
-use dm_check_blocks::Size;
+use dm_size::Size;
 use std::alloc::{AllocError, Allocator, Global};
 use std::marker::Model;
 

@@ -2,9 +2,9 @@
 
 ghost use Rattle.std.specs.Prelude.{◌≡◌, ℕ, List, [], ◌∷◌, ◌++◌};
 ghost use Rattle.dm_finder_frame.specs.Frame.{FlipsOneModule, FrameHasNoWrongModule, UnframeUndoesFrame, grid_of_matrix, matrix_of_grid, GridView, IsWholeGrid, flipped, grid_with_flipped};
-ghost use Rattle.dm_placement.specs.Placement.{IsWhole, Square};
+ghost use Rattle.dm_size.specs.Squares.{IsWhole, Square};
 
-use dm_check_blocks::Size;
+use dm_size::Size;
 
 /// `unframe` undoes `frame`, and finds no wrong module.
 #[tactic(auto, using(crate::proofs::FramedGrids::unframe_undoes_frame, crate::proofs::FramedGrids::frame_has_no_wrong_module))]

@@ -1,10 +1,10 @@
 //! Places of a symbol within its framed data regions.
 
 ghost use Rattle.std.specs.Prelude.{◌≡◌, ◌<◌, IfSome};
-ghost use Rattle.dm_check_blocks.specs.Sizes.{mapping, side};
+ghost use Rattle.dm_size.specs.Sizes.{mapping, side};
 ghost use Rattle.dm_finder_frame.specs.Frame.{mapping_cell};
 
-use dm_check_blocks::Size;
+use dm_size::Size;
 
 /// The row and the column in the mapping matrix of a grid's module, or `None` on a finder pattern; all from 0
 /// (ISO/IEC 16022:2006, 5.8).

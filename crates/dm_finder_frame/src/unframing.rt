@@ -1,14 +1,13 @@
 //! From the grid to the mapping matrix.
 
 ghost use Rattle.std.specs.Prelude.{◌≡◌, ◌<◌, ◌≤◌, ◌+◌, ◌*◌, ◌%◌, ◌⊎◌, ◌||◌, ◌==◌, IfOk, OnOk, if◌then◌else◌, not};
-ghost use Rattle.dm_check_blocks.specs.Sizes.{across as across_of, mapping, region, side};
+ghost use Rattle.dm_size.specs.Sizes.{across as across_of, mapping, region, side};
 ghost use Rattle.dm_finder_frame.specs.Frame.{matrix_module, matrix_of_grid, wrong_frame_modules, Unframes};
 ghost use Rattle.dm_finder_frame.specs.inner.Filled.{first_modules, wrong_among};
 
 use crate::fault::FrameFault;
 use crate::grid::Grid;
-use dm_check_blocks::Size;
-use dm_placement::Matrix;
+use dm_size::{Matrix, Size};
 use std::alloc::{AllocError, Allocator, Global};
 
 /// A grid's matrix, with its frame taken off.

@@ -5,13 +5,10 @@
 //! laws of the field; and that two block words that differ in few places are equal.
 #![tactic(auto)]
 
-mod by_bits;
 mod element;
 pub mod laws;
 mod multiple;
 mod powers;
-#[cfg(test)]
-mod tests;
 
 pub use element::Gf;
 pub use multiple::add_multiple;

@@ -9,7 +9,7 @@ use Rattle.std.proofs.lemmas.Bool.{cases_lt}
 use Rattle.std.proofs.lemmas.Bool.Decides.{nat_tests}
 use Rattle.std.proofs.lemmas.List.{length-append, length-drop, length-take-le, length-replicate, get_or-replicate, get_or_append_left, get_or-append_right, get_or-take, get_or-drop}
 use Rattle.std.proofs.lemmas.List.Edits.{length-between, get_or-between}
-use Rattle.dm_placement.specs.Placement.{Square, IsWhole, module_at}
+use Rattle.dm_size.specs.Squares.{Square, IsWhole, module_at}
 use Rattle.dm_pbm_io.specs.inner.Streaming.{IsDrawnTo}
 use Rattle.dm_pbm_io.specs.Image.{pixel_with_quiet_zone, pixels_with_quiet_zone}
 

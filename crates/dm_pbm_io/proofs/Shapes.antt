@@ -1,8 +1,8 @@
 -- Which pictures have the shape of a grid.
 use Rattle.std.proofs.Common.{◌≡◌, ◌+◌, ◌-◌, ◌*◌, ◌<◌, ◌≤◌, lit≤, arith, ap}
-use Rattle.dm_check_blocks.specs.declared.size.Size.{Size}
-use Rattle.dm_check_blocks.specs.declared.size.Size.TheVariants.{Side10}
-use Rattle.dm_check_blocks.specs.Sizes.{side, row}
+use Rattle.dm_size.specs.declared.size.Size.{Size}
+use Rattle.dm_size.specs.declared.size.Size.TheVariants.{Side10}
+use Rattle.dm_size.specs.Sizes.{side, row}
 use Rattle.dm_pbm_io.specs.Image.{Picture, HasShape}
 
 -- no symbol has a side below 10

@@ -4,7 +4,7 @@ use Rattle.std.specs.List.{range_with_len}
 use Rattle.std.proofs.lemmas.List.FromFn.{fill_by_all, get_or-map-range_with_len, length-map-range_with_len}
 use Rattle.std.proofs.lemmas.Nat.{div-mul-add, mod-mul-add, mul-add-lt}
 use Rattle.std.proofs.Math.Nat.{mod-lt, mod-add-div, div-lt_iff_lt-mul}
-use Rattle.dm_check_blocks.specs.Sizes.{side}
+use Rattle.dm_size.specs.Sizes.{side}
 use Rattle.dm_finder_frame.specs.Frame.{GridView, square_of, IsWholeGrid}
 use Rattle.dm_pbm_io.specs.Image.{pixel_with_quiet_zone, pixels_with_quiet_zone}
 use Rattle.dm_pbm_io.specs.Laws.{IsTakenBack}

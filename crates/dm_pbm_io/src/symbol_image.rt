@@ -1,14 +1,14 @@
 //! From a grid to its image, inside a quiet zone one pixel wide, and back.
 
 ghost use Rattle.std.specs.Prelude.{◌≡◌, ◌+◌, ◌*◌, ◌<◌, ◌≤◌, IfOk, IsErrOf, MatchOption, length};
-ghost use Rattle.dm_check_blocks.specs.Sizes as sizes;
+ghost use Rattle.dm_size.specs.Sizes as sizes;
 ghost use Rattle.dm_finder_frame.specs.Frame.{square_of};
 ghost use Rattle.dm_pbm_io.specs.Image.{HasShape, IsGridInside, image_with_quiet_zone, modules_inside, picture};
 ghost use Rattle.dm_pbm_io.specs.inner.Streaming.{IsDrawnTo};
 
 use crate::fault::ShapeFault;
 use crate::image::Image;
-use dm_check_blocks::Size;
+use dm_size::Size;
 use dm_finder_frame::Grid;
 use std::alloc::{AllocError, Allocator};
 

@@ -3,9 +3,9 @@ use Rattle.std.specs.Option.{option_map, option_to_list}
 use Rattle.std.proofs.Common.{arith, ◌≡◌, ℕ, zero, suc, ◌+◌, ◌*◌, refl, List, [], ◌∷◌, ◌++◌, Option, Some, Bool, true, false, ltb, ◌||◌, ap, sym, ◌∙◌, subst, append_assoc, append-nil, map}
 use Rattle.std.proofs.lemmas.Grind.{flat_map-append}
 use Rattle.std.proofs.lemmas.List.{map-append}
-use Rattle.dm_check_blocks.specs.declared.size.Size.{Size}
-use Rattle.dm_check_blocks.specs.declared.size.Size.TheVariants.{Side10}
-use Rattle.dm_check_blocks.specs.Sizes.{row, mapping}
+use Rattle.dm_size.specs.declared.size.Size.{Size}
+use Rattle.dm_size.specs.declared.size.Size.TheVariants.{Side10}
+use Rattle.dm_size.specs.Sizes.{row, mapping}
 use Rattle.dm_placement.specs.declared.shape.Shape.{Shape}
 use Rattle.dm_placement.specs.declared.walk.Sweep.{Sweep}
 use Rattle.dm_placement.specs.declared.walk.Sweep.TheVariants.{Start, Up, Down}

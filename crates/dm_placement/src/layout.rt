@@ -1,19 +1,19 @@
 //! The cells of all bits of a size, kept for several symbols.
 
 ghost use Rattle.std.specs.Prelude.{◌≡◌, ◌<◌, ◌≤◌, IfOk, OnOk, false, map};
-ghost use Rattle.dm_check_blocks.specs.declared.size.Size.{Size};
-ghost use Rattle.dm_check_blocks.specs.Sizes.{mapping};
+ghost use Rattle.dm_size.specs.declared.size.Size.{Size};
+ghost use Rattle.dm_size.specs.Sizes.{mapping};
 ghost use Rattle.dm_placement.specs.Placement.{bit_cells, cell, IsBit, place_of};
 ghost use Rattle.dm_placement.specs.inner.Places.{HasWalked, is_over, steps_left};
 
 use crate::shape::{places_inside, places_of};
 use crate::walk::Walk;
-use dm_check_blocks::Size;
+use dm_size::Size;
 use std::alloc::{AllocError, Allocator, Global};
 use std::marker::Model;
 
-/// The cell of every bit of every word of a size, as Annex F of ISO/IEC 16022:2006 places them. Each is kept as the place
-/// of its module, row by row.
+/// The cell of every bit of every word of a size, as Annex F of ISO/IEC 16022:2006 places them. Each is kept as the
+/// place of its module, row by row.
 #[derive(Drop)]
 pub struct Layout<A: Allocator = Global> {
     size: Size,

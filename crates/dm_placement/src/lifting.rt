@@ -1,13 +1,12 @@
 //! The words that a mapping matrix holds.
 
 ghost use Rattle.std.specs.Prelude.{◌≡◌, ◌<◌, ◌≤◌, ◌+◌, ◌*◌, All, IfOk, length};
-ghost use Rattle.dm_check_blocks.specs.Sizes.{mapping, all_words};
+ghost use Rattle.dm_size.specs.Sizes.{mapping, all_words};
 ghost use Rattle.dm_placement.specs.Placement.{lifted};
 ghost use Rattle.dm_placement.specs.inner.Places.{word_from_places};
 
 use crate::layout::Layout;
-use crate::matrix::Matrix;
-use dm_check_blocks::Size;
+use dm_size::{Matrix, Size};
 use std::alloc::{AllocError, Allocator};
 
 // The word whose bits stand at eight places of a list, from index `from` on.

@@ -1,14 +1,14 @@
 //! The mapping matrix of the words of a symbol.
 
 ghost use Rattle.std.specs.Prelude.{◌≡◌, IfOk, length};
-ghost use Rattle.dm_check_blocks.specs.Sizes.{all_words};
-ghost use Rattle.dm_placement.specs.Placement.{dark_cells, placed, light_square, with_dark};
+ghost use Rattle.dm_size.specs.Sizes.{all_words};
+ghost use Rattle.dm_size.specs.Squares.{light_square};
+ghost use Rattle.dm_placement.specs.Placement.{dark_cells, placed, with_dark};
 ghost use Rattle.dm_placement.specs.inner.Places.{IsSideSound};
 
 use crate::bits::bits_of;
 use crate::layout::Layout;
-use crate::matrix::{Matrix, light_of_side};
-use dm_check_blocks::Size;
+use dm_size::{Matrix, Size};
 use std::alloc::{AllocError, Allocator};
 
 // A matrix in which the dark free cells are dark, and all other cells are light.
@@ -17,7 +17,7 @@ fn blank<A: Allocator>(alloc: A, side: u16) -> Result<Matrix<A>, AllocError>
     requires { IsSideSound side }
     ensures { IfOk result (λ m. m ≡ with_dark (light_square side) (dark_cells side)) }
 {
-    let mut matrix = light_of_side(alloc, side)?;
+    let mut matrix = Matrix::light(alloc, side)?;
     if side * side % 8 == 4 {
         matrix.set(side - 1, side - 1, true);
         matrix.set(side - 2, side - 2, true);

@@ -1,14 +1,15 @@
-//! The walk over the mapping matrix, one step at a time (ISO/IEC 16022:2006, Annex F). It needs no table of taken cells:
-//! the only cells that are taken before it comes to them are the two that are left out for the second corner shape.
+//! The walk over the mapping matrix, one step at a time (ISO/IEC 16022:2006, Annex F). It needs no table of taken
+//! cells: the only cells that are taken before it comes to them are the two that are left out for the second corner
+//! shape.
 
 ghost use Rattle.std.specs.Prelude.{◌≡◌, ◌<◌, ◌≤◌, ◌+◌, ℕ, false, Some};
 ghost use Rattle.std.specs.Option.{option_to_list};
-ghost use Rattle.dm_check_blocks.specs.Sizes.{mapping};
+ghost use Rattle.dm_size.specs.Sizes.{mapping};
 ghost use Rattle.dm_placement.specs.Placement.{is_left_out, shapes};
 ghost use Rattle.dm_placement.specs.inner.Places.{IsSideSound, IsAhead, IsInside, IsNearby, Steps, corner_at, is_over, word_at};
 
 use crate::shape::{Cell, Shape};
-use dm_check_blocks::Size;
+use dm_size::Size;
 
 // Rows and columns of the walk count from this many above and left of the matrix: it never goes further out on those
 // sides.

@@ -11,7 +11,7 @@ use Rattle.dm_print_ledger.specs.declared.fault.TakeFault.{TakeFault}
 use Rattle.dm_store.specs.Saved.{Saved, LoadsOpen, Replaces}
 use Rattle.dm_print_ledger.specs.declared.fault.OpenFault.{OpenFault}
 use Rattle.dm_print_ledger.specs.declared.fault.OpenFault.TheVariants.{Absent, Number, Device, Memory}
-use Rattle.dm_check_blocks.specs.declared.size.Size.{Size}
+use Rattle.dm_size.specs.declared.size.Size.{Size}
 use Rattle.dm_encodation.specs.declared.scheme.Scheme.{Scheme}
 use Rattle.dm_finder_frame.specs.Frame.{GridView}
 use Rattle.dm_append_label.specs.Labels.{Seals, PageView, AreEnds, HasNoEnds, parts_from}

@@ -5,7 +5,7 @@ ghost use Rattle.dm_print_ledger.specs.Verdicts.{HasLabels};
 
 use dm_append_label::cut;
 use dm_append_label::laws::parts_of_a_document;
-use dm_check_blocks::Size;
+use dm_size::Size;
 use dm_encodation::Scheme;
 
 /// How many labels of this size and encodation a document has, 2 to 16: as many as a printer prints of it, and none

@@ -2,8 +2,8 @@
 use Rattle.std.proofs.Common.{◌≡◌, ℕ, List, Option, Some, Result, Ok, Err, refl, sym, ap, subst, ◌∙◌, arith}
 use Rattle.dm_gf256.specs.Field.{differ}
 use Rattle.dm_gf256.proofs.OneBlockWord.{differ-self}
-use Rattle.dm_check_blocks.specs.Sizes.{block_of}
-use Rattle.dm_check_blocks.specs.declared.size.Size.{Size}
+use Rattle.dm_check_blocks.specs.Blocks.{block_of}
+use Rattle.dm_size.specs.declared.size.Size.{Size}
 use Rattle.dm_encodation.specs.declared.scheme.Scheme.{Scheme}
 use Rattle.dm_finder_frame.specs.Frame.{FrameHasNoWrongModule, wrong_frame_modules, GridView}
 use Rattle.dm_symbol.specs.Correction.{CorrectedView, CarriesItsWords, IsNear, words_of_grid}

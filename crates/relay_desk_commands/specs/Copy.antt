@@ -1,8 +1,8 @@
 -- What `copy` does to the files of a desk, and what it writes: the image of the label of a page that the desk holds.
 use Rattle.std.specs.Prelude.{◌≡◌, ℕ, List, Some, None, IsSome, IsSomeAnd, IfOk, Result, Ok, Err, codes}
 use Rattle.std.specs.FinMap as map
-use Rattle.dm_check_blocks.specs.Sizes.{IsSide, side}
-use Rattle.dm_check_blocks.specs.declared.size.Size.{Size}
+use Rattle.dm_size.specs.Sizes.{IsSide, side}
+use Rattle.dm_size.specs.declared.size.Size.{Size}
 use Rattle.dm_encodation.specs.declared.scheme.Scheme.{Scheme}
 use Rattle.dm_finder_frame.specs.Frame.{GridView}
 use Rattle.dm_append_label.specs.Labels.{Carries, Fits, IsTooLong, Seals, PageView}

@@ -5,6 +5,7 @@ ghost use Rattle.std.specs.Prelude.{MatchResult, Ok, Err};
 ghost use Rattle.relay_desk_commands.specs.Desks.{EndsDeliver, EndsExport, EndsForget, EndsGiving, Gives, desk_at};
 
 use crate::desk_opening::{id_of, open_desk};
+use crate::lines::put_forgotten;
 use dm_append_label::FileId;
 use dm_assembly_desk::{AskFault, Desk, ExportFault, MOST_CAPACITY};
 use dm_store::{Store, StoreSet};

@@ -11,6 +11,7 @@ ghost use Rattle.relay_desk_commands.specs.Desks.{desk_at};
 ghost use Rattle.relay_desk_commands.specs.Held.{EndsHeld, SeenJoint, SeesJoint, SeesNumber, TellsHeld, documents_in, joint_line, seen_line};
 
 use crate::desk_opening::id_of;
+use crate::lines::{put_held, put_unsound, put_unsound_joint};
 use dm_append_label::FileId;
 use dm_assembly_desk::{
     AskFault, DeskFault, Held, JointFile, MOST_JOINT_FILE_BYTES, MoveFault, held_at, is_listed,

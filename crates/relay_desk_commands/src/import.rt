@@ -4,6 +4,7 @@ ghost use Rattle.relay_streams.specs.Streams.{TakesPart};
 ghost use Rattle.relay_desk_commands.specs.Desks.{EndsImport, desk_at};
 
 use crate::desk_opening::open_desk;
+use dm_assembly_desk::Imported;
 use dm_store::{Store, StoreSet};
 use relay_shared::{EndedDesk, Streams, put_imported, refuse, status_after};
 use std::alloc::Allocator;

@@ -5,7 +5,7 @@ ghost use Rattle.dm_finder_frame.specs.Frame.{GridView};
 ghost use Rattle.dm_symbol.specs.Correction.{IsNear};
 ghost use Rattle.dm_assembly_desk.specs.Documents.{Documents};
 ghost use Rattle.relay_desk_commands.specs.Copy.{Copies, OpensAsHeld, OpensAsNoOther};
-ghost use Rattle.dm_check_blocks.specs.declared.size.Size.{Size};
+ghost use Rattle.dm_size.specs.declared.size.Size.{Size};
 ghost use Rattle.dm_encodation.specs.declared.scheme.Scheme.{Scheme};
 
 use crate::import::IMPORT_BYTES;

@@ -7,10 +7,11 @@ ghost use Rattle.relay_streams.specs.Streams.{AppendsPart, refused_line};
 ghost use Rattle.relay_desk_commands.specs.Desks.{desk_at, EndsScan, IsIdOn, Notes, scan_images};
 
 use crate::desk_opening::{OpenDesk, open_desk};
+use dm_append_label::LabelFault::{Block, Border};
 use dm_append_label::{FileId, open_label};
 use dm_assembly_desk::{Desk, ScanFault};
 use dm_finder_frame::Grid;
-use dm_pbm_io::{Image, grid_of};
+use dm_pbm_io::{Image, ShapeFault, grid_of};
 use dm_store::{Store, StoreSet};
 use itoa::Buffer;
 use relay_shared::{

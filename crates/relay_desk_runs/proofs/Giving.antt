@@ -3,7 +3,7 @@ use Rattle.std.proofs.Common.{◌≡◌, inl, inr, ℕ, Option, None, Some, List
 use Rattle.std.specs.Prelude.{IfSome, MatchResult, unwrap_or}
 use Rattle.std.specs.FinMap as finite
 use Rattle.dm_append_label.specs.Labels.{Carries, PageView}
-use Rattle.dm_check_blocks.specs.declared.size.Size.{Size}
+use Rattle.dm_size.specs.declared.size.Size.{Size}
 use Rattle.dm_encodation.specs.declared.scheme.Scheme.{Scheme}
 use Rattle.dm_store.specs.Saved.{SavedSet}
 use Rattle.dm_assembly_desk.specs.Adding.{Asks, Exports}

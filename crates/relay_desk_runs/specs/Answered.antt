@@ -2,7 +2,7 @@
 -- of an export, and the label that `copy` wrote.
 use Rattle.std.specs.Prelude.{ℕ, Bool, List, [], ◌∷◌, ◌++◌, Option, None, Some, Result, Ok, Err}
 use Rattle.dm_finder_frame.specs.Frame.{GridView}
-use Rattle.dm_check_blocks.specs.declared.size.Size.{Size}
+use Rattle.dm_size.specs.declared.size.Size.{Size}
 use Rattle.dm_encodation.specs.declared.scheme.Scheme.{Scheme}
 use Rattle.dm_pbm_io.specs.Image.{Picture}
 use Rattle.dm_assembly_desk.specs.Documents.{Documents}

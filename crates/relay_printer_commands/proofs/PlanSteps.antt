@@ -5,9 +5,9 @@ use Rattle.std.specs.List.{AllPairs, Contains}
 use Rattle.std.proofs.lemmas.Bool.{cases_lt, false≢true}
 use Rattle.std.proofs.lemmas.List.Elements.{Contains-append_left, Contains-get_or, Contains-push, Contains-push_cases}
 use Rattle.std.proofs.lemmas.List.Quantifiers.{all_pairs_push}
-use Rattle.dm_check_blocks.specs.declared.size.Size.{Size}
-use Rattle.dm_check_blocks.specs.Sizes.{side}
-use Rattle.dm_check_blocks.proofs.Sound.{sound}
+use Rattle.dm_size.specs.declared.size.Size.{Size}
+use Rattle.dm_size.specs.Sizes.{side}
+use Rattle.dm_size.proofs.Sound.{sound}
 use Rattle.dm_encodation.specs.declared.scheme.Scheme.{Scheme}
 use Rattle.dm_print_ledger.specs.Verdicts.{HasLabels}
 use Rattle.relay_shared.specs.declared.printer_lines.PlannedSide.{PlannedSide}

@@ -7,9 +7,10 @@ ghost use Rattle.relay_printer_commands.specs.Printers.{EndsLedger, ledger_at, E
 ghost use Rattle.relay_shared.specs.Lines.{ticket_line};
 ghost use Rattle.relay_shared.specs.Command.{TellsAnswer, TellsRefusal};
 
+use crate::lines::{put_left, put_ticket};
 use dm_print_ledger::{CreateRefused, GiveFault, OpenRefused, Printer, Range, Ticket};
 use dm_store::Store;
-use relay_shared::{Ended, Streams, put_left, put_ticket, refuse, status_after};
+use relay_shared::{Ended, Streams, refuse, status_after};
 use relay_streams::Output;
 use std::alloc::Allocator;
 use std::io::{Read, Write};

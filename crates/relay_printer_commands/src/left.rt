@@ -7,6 +7,7 @@ ghost use Rattle.relay_shared.specs.Lines.{free_line, shown_lines, took_line};
 ghost use Rattle.relay_shared.specs.Command.{Puts};
 ghost use Rattle.relay_printer_commands.specs.Printers.{EndsLeft, ledger_at};
 
+use crate::lines::{put_free, put_given, put_left, put_number, put_took};
 use dm_print_ledger::{Giver, Range, Shown};
 use dm_store::Store;
 use relay_shared::{

@@ -7,8 +7,8 @@ ghost use Rattle.relay_streams.specs.Streams.{TakesPart};
 ghost use Rattle.relay_shared.specs.Lines.{side_line};
 ghost use Rattle.relay_shared.specs.Command.{Puts};
 
+use crate::lines::{PlannedSide, put_side};
 use arrayvec::ArrayVec;
-use dm_check_blocks::Size;
 use dm_encodation::Scheme;
 use dm_print_ledger::{PrintFault, label_count};
 use relay_shared::{

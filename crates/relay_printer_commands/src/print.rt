@@ -2,20 +2,21 @@
 
 ghost use Rattle.std.specs.Prelude.{◌↔◌, IsTrue, MatchOption, MatchResult};
 ghost use Rattle.std.specs.Io.KnownBytes.{Appends};
-ghost use Rattle.dm_check_blocks.specs.declared.size.Size.{Size};
+ghost use Rattle.dm_size.specs.declared.size.Size.{Size};
 ghost use Rattle.relay_streams.specs.Streams.{TakesPart};
 ghost use Rattle.relay_printer_commands.specs.Print.{EndsPrint, HasSide, IsChosen, LosesImages, Suits, TellsPrint, images_of};
 ghost use Rattle.relay_printer_commands.specs.Printers.{ledger_at};
 ghost use Rattle.relay_shared.specs.Command.{ReadsNothing};
 
 use crate::ledger::open_printer;
-use dm_check_blocks::Size;
+use crate::lines::put_printed;
 use dm_encodation::Scheme;
 use dm_pbm_io::image_of;
 use dm_print_ledger::{Job, PrintFault, label_count};
+use dm_size::Size;
 use dm_store::Store;
 use relay_command::Labels;
-use relay_shared::{DOCUMENT_BYTES, Ended, Refusal, Streams, put_printed, read_document, refuse};
+use relay_shared::{DOCUMENT_BYTES, Ended, Refusal, Streams, read_document, refuse};
 use relay_streams::Output;
 use std::alloc::Allocator;
 use std::io::{Read, Write};

@@ -12,11 +12,12 @@ ghost use Rattle.dm_print_ledger.specs.Verdicts.{take_fault_name};
 ghost use Rattle.relay_printer_commands.specs.Printers.{ledger_at, EndsTake};
 
 use crate::ledger::open_printer;
+use crate::lines::{put_check, put_from, put_taken};
 use dm_check_blocks::checks_of;
 use dm_print_ledger::{TakeFault, Ticket};
 use dm_store::Store;
 use hex::FromHex;
-use relay_shared::{Ended, Refusal, Streams, put_check, put_from, put_taken, refuse, status_after};
+use relay_shared::{Ended, Refusal, Streams, refuse, status_after};
 use relay_streams::{Output, WriteFault};
 use std::alloc::Allocator;
 use std::io::{Read, Write};

@@ -5,8 +5,8 @@ use Rattle.std.specs.Io.KnownBytes.{Consumes}
 use Rattle.std.proofs.lemmas.List.{length-append}
 use Rattle.std.proofs.lemmas.List.FromFn.{length-map-range_with_len}
 use Rattle.std.specs.Fmt.{digits}
-use Rattle.dm_check_blocks.specs.Sizes.{row}
-use Rattle.dm_check_blocks.specs.declared.size.Size.TheVariants.{Side12}
+use Rattle.dm_size.specs.Sizes.{row}
+use Rattle.dm_size.specs.declared.size.Size.TheVariants.{Side12}
 use Rattle.dm_finder_frame.specs.Frame.{GridView, IsWholeGrid, square_of}
 use Rattle.dm_pbm_io.specs.Header.{IsHeaderBody, magic, stride}
 use Rattle.dm_pbm_io.specs.Image.{IsGridInside, Picture, Spells, image_with_quiet_zone, p4, packed, pixel_with_quiet_zone, rows_text, written}

@@ -5,7 +5,7 @@ use Rattle.std.specs.Borrow.{Bor}
 use Rattle.std.specs.List.{AllByRecursion}
 use Rattle.std.specs.FinMap as finite
 use Rattle.dm_gf256.proofs.OneBlockWord.{differ-self}
-use Rattle.dm_check_blocks.specs.Sizes.{block_of}
+use Rattle.dm_check_blocks.specs.Blocks.{block_of}
 use Rattle.dm_encodation.specs.declared.scheme.Scheme.TheVariants.{Ascii}
 use Rattle.dm_finder_frame.specs.Frame.{GridView}
 use Rattle.dm_symbol.specs.Correction.{IsNear, words_of_grid}

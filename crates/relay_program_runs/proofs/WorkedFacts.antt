@@ -4,14 +4,14 @@ use Rattle.std.specs.Prelude.{IfSome, IsTrue, MatchBool}
 use Rattle.std.specs.List.{AllByRecursion}
 use Rattle.std.specs.Io.KnownBytes.{Appends}
 use Rattle.std.proofs.lemmas.List.{take_all}
-use Rattle.dm_check_blocks.specs.Sizes.{row, side}
+use Rattle.dm_size.specs.Sizes.{row, side}
 use Rattle.dm_symbol.specs.Correction.{grid_of_words}
 use Rattle.dm_assembly_desk.specs.declared.fault.ImportFault.{ImportFault}
 use Rattle.dm_assembly_desk.specs.declared.fault.ImportFault.TheVariants as import_fault
 use Rattle.dm_assembly_desk.specs.declared.reply.Imported.{Imported}
 use Rattle.relay_desk_commands.specs.declared.import.TheConstants.{IMPORT_BYTES}
-use Rattle.dm_check_blocks.specs.declared.size.Size.{Size}
-use Rattle.dm_check_blocks.specs.declared.size.Size.TheVariants.{Side12}
+use Rattle.dm_size.specs.declared.size.Size.{Size}
+use Rattle.dm_size.specs.declared.size.Size.TheVariants.{Side12}
 use Rattle.dm_encodation.specs.declared.scheme.Scheme.{Scheme}
 use Rattle.dm_finder_frame.specs.Frame.{GridView, IsWholeGrid}
 use Rattle.dm_finder_frame.proofs.FramedGrids.{grid_is_whole}

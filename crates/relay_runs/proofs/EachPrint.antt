@@ -1,7 +1,7 @@
 -- Each print over an honest store is a run.
 use Rattle.std.proofs.Common.{◌≡◌, inl, ℕ, List, [], ◌∷◌, Some, None, Result, Ok, Err, length, slice_get, refl, sym, ap, subst}
 use Rattle.std.specs.Prelude.{is_some}
-use Rattle.dm_check_blocks.specs.declared.size.Size.{Size}
+use Rattle.dm_size.specs.declared.size.Size.{Size}
 use Rattle.dm_encodation.specs.declared.scheme.Scheme.{Scheme}
 use Rattle.dm_store.specs.Saved.{Saved}
 use Rattle.dm_print_ledger.specs.declared.fault.PrintFault.{PrintFault}

@@ -17,7 +17,7 @@ use Rattle.relay_printer_commands.specs.Printers.{OnLedger}
 use Rattle.relay_command.specs.declared.command.Labels.{Labels}
 use Rattle.relay_streams.proofs.Parts.{part_none, part_whole}
 use Rattle.dm_append_label.specs.Labels.{Carries, PageView}
-use Rattle.dm_check_blocks.specs.declared.size.Size.{Size}
+use Rattle.dm_size.specs.declared.size.Size.{Size}
 use Rattle.dm_encodation.specs.declared.scheme.Scheme.{Scheme}
 use Rattle.dm_print_ledger.specs.Verdicts.{AreLabels, IsMade}
 use Rattle.relay_runs.specs.Answered.{answered, job_ended}

@@ -2,8 +2,9 @@
 use Rattle.std.specs.Prelude.{◌≡◌, ℕ, ◌<◌, ◌≤◌, true, List, [], ◌∷◌, ◌++◌, Bool}
 use Rattle.std.specs.List.{flat_map}
 use Rattle.std.specs.Fmt.{decimal}
-use Rattle.dm_check_blocks.specs.declared.size.Size.{Size}
-use Rattle.dm_check_blocks.specs.Sizes.{IsSide, side, data_words, Completes}
+use Rattle.dm_size.specs.declared.size.Size.{Size}
+use Rattle.dm_size.specs.Sizes.{IsSide, side, data_words}
+use Rattle.dm_check_blocks.specs.Blocks.{Completes}
 use Rattle.dm_encodation.specs.Written.{filled, need_of}
 use Rattle.dm_symbol.specs.Correction.{grid_of_words}
 use Rattle.dm_pbm_io.specs.Image.{image_with_quiet_zone, written}

@@ -8,7 +8,7 @@ use Rattle.hex.specs.Hex.{encode_lower}
 use Rattle.dm_append_label.specs.Labels.{PageView, id_words, head_at}
 use Rattle.relay_shared.specs.Lines.{hexadecimal}
 use Rattle.dm_gf256.specs.Field.{differ}
-use Rattle.dm_check_blocks.specs.Sizes.{side}
+use Rattle.dm_size.specs.Sizes.{side}
 use Rattle.dm_encodation.specs.Grammar.{ReadsOnly, StuckOnly}
 use Rattle.dm_encodation.specs.declared.fault.DecodeFault.{DecodeFault}
 use Rattle.dm_encodation.specs.declared.fault.DecodeFault.TheVariants as text_faults

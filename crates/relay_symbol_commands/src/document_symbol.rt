@@ -2,7 +2,7 @@
 //! `relay draw`, its image.
 
 ghost use Rattle.std.specs.Prelude.{◌≡◌, length, IfOk, MatchResult, OnOk, ◌++◌, ◌∷◌, string_bytes, ◌*◌};
-ghost use Rattle.dm_check_blocks.specs.Sizes as sizes;
+ghost use Rattle.dm_size.specs.Sizes as sizes;
 ghost use Rattle.relay_streams.specs.Streams.{TakesPart};
 ghost use Rattle.relay_symbol_commands.specs.DocumentSymbol.{ReadsSymbol, RefusesSymbol, EndsWords, EndsDraw, words_line};
 ghost use Rattle.std.specs.List.{flat_map};
@@ -11,10 +11,11 @@ ghost use Rattle.dm_symbol.specs.Correction.{grid_of_words};
 ghost use Rattle.dm_pbm_io.specs.Image.{picture, image_with_quiet_zone};
 
 use crate::refusal::SymbolRefusal;
-use dm_check_blocks::{Size, complete};
+use dm_check_blocks::complete;
 use dm_encodation::{EncodeFault, Scheme, encode};
 use dm_pbm_io::{Image, image_of};
 use dm_placement::Layout;
+use dm_size::Size;
 use dm_symbol::draw_words;
 use relay_shared::{
     DOCUMENT_BYTES, Streams, read_document, refuse, status_after, status_after_bytes,

@@ -5,7 +5,7 @@ ghost use Rattle.relay_symbols.specs.Symbols.{DrawsLabel, ReadsPage};
 
 use crate::images::{grid_from, grid_image, put};
 use dm_append_label::{FileId, Page, open_label, seal};
-use dm_check_blocks::Size;
+use dm_size::Size;
 use dm_encodation::Scheme;
 use std::alloc::{Allocator, Global};
 

@@ -11,7 +11,7 @@ use dm_event_history::Reply;
 use dm_event_world::Answer;
 use dm_print_ledger::Ticket;
 use itoa::Buffer;
-use relay_shared::{id_digits, mask_digits, put_accepted, put_imported};
+use relay_shared::{id_digits, put_accepted, put_imported, word_digits};
 use relay_streams::{Output, WriteFault};
 use std::alloc::Allocator;
 use std::io::Write;

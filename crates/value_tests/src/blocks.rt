@@ -1,7 +1,8 @@
 //! The sizes, the words of a symbol in their blocks, and blocks that are corrected.
 
-use dm_check_blocks::{Size, block_word, complete};
+use dm_check_blocks::{block_word, complete};
 use dm_corrector::{BlockFault, correct_symbol};
+use dm_size::Size;
 use std::alloc::Global;
 
 // The standard's table: the side, a region's side, the regions, data words, check words, blocks.

@@ -1,10 +1,12 @@
 //! Desks over sets in memory: labels that are scanned, pages that come and go, and what is held.
 
 use dm_append_label::{FileId, Page, seal};
-use dm_assembly_desk::{Accepted, Desk, ForgetFault, ImportFault, Imported, Kind, ScanFault};
-use dm_check_blocks::Size;
+use dm_assembly_desk::{
+    Accepted, AskFault, Desk, ForgetFault, ImportFault, Imported, Kind, ScanFault,
+};
 use dm_encodation::Scheme;
 use dm_finder_frame::Grid;
+use dm_size::Size;
 use dm_store::{MemSet, NextSave, StoreSet};
 use std::alloc::Global;
 use std::process::Abort;
@@ -142,6 +144,7 @@ fn save_fails(rt: &impl Abort, alloc: Global, next: NextSave, kind: Kind) {
     let mut desk = opened(rt, alloc, desk.close(), 4);
     assert!(rt; answers(alloc, &mut desk, scan, Ok(kind)));
     assert!(rt; holds_second(&desk, id));
+    assert!(rt; matches!(desk.document(id), Err(AskFault::Incomplete { missing: 1 })));
 }
 
 #[test]

@@ -1,7 +1,7 @@
 //! Texts as data words, and back.
 
-use dm_check_blocks::Size;
 use dm_encodation::{DecodeFault, EncodeFault, Scheme, decode, encode, fit, need};
+use dm_size::Size;
 use std::alloc::Global;
 
 // `encode` where the head isn't too long itself.

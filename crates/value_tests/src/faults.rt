@@ -1,10 +1,10 @@
 //! The texts of faults.
 
 use dm_append_label::{HeadFault, LabelFault, PageFault, SealFault, cut};
-use dm_check_blocks::Size;
 use dm_corrector::{BlockFault, Uncorrectable};
 use dm_encodation::{DecodeFault, EncodeFault, Scheme};
 use dm_finder_frame::{FrameFault, GridFault};
+use dm_size::Size;
 use dm_symbol::SymbolFault;
 use std::test::Fail;
 

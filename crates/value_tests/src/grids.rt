@@ -1,9 +1,9 @@
 //! Where each bit of a word stands, and the finder patterns around and between the regions.
 
 use crate::worked::{WORDS, is_worked_example, worked_modules};
-use dm_check_blocks::Size;
 use dm_finder_frame::{FrameFault, Grid, GridFault, cell_of, frame, unframe};
-use dm_placement::{Layout, Matrix, lift, lift_with, place, place_with};
+use dm_placement::{Layout, lift, lift_with, place, place_with};
+use dm_size::{Matrix, Size};
 use std::test::Fail;
 
 // A word in a corner's shape, and the cells of its bits.
@@ -31,7 +31,7 @@ fn words_stand_in_corners(rt: HostRuntime) -> Result<(), Fail> {
 
 // In side 12 four cells are free, two of them dark. A module of a finder pattern has no cell.
 #[test]
-#[tactic(auto, unfolding(dm_check_blocks::specs::Sizes::row))]
+#[tactic(auto, unfolding(dm_size::specs::Sizes::row))]
 fn cells_are_free_or_on_no_finder_pattern(rt: HostRuntime) -> Result<(), Fail> {
     let matrix = place(rt.alloc(), Size::Side12, &[0; 12])?;
     assert!(rt; matrix.side() == 10);
@@ -47,7 +47,7 @@ fn cells_are_free_or_on_no_finder_pattern(rt: HostRuntime) -> Result<(), Fail> {
 
 // The words of the standard's example are placed as it draws them, with a layout made before and without.
 #[test]
-#[tactic(auto, unfolding(dm_check_blocks::specs::Sizes::row))]
+#[tactic(auto, unfolding(dm_size::specs::Sizes::row))]
 fn the_words_give_the_drawn_modules(rt: HostRuntime) -> Result<(), Fail> {
     let alloc = rt.alloc();
     let layout = Layout::of_size(alloc, Size::Side10)?;
@@ -61,7 +61,7 @@ fn the_words_give_the_drawn_modules(rt: HostRuntime) -> Result<(), Fail> {
 
 // The modules that it draws give them back.
 #[test]
-#[tactic(auto, unfolding(dm_check_blocks::specs::Sizes::row))]
+#[tactic(auto, unfolding(dm_size::specs::Sizes::row))]
 fn the_drawn_modules_hold_the_words(rt: HostRuntime) -> Result<(), Fail> {
     let alloc = rt.alloc();
     let drawn = Grid::of_modules(alloc, 10, &worked_modules())?;
@@ -76,9 +76,9 @@ fn the_drawn_modules_hold_the_words(rt: HostRuntime) -> Result<(), Fail> {
 
 // A matrix with all modules light holds words 0, and one dark module is one bit.
 #[test]
-#[tactic(auto, unfolding(dm_check_blocks::specs::Sizes::row))]
+#[tactic(auto, unfolding(dm_size::specs::Sizes::row))]
 fn a_light_matrix_holds_zeros(rt: HostRuntime) -> Result<(), Fail> {
-    let mut matrix = Matrix::light(rt.alloc(), Size::Side12)?;
+    let mut matrix = Matrix::light(rt.alloc(), Size::Side12.mapping())?;
     assert!(rt; matrix.side() == 10);
     assert!(rt; lift(rt.alloc(), Size::Side12, &matrix)?.as_slice() == [0; 12].as_slice());
     let layout = Layout::of_size(rt.alloc(), Size::Side12)?;

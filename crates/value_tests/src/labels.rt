@@ -5,10 +5,10 @@ use dm_append_label::{
     FileId, LabelFault, Page, SealFault, cut, open_label, open_label_with, seal, seal_with,
     still_near,
 };
-use dm_check_blocks::Size;
 use dm_encodation::{DecodeFault, Scheme};
 use dm_finder_frame::Grid;
 use dm_placement::Layout;
+use dm_size::Size;
 use dm_symbol::{SymbolReader, correct_grid, draw_symbol};
 use std::alloc::{AllocError, Global};
 use std::test::Fail;
@@ -147,7 +147,7 @@ fn heads_are_told_apart(rt: HostRuntime) -> Result<(), Fail> {
 
 // Of the first label of `1234` in side 12 one module of each of three words is turned over, then of a fourth.
 #[test]
-#[tactic(auto, unfolding(dm_check_blocks::specs::Sizes::row))]
+#[tactic(auto, unfolding(dm_size::specs::Sizes::row))]
 fn three_words_are_near_and_four_are_not(rt: HostRuntime) -> Result<(), Fail> {
     let label = sealed(rt.alloc(), 1, 2, b"12", Scheme::Ascii, Size::Side12)?;
     assert!(rt; label.side() == 12);

@@ -1,6 +1,6 @@
 //! Tests with values from outside. Of symbols and labels, layer by layer: the field, sizes and check words,
-//! corrections, encodations, the cells of the mapping matrix and finder patterns, whole symbols, and labels. Of printers
-//! and desks over stores in memory: each public call, over ample memory. And the texts of faults.
+//! corrections, encodations, the cells of the mapping matrix and finder patterns, whole symbols, and labels. Of
+//! printers and desks over stores in memory: each public call, over ample memory. And the texts of faults.
 #![tactic(auto)]
 
 #[cfg(test)]
@@ -8,11 +8,15 @@ mod bad_files;
 #[cfg(test)]
 mod blocks;
 #[cfg(test)]
+mod corrector;
+#[cfg(test)]
 mod desks;
 #[cfg(test)]
 mod encodations;
 #[cfg(test)]
 mod faults;
+#[cfg(test)]
+mod field;
 #[cfg(test)]
 mod grids;
 #[cfg(test)]

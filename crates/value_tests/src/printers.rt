@@ -1,11 +1,11 @@
 //! Printers over stores in memory, from their first ledger on: labels, the bytes that are saved, and tickets.
 
 use dm_append_label::open_label;
-use dm_check_blocks::Size;
 use dm_encodation::Scheme;
 use dm_print_ledger::{
     CreateFault, GiveFault, Job, OpenFault, PrintFault, Printer, Range, TakeFault, Ticket,
 };
+use dm_size::Size;
 use dm_store::{MemStore, NextSave};
 use std::alloc::Global;
 use std::process::Abort;

@@ -1,9 +1,9 @@
 //! Whole symbols, drawn and read.
 
 use crate::worked::{WORDS, flip_all, is_worked_example};
-use dm_check_blocks::Size;
 use dm_finder_frame::Grid;
 use dm_placement::Layout;
+use dm_size::Size;
 use dm_symbol::{SymbolFault, SymbolReader, correct_grid, draw_symbol, draw_words, still_near};
 use std::alloc::Global;
 use std::test::Fail;
@@ -19,7 +19,7 @@ fn reads(alloc: Global, reader: &mut SymbolReader, grid: &Grid, words: &[u8]) ->
 // Two words of eight are wrong: modules (2, 2) and (6, 6) stand in two words, (0, 1) and (9, 3) on the frame. One
 // reader reads that symbol, one of another size, and the first again.
 #[test]
-#[tactic(auto, unfolding(dm_check_blocks::specs::Sizes::row))]
+#[tactic(auto, unfolding(dm_size::specs::Sizes::row))]
 fn symbols_are_drawn_and_read(rt: HostRuntime) -> Result<(), Fail> {
     let layout = Layout::of_size(rt.alloc(), Size::Side10)?;
     let mut grid = draw_symbol(rt.alloc(), &layout, &WORDS[..3])?;
@@ -44,7 +44,7 @@ fn is_refused(alloc: Global, grid: &Grid, fault: SymbolFault) -> bool {
 // Flips in two words and on the frame, and in four words. Where all modules are light, 27 of the 36 on the frame are
 // wrong, and where all are dark the other 9.
 #[test]
-#[tactic(auto, unfolding(dm_check_blocks::specs::Sizes::row))]
+#[tactic(auto, unfolding(dm_size::specs::Sizes::row))]
 fn grids_are_near_or_refused(rt: HostRuntime) -> Result<(), Fail> {
     let layout = Layout::of_size(rt.alloc(), Size::Side10)?;
     let drawn = draw_words(rt.alloc(), &layout, &WORDS)?;

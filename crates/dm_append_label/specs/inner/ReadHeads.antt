@@ -3,8 +3,8 @@ use Rattle.std.specs.Prelude.{◌≡◌, Result, Ok, Err, ℕ, List, length, tak
 use Rattle.dm_append_label.specs.Labels.{HeadView, IsHead, head_of, head_words, PageView}
 use Rattle.dm_append_label.specs.declared.fault.HeadFault.{HeadFault}
 use Rattle.dm_append_label.specs.declared.head.Head.{Head}
-use Rattle.dm_check_blocks.specs.declared.size.Size.{Size}
-use Rattle.dm_check_blocks.specs.Sizes.{data_words}
+use Rattle.dm_size.specs.declared.size.Size.{Size}
+use Rattle.dm_size.specs.Sizes.{data_words}
 use Rattle.dm_encodation.specs.declared.scheme.Scheme.{Scheme}
 use Rattle.dm_encodation.specs.Written.{filled}
 use Rattle.dm_encodation.specs.Grammar.{ReadsOnly}

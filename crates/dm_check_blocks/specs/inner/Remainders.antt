@@ -3,8 +3,9 @@ use Rattle.std.specs.Prelude.{◌≡◌, ℕ, ◌+◌, ◌≤◌, List, [], leng
 use Rattle.std.specs.Int.Bits.{bit_xor}
 use Rattle.std.specs.List.{All}
 use Rattle.dm_gf256.specs.Field.{power, product, value, IsBlockWord}
-use Rattle.dm_check_blocks.specs.declared.size.Size.{Size}
-use Rattle.dm_check_blocks.specs.Sizes.{data_words, blocks, block_data, block_checks, position}
+use Rattle.dm_size.specs.declared.size.Size.{Size}
+use Rattle.dm_size.specs.Sizes.{data_words, blocks, block_data, block_checks}
+use Rattle.dm_check_blocks.specs.Blocks.{position}
 
 -- row k of a table
 abbrev pub row_at : List (List ℕ) → ℕ → List ℕ

@@ -2,7 +2,7 @@
 use Rattle.std.specs.Prelude.{◌≡◌, ℕ, ◌+◌, ◌*◌, ◌<◌, Bool, false, nat_lt, List, length, get_or, if◌then◌else◌, ◌≢◌, true, [], ◌∷◌, Option, MatchOption, ◌-◌, ◌==◌, ◌≤◌, min, Some, None}
 use Rattle.std.specs.Io.KnownBytes.{Appends, Consumes, IsAtEnd, Keeps}
 use Rattle.std.specs.Char.{is_ascii_digit}
-use Rattle.dm_placement.specs.Placement.{Square}
+use Rattle.dm_size.specs.Squares.{Square}
 use Rattle.dm_pbm_io.specs.Image.{pixel_with_quiet_zone}
 use Rattle.dm_pbm_io.specs.declared.fault.PbmFault.{PbmFault}
 use Rattle.dm_pbm_io.specs.declared.fault.ByteFault.{ByteFault}

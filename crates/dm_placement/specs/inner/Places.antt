@@ -2,12 +2,13 @@
 use Rattle.std.specs.Prelude.{ℕ, ◌+◌, false, List, get_or, map, ◌≡◌, ◌≤◌, ◌<◌, ◌-◌, ◌*◌, ◌%◌, [], ◌∷◌, zero, suc, Bool, true, ◌==◌, nat_lt, nat_le, ◌&&◌, ◌||◌, not, if◌then◌else◌, ◌++◌, Option, Some, None}
 use Rattle.std.specs.List.{range_with_len, flat_map}
 use Rattle.std.specs.Option.{option_map, option_to_list}
-use Rattle.dm_placement.specs.Placement.{number_of, Square, IsIn, place_of, cell_at, is_left_out, shape_cells, shapes}
+use Rattle.dm_size.specs.Squares.{Square}
+use Rattle.dm_placement.specs.Placement.{number_of, IsIn, place_of, cell_at, is_left_out, shape_cells, shapes}
 use Rattle.dm_placement.specs.declared.shape.Cell.{Cell}
 use Rattle.dm_placement.specs.declared.shape.Shape.{Shape}
 use Rattle.dm_placement.specs.declared.shape.Shape.TheVariants.{Plain, CornerOne, CornerTwo}
-use Rattle.dm_check_blocks.specs.declared.size.Size.{Size}
-use Rattle.dm_check_blocks.specs.Sizes.{mapping}
+use Rattle.dm_size.specs.declared.size.Size.{Size}
+use Rattle.dm_size.specs.Sizes.{mapping}
 use Rattle.dm_placement.specs.declared.walk.Sweep.{Sweep}
 use Rattle.dm_placement.specs.declared.walk.Sweep.TheVariants.{Start, Up, Down}
 use Rattle.dm_placement.specs.declared.walk.Walk.{Walk}

@@ -1,5 +1,5 @@
 use Rattle.std.proofs.Common.{◌≡◌, ◌++◌, ◌∙◌, ap, arith, drop, get_or, length}
-use Rattle.dm_check_blocks.specs.Sizes.{all_words}
+use Rattle.dm_size.specs.Sizes.{all_words}
 use Rattle.dm_check_blocks.proofs.Symbols.{completes_taken, one_symbol}
 use Rattle.dm_check_blocks.proofs.symbol.complete.Goals as goal
 

@@ -2,8 +2,8 @@ use Rattle.std.proofs.Common.{◌≡◌, ◌-◌, ◌*◌, ◌++◌, ◌<◌, �
 use Rattle.std.proofs.lemmas.List.{append-nil, drop_all}
 use Rattle.std.proofs.lemmas.List.Elements.{All-from_get_or}
 use Rattle.dm_gf256.specs.Field.{power, value}
-use Rattle.dm_check_blocks.specs.Sizes.{data_words, all_words, blocks, block_checks}
-use Rattle.dm_check_blocks.proofs.Sound.{sound}
+use Rattle.dm_size.specs.Sizes.{data_words, all_words, blocks, block_checks}
+use Rattle.dm_size.proofs.Sound.{sound}
 use Rattle.dm_check_blocks.proofs.Interleaving.{single_block}
 use Rattle.dm_check_blocks.proofs.symbol.complete_blocks.Goals as goal
 use borrow.Rule.Slice.PartMut.{put_mid}

@@ -2,9 +2,10 @@ use Rattle.std.proofs.Common.{◌≡◌, ◌+◌, ◌-◌, ◌<◌, ◌++◌, �
 use Rattle.std.specs.Prelude.{slice_range}
 use Rattle.std.proofs.lemmas.List.{get_or-take, get_or-drop}
 use Rattle.dm_gf256.specs.Field.{power, value}
-use Rattle.dm_check_blocks.specs.Sizes.{blocks, block_data, block_checks, position, block_of}
+use Rattle.dm_size.specs.Sizes.{blocks, block_data, block_checks}
+use Rattle.dm_check_blocks.specs.Blocks.{position, block_of}
 use Rattle.dm_check_blocks.specs.inner.Remainders.{row_at, IsDivided}
-use Rattle.dm_check_blocks.proofs.Sound.{sound}
+use Rattle.dm_size.proofs.Sound.{sound}
 use Rattle.dm_check_blocks.proofs.DivisionSteps.{divided_message}
 use Rattle.dm_check_blocks.proofs.Interleaving.{block_of-parts, position_in_data}
 use Rattle.dm_check_blocks.proofs.symbol.complete_in_turns.Goals as goal

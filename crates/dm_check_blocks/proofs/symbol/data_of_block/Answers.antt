@@ -1,5 +1,6 @@
 use Rattle.std.proofs.Common.{◌≡◌, ◌≢◌, ap, arith, get_or, get_or-set_other, length-set, refl}
-use Rattle.dm_check_blocks.specs.Sizes.{position, block_data}
+use Rattle.dm_size.specs.Sizes.{block_data}
+use Rattle.dm_check_blocks.specs.Blocks.{position}
 use Rattle.dm_check_blocks.proofs.DivisionSteps.{zeros_at}
 use Rattle.dm_check_blocks.proofs.Interleaving.{gathered_more}
 use Rattle.dm_check_blocks.proofs.symbol.data_of_block.Goals as goal

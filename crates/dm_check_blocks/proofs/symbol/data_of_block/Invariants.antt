@@ -1,5 +1,5 @@
 use Rattle.std.proofs.Common.{◌≡◌, ◌<◌, ◌≤◌, ℕ, get_or, length}
-use Rattle.dm_check_blocks.specs.Sizes.{position}
+use Rattle.dm_check_blocks.specs.Blocks.{position}
 use Rattle.dm_check_blocks.proofs.symbol.data_of_block.Given as goal
 
 abbrev pub invariant-loop-i : goal.invariant-loop-i

@@ -1,6 +1,7 @@
 use Rattle.std.proofs.Common.{◌≢◌, ◌-◌, ◌+◌, sym, ◌∙◌, inl, inr, arith, below_more, ap, drop, get_or, ℕ, List}
 use Rattle.std.proofs.lemmas.List.{get_or-take, get_or-drop}
-use Rattle.dm_check_blocks.specs.Sizes.{block_data, position}
+use Rattle.dm_size.specs.Sizes.{block_data}
+use Rattle.dm_check_blocks.specs.Blocks.{position}
 use Rattle.dm_check_blocks.specs.inner.Remainders.{row_at}
 use Rattle.dm_check_blocks.proofs.Interleaving.{position-mod}
 use Rattle.dm_check_blocks.proofs.symbol.write_blocks.Goals as goal

@@ -1,5 +1,5 @@
 use Rattle.std.proofs.Common.{◌≡◌, ◌<◌, ℕ, get_or}
-use Rattle.dm_check_blocks.specs.Sizes.{data_words}
+use Rattle.dm_size.specs.Sizes.{data_words}
 use Rattle.dm_check_blocks.specs.inner.Remainders.{row_at, HoldsChecks}
 use Rattle.dm_check_blocks.proofs.symbol.write_blocks.Given as goal
 

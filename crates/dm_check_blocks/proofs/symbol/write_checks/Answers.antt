@@ -1,5 +1,6 @@
 use Rattle.std.proofs.Common.{◌≡◌, ◌+◌, sym, ◌∙◌, ap, arith}
-use Rattle.dm_check_blocks.specs.Sizes.{block_data, position}
+use Rattle.dm_size.specs.Sizes.{block_data}
+use Rattle.dm_check_blocks.specs.Blocks.{position}
 use Rattle.dm_check_blocks.proofs.Interleaving.{written_more, others_more}
 use Rattle.dm_check_blocks.proofs.symbol.write_checks.Goals as goal
 

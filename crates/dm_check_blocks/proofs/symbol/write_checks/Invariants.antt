@@ -1,5 +1,6 @@
 use Rattle.std.proofs.Common.{◌≡◌, ◌≢◌, ◌<◌, ◌⊎◌, ◌+◌, ◌%◌, ℕ, get_or}
-use Rattle.dm_check_blocks.specs.Sizes.{data_words, blocks, block_data, position}
+use Rattle.dm_size.specs.Sizes.{data_words, blocks, block_data}
+use Rattle.dm_check_blocks.specs.Blocks.{position}
 use Rattle.dm_check_blocks.proofs.symbol.write_checks.Given as goal
 
 abbrev pub invariant-loop-k : goal.invariant-loop-k

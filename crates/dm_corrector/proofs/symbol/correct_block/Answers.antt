@@ -1,7 +1,8 @@
 use Rattle.std.proofs.Common.{◌≡◌, ◌<◌, ◌≤◌, ◌+◌, ◌-◌, ◌*◌, ◌%◌, ℕ, List, sym, ap, subst, ◌∙◌, arith, length, length-take, take, get_or, Result, Ok, Err, OnErr}
 use Rattle.std.proofs.lemmas.Nat.{mod-mul-add}
 use Rattle.dm_gf256.specs.Field.{power, differ, value}
-use Rattle.dm_check_blocks.specs.Sizes.{blocks, block_checks, block_data, block_length, all_words, block_of}
+use Rattle.dm_size.specs.Sizes.{blocks, block_checks, block_data, block_length, all_words}
+use Rattle.dm_check_blocks.specs.Blocks.{block_of}
 use Rattle.dm_check_blocks.proofs.Interleaving.{length-block_of}
 use Rattle.dm_corrector.proofs.SymbolBlocks.{carried, is_block, in_symbol, block_of-at}
 use Rattle.dm_corrector.proofs.symbol.correct_block.Goals as goal

@@ -1,7 +1,8 @@
 use Rattle.std.proofs.Common.{◌≡◌, ◌<◌, ◌≤◌, ◌+◌, ℕ, List, sym, ap, ◌∙◌, subst, arith, length, get_or, take}
 use Rattle.dm_gf256.specs.Field.{differ}
 use Rattle.dm_gf256.proofs.OneBlockWord.{differ-self}
-use Rattle.dm_check_blocks.specs.Sizes.{all_words, blocks, block_data, block_checks, block_length, block_of}
+use Rattle.dm_size.specs.Sizes.{all_words, blocks, block_data, block_checks, block_length}
+use Rattle.dm_check_blocks.specs.Blocks.{block_of}
 use Rattle.dm_corrector.specs.Symbols.{Corrects}
 use Rattle.dm_corrector.proofs.Corrected.{one_correction}
 use Rattle.dm_corrector.proofs.Differences.{differ_le}

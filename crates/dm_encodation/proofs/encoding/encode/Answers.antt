@@ -1,5 +1,5 @@
 use Rattle.std.proofs.Common.{rules, ◌≡◌, ◌≤◌, arith}
-use Rattle.dm_check_blocks.specs.Sizes.{data_words}
+use Rattle.dm_size.specs.Sizes.{data_words}
 use Rattle.dm_encodation.specs.Written.{filled, need_of}
 use Rattle.dm_encodation.proofs.Filled.{length-filled, take-filled, filled_read}
 use Rattle.dm_encodation.proofs.Reread.{below_256}

@@ -1,6 +1,6 @@
 use Rattle.std.proofs.Common.{◌≡◌, ◌*◌, ℕ, Bool, List, ap, ◌∙◌, arith}
 use Rattle.std.proofs.lemmas.List.FromFn.{length-map-range_with_len}
-use Rattle.dm_check_blocks.specs.Sizes.{side}
+use Rattle.dm_size.specs.Sizes.{side}
 use Rattle.dm_finder_frame.specs.Frame.{GridView, grid_module, grid_modules}
 use Rattle.dm_finder_frame.specs.inner.Filled.{first_modules}
 use Rattle.dm_finder_frame.proofs.framing.frame.Goals as goal

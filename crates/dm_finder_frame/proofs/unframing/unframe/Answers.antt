@@ -1,7 +1,7 @@
 use Rattle.std.proofs.Common.{rules}
 use Rattle.std.proofs.Common.{◌≡◌, ◌+◌, ◌*◌, arith, sym, subst, ℕ, Result, Ok, Err, IsErr, IsErrAnd}
-use Rattle.dm_check_blocks.specs.declared.size.Size.{Size}
-use Rattle.dm_check_blocks.specs.Sizes.{region, regions}
+use Rattle.dm_size.specs.declared.size.Size.{Size}
+use Rattle.dm_size.specs.Sizes.{region, regions}
 use Rattle.dm_finder_frame.specs.declared.fault.FrameFault.{FrameFault}
 use Rattle.dm_finder_frame.specs.declared.fault.FrameFault.TheVariants.{Memory}
 use Rattle.dm_finder_frame.specs.declared.unframing.Framed.{Framed}

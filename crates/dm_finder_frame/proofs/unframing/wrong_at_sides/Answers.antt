@@ -1,5 +1,5 @@
 use Rattle.std.proofs.Common.{◌≡◌, ◌+◌, ◌*◌, ap, ◌∙◌, arith}
-use Rattle.dm_check_blocks.specs.Sizes.{region, across, side}
+use Rattle.dm_size.specs.Sizes.{region, across, side}
 use Rattle.dm_finder_frame.specs.inner.Filled.{wrong_among}
 use Rattle.dm_finder_frame.proofs.GridPlaces.{even_columns, fills_side, most_across}
 use Rattle.dm_finder_frame.proofs.RowSteps.{parts_fit}

@@ -1,6 +1,6 @@
 use Rattle.std.specs.Prelude.{◌%◌}
 use Rattle.std.proofs.Common.{◌≡◌, ◌≤◌, ◌+◌, ◌*◌}
-use Rattle.dm_check_blocks.specs.Sizes.{region, side}
+use Rattle.dm_size.specs.Sizes.{region, side}
 use Rattle.dm_finder_frame.specs.inner.Filled.{wrong_among}
 use Rattle.dm_finder_frame.proofs.unframing.wrong_count.Given as goal
 

@@ -1,6 +1,6 @@
 use Rattle.std.specs.Prelude.{◌%◌}
 use Rattle.std.proofs.Common.{◌≡◌, ℕ, ◌+◌, ◌*◌, ◌<◌, ◌||◌, Bool, cond, eqb, false, get_or, ap, sym, ◌∙◌, arith}
-use Rattle.dm_check_blocks.specs.Sizes.{side, region}
+use Rattle.dm_size.specs.Sizes.{side, region}
 use Rattle.dm_finder_frame.specs.Frame.{is_wrong, GridView, grid_module_at}
 use Rattle.dm_finder_frame.specs.inner.Filled.{wrong_among}
 use Rattle.dm_finder_frame.proofs.GridPlaces.{even_columns}

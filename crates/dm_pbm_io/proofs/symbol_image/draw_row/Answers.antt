@@ -1,5 +1,5 @@
 use Rattle.std.proofs.Common.{◌+◌, ◌∙◌, refl}
-use Rattle.dm_check_blocks.specs.Sizes.{side}
+use Rattle.dm_size.specs.Sizes.{side}
 use Rattle.dm_finder_frame.specs.Frame.{square_of}
 use Rattle.dm_pbm_io.proofs.QuietZone.{row_drawn, same_place}
 use Rattle.dm_pbm_io.proofs.symbol_image.draw_row.Goals as goal

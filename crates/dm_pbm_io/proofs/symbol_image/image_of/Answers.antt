@@ -1,5 +1,5 @@
 use Rattle.std.proofs.Common.{◌≡◌, ◌+◌, ap, refl, ◌∙◌, arith}
-use Rattle.dm_check_blocks.specs.Sizes.{side}
+use Rattle.dm_size.specs.Sizes.{side}
 use Rattle.dm_finder_frame.specs.Frame.{square_of}
 use Rattle.dm_pbm_io.proofs.OneImage.{same_picture}
 use Rattle.dm_pbm_io.proofs.QuietZone.{drawn_pixels}

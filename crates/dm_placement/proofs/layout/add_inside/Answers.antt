@@ -1,6 +1,6 @@
 use Rattle.std.proofs.lemmas.Grind.{common_steps}
 use Rattle.std.proofs.Common.{◌≡◌, ◌+◌, ◌-◌, ◌++◌, ℕ, List, Some, ap, append-nil, arith, map, subst, sym, ◌∙◌}
-use Rattle.dm_check_blocks.specs.Sizes.{mapping}
+use Rattle.dm_size.specs.Sizes.{mapping}
 use Rattle.dm_placement.specs.declared.shape.Shape.TheVariants.{Plain}
 use Rattle.dm_placement.specs.Placement.{shape_cells, place_of}
 use Rattle.dm_placement.specs.inner.Places.{IsInside}

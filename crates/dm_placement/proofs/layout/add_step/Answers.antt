@@ -1,5 +1,5 @@
 use Rattle.std.proofs.Common.{arith, ◌++◌, ℕ, List, Some, ap, append-nil, map, subst, sym, ◌∙◌}
-use Rattle.dm_check_blocks.specs.Sizes.{mapping}
+use Rattle.dm_size.specs.Sizes.{mapping}
 use Rattle.dm_placement.specs.Placement.{shape_cells, place_of}
 use Rattle.dm_placement.specs.inner.Places.{IsPlaceable, IsSideSound}
 use Rattle.dm_placement.proofs.EachSize.{side_is_sound}

@@ -2,9 +2,10 @@ use Rattle.std.specs.Int.{bit_at}
 use Rattle.std.proofs.Common.{zero-add, false, ◌≡◌, ◌<◌, ◌+◌, ◌-◌, ◌*◌, ◌/◌, ◌%◌, arith, ap, refl, sym, ◌∙◌, get_or, set, subst, length, eqb, Bool, List, ℕ, map}
 use Rattle.std.proofs.lemmas.List.{length-map}
 use Rattle.std.proofs.lemmas.List.FromFn.{get_or-map-range_with_len}
-use Rattle.dm_check_blocks.specs.declared.size.Size.{Size}
-use Rattle.dm_check_blocks.specs.Sizes.{all_words, mapping}
-use Rattle.dm_placement.specs.Placement.{byte_bits, bit_cells, cell_at, dark_cells, bit_of, Square, place_of, with_module, with_dark, light_square}
+use Rattle.dm_size.specs.declared.size.Size.{Size}
+use Rattle.dm_size.specs.Sizes.{all_words, mapping}
+use Rattle.dm_size.specs.Squares.{Square, with_module, light_square}
+use Rattle.dm_placement.specs.Placement.{byte_bits, bit_cells, cell_at, dark_cells, bit_of, place_of, with_dark}
 use Rattle.dm_placement.proofs.EachSize.{side_is_sound}
 use Rattle.dm_placement.proofs.Places.{place_at, places_in}
 use Rattle.dm_placement.proofs.PlacedBits.{Placing, placing_start, placing_step, placing_end}

@@ -1,5 +1,5 @@
 use Rattle.std.proofs.Common.{◌≡◌, ◌∙◌, sym, subst}
-use Rattle.dm_check_blocks.specs.declared.size.Size.{Size}
+use Rattle.dm_size.specs.declared.size.Size.{Size}
 use Rattle.dm_print_ledger.specs.Verdicts.{HasLabels}
 use Rattle.relay_printer_commands.proofs.Sizes.{same_size}
 use Rattle.relay_printer_commands.proofs.plan.count_of.Goals as goal

@@ -1,6 +1,6 @@
 use Rattle.std.proofs.Common.{◌<◌}
-use Rattle.dm_check_blocks.specs.declared.size.Size.{Size}
-use Rattle.dm_check_blocks.specs.Sizes.{side}
+use Rattle.dm_size.specs.declared.size.Size.{Size}
+use Rattle.dm_size.specs.Sizes.{side}
 use Rattle.relay_printer_commands.specs.Print.{Suits}
 use Rattle.relay_printer_commands.proofs.print.chosen.Given as goal
 

@@ -1,6 +1,6 @@
 use Rattle.std.proofs.Common.{Err, subst}
 use Rattle.std.proofs.lemmas.Result.{err_from_is_err_and}
-use Rattle.dm_check_blocks.specs.declared.size.Size.{Size}
+use Rattle.dm_size.specs.declared.size.Size.{Size}
 use Rattle.dm_symbol.specs.Correction.{data_of}
 use Rattle.dm_append_label.specs.Opening.{ReadsPage}
 use Rattle.relay_symbol_commands.specs.Read.HasLine.{label}

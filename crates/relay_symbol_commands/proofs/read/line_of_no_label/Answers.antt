@@ -1,6 +1,6 @@
 use Rattle.std.proofs.Common.{◌≡◌, rules, string_bytes}
 use Rattle.std.proofs.lemmas.Result.{err_from_is_err_and}
-use Rattle.dm_check_blocks.specs.Sizes.{side}
+use Rattle.dm_size.specs.Sizes.{side}
 use Rattle.relay_symbol_commands.specs.Read.{symbol_line}
 use Rattle.relay_symbol_commands.specs.Read.HasLine.{symbol}
 use Rattle.relay_symbol_commands.specs.Read.RefusesGrid.{memory, text}

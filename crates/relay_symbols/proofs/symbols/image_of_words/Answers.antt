@@ -1,5 +1,5 @@
 use Rattle.std.proofs.Common.{ap, rules, ◌∙◌}
-use Rattle.dm_check_blocks.specs.declared.size.Size.{Size}
+use Rattle.dm_size.specs.declared.size.Size.{Size}
 use Rattle.dm_symbol.specs.Correction.{grid_of_words}
 use Rattle.dm_pbm_io.specs.Image.{p4}
 use Rattle.relay_symbols.proofs.Outcomes.{some_of_ok}

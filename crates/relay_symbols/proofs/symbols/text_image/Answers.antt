@@ -1,6 +1,6 @@
 use Rattle.std.proofs.Common.{[], rules, subst}
-use Rattle.dm_check_blocks.specs.Sizes.{data_words}
-use Rattle.dm_check_blocks.specs.declared.size.Size.{Size}
+use Rattle.dm_size.specs.Sizes.{data_words}
+use Rattle.dm_size.specs.declared.size.Size.{Size}
 use Rattle.dm_encodation.specs.Written.{filled}
 use Rattle.dm_encodation.specs.declared.scheme.Scheme.TheVariants.{Ascii}
 use Rattle.dm_symbol.specs.Correction.{DrawsSymbol}

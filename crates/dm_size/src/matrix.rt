@@ -1,10 +1,10 @@
 //! Squares of modules.
 
 ghost use Rattle.std.specs.Prelude.{◌≡◌, ◌<◌, ◌≤◌, ◌+◌, ◌*◌, IfOk, false, get_or, length, set, slice_range};
-ghost use Rattle.dm_check_blocks.specs.Sizes.{mapping};
-ghost use Rattle.dm_placement.specs.Placement.{Square, IsWhole, module_at, light_square, with_module};
+ghost use Rattle.dm_size.specs.Sizes.{mapping};
+ghost use Rattle.dm_size.specs.Squares.{Square, IsWhole, module_at, light_square, with_module};
 
-use dm_check_blocks::Size;
+use crate::size::Size;
 use std::alloc::{AllocError, Allocator, Global};
 use std::marker::Model;
 
@@ -24,14 +24,16 @@ impl<A: Allocator> Model for Matrix<A> {
 }
 
 impl<A: Allocator> Matrix<A> {
-    /// The mapping matrix of a size with all modules light.
+    /// A square of light modules, at most 120 along a side.
     ///
     /// # Errors
     /// Where the allocator refuses its memory.
-    pub fn light(alloc: A, size: Size) -> Result<Matrix<A>, AllocError>
-        ensures { IfOk result (λ m. m ≡ light_square (mapping size)) }
+    pub fn light(alloc: A, side: u16) -> Result<Matrix<A>, AllocError>
+        requires { side ≤ 120 }
+        ensures { IfOk result (λ m. m ≡ light_square side) }
     {
-        light_of_side(alloc, size.mapping())
+        let modules = vec![in alloc; false; side as usize * side as usize]?;
+        Ok(Matrix { side, modules })
     }
 
     /// Modules along a side.
@@ -89,7 +91,7 @@ impl<A: Allocator> Matrix<A> {
 
     /// Whether the module at a place, row by row, is dark.
     #[inline(always)]
-    pub(crate) fn is_dark(&self, place: usize) -> bool
+    pub fn is_dark(&self, place: usize) -> bool
         requires { place < self.now.side * self.now.side }
         ensures { result ≡ get_or self.now.modules place false }
     {
@@ -98,7 +100,7 @@ impl<A: Allocator> Matrix<A> {
 
     /// Makes the module at a place, row by row, dark or light.
     #[inline(always)]
-    pub(crate) fn make(&mut self, place: usize, dark: bool)
+    pub fn make(&mut self, place: usize, dark: bool)
         requires { place < self.old.side * self.old.side }
         ensures { self.new ≡ record { side = self.old.side; modules = set self.old.modules place dark } }
     {
@@ -113,13 +115,4 @@ impl<A: Allocator> Matrix<A> {
     {
         self.make(self.index(row, column), dark);
     }
-}
-
-/// A square of light modules.
-pub(crate) fn light_of_side<A: Allocator>(alloc: A, side: u16) -> Result<Matrix<A>, AllocError>
-    requires { side ≤ 120 }
-    ensures { IfOk result (λ m. m ≡ light_square side) }
-{
-    let modules = vec![in alloc; false; side as usize * side as usize]?;
-    Ok(Matrix { side, modules })
 }

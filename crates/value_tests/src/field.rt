@@ -1,6 +1,6 @@
-use crate::by_bits::product_by_bits;
-use crate::element::Gf;
-use crate::multiple::add_multiple;
+//! The field of 256 elements.
+
+use dm_gf256::{Gf, add_multiple};
 
 #[test]
 fn worked_values(rt: HostRuntime) {
@@ -25,6 +25,25 @@ fn the_generator_of_five_check_words(rt: HostRuntime) {
 }
 
 #[test]
+fn adds_a_multiple(rt: HostRuntime) {
+    let mut target = [1, 128, 7];
+    add_multiple(&mut target, &[0, 128, 1], 2);
+    assert!(rt; target == [1, 128 ^ 45, 5]);
+}
+
+// The product of two elements bit by bit, as it is defined.
+fn product_by_bits(a: u8, b: u8) -> u8 {
+    let (mut sum, mut shifted) = (0, a);
+    for bit in 0..8u8 {
+        if (b >> bit) & 1 == 1 {
+            sum ^= shifted;
+        }
+        shifted = (shifted << 1) ^ if shifted < 128 { 0 } else { 45 };
+    }
+    sum
+}
+
+#[test]
 fn tables_give_the_product_bit_by_bit(rt: HostRuntime) {
     for a in 0..=255u8 {
         for b in 0..=255u8 {
@@ -34,11 +53,4 @@ fn tables_give_the_product_bit_by_bit(rt: HostRuntime) {
             );
         }
     }
-}
-
-#[test]
-fn adds_a_multiple(rt: HostRuntime) {
-    let mut target = [1, 128, 7];
-    add_multiple(&mut target, &[0, 128, 1], 2);
-    assert!(rt; target == [1, 128 ^ 45, 5]);
 }

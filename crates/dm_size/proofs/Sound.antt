@@ -1,8 +1,8 @@
 -- What holds of every size, by computing at each.
 use Rattle.std.proofs.Common.{refl, lit≤}
-use Rattle.dm_check_blocks.specs.declared.size.Size.{Size}
-use Rattle.dm_check_blocks.specs.declared.size.Size.TheVariants.{Side10}
-use Rattle.dm_check_blocks.specs.Sizes.{row, IsSound}
+use Rattle.dm_size.specs.declared.size.Size.{Size}
+use Rattle.dm_size.specs.declared.size.Size.TheVariants.{Side10}
+use Rattle.dm_size.specs.Sizes.{row, IsSound}
 
 -- what holds of every size, by computing at each
 pub sound : (s : Size) → IsSound s

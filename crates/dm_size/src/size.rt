@@ -45,35 +45,10 @@ struct Row {
     blocks: u16,
 }
 
-fn row_of(
-    side: u16,
-    region: u16,
-    regions: u16,
-    data_words: u16,
-    check_words: u16,
-    blocks: u16,
-) -> Row
-    ensures side { result.side ≡ side }
-    ensures region { result.region ≡ region }
-    ensures regions { result.regions ≡ regions }
-    ensures data_words { result.data_words ≡ data_words }
-    ensures check_words { result.check_words ≡ check_words }
-    ensures blocks { result.blocks ≡ blocks }
-{
-    Row {
-        side,
-        region,
-        regions,
-        data_words,
-        check_words,
-        blocks,
-    }
-}
-
 impl Size {
     ghost use Rattle.std.specs.Prelude.{◌≡◌, ◌≢◌, IsNone, IfSome};
-    ghost use Rattle.dm_check_blocks.specs.declared.size.Size.{Size};
-    ghost use Rattle.dm_check_blocks.specs.Sizes as sizes;
+    ghost use Rattle.dm_size.specs.declared.size.Size.{Size};
+    ghost use Rattle.dm_size.specs.Sizes as sizes;
 
     /// The size with this many modules along a side, if it is one of the 23.
     #[tactic(auto, unfolding(crate::specs::Sizes::row))]
@@ -121,30 +96,29 @@ impl Size {
         ensures blocks { result.blocks ≡ sizes.blocks self }
     {
         match self {
-            //                     side, region, regions, data, check, blocks
-            Size::Side10  => row_of(  10,      8,       1,    3,     5,      1),
-            Size::Side12  => row_of(  12,     10,       1,    5,     7,      1),
-            Size::Side14  => row_of(  14,     12,       1,    8,    10,      1),
-            Size::Side16  => row_of(  16,     14,       1,   12,    12,      1),
-            Size::Side18  => row_of(  18,     16,       1,   18,    14,      1),
-            Size::Side20  => row_of(  20,     18,       1,   22,    18,      1),
-            Size::Side22  => row_of(  22,     20,       1,   30,    20,      1),
-            Size::Side24  => row_of(  24,     22,       1,   36,    24,      1),
-            Size::Side26  => row_of(  26,     24,       1,   44,    28,      1),
-            Size::Side32  => row_of(  32,     14,       4,   62,    36,      1),
-            Size::Side36  => row_of(  36,     16,       4,   86,    42,      1),
-            Size::Side40  => row_of(  40,     18,       4,  114,    48,      1),
-            Size::Side44  => row_of(  44,     20,       4,  144,    56,      1),
-            Size::Side48  => row_of(  48,     22,       4,  174,    68,      1),
-            Size::Side52  => row_of(  52,     24,       4,  204,    84,      2),
-            Size::Side64  => row_of(  64,     14,      16,  280,   112,      2),
-            Size::Side72  => row_of(  72,     16,      16,  368,   144,      4),
-            Size::Side80  => row_of(  80,     18,      16,  456,   192,      4),
-            Size::Side88  => row_of(  88,     20,      16,  576,   224,      4),
-            Size::Side96  => row_of(  96,     22,      16,  696,   272,      4),
-            Size::Side104 => row_of( 104,     24,      16,  816,   336,      6),
-            Size::Side120 => row_of( 120,     18,      36, 1050,   408,      6),
-            Size::Side132 => row_of( 132,     20,      36, 1304,   496,      8),
+            Size::Side10  => Row { side:  10, region:  8, regions:  1, data_words:    3, check_words:   5, blocks: 1 },
+            Size::Side12  => Row { side:  12, region: 10, regions:  1, data_words:    5, check_words:   7, blocks: 1 },
+            Size::Side14  => Row { side:  14, region: 12, regions:  1, data_words:    8, check_words:  10, blocks: 1 },
+            Size::Side16  => Row { side:  16, region: 14, regions:  1, data_words:   12, check_words:  12, blocks: 1 },
+            Size::Side18  => Row { side:  18, region: 16, regions:  1, data_words:   18, check_words:  14, blocks: 1 },
+            Size::Side20  => Row { side:  20, region: 18, regions:  1, data_words:   22, check_words:  18, blocks: 1 },
+            Size::Side22  => Row { side:  22, region: 20, regions:  1, data_words:   30, check_words:  20, blocks: 1 },
+            Size::Side24  => Row { side:  24, region: 22, regions:  1, data_words:   36, check_words:  24, blocks: 1 },
+            Size::Side26  => Row { side:  26, region: 24, regions:  1, data_words:   44, check_words:  28, blocks: 1 },
+            Size::Side32  => Row { side:  32, region: 14, regions:  4, data_words:   62, check_words:  36, blocks: 1 },
+            Size::Side36  => Row { side:  36, region: 16, regions:  4, data_words:   86, check_words:  42, blocks: 1 },
+            Size::Side40  => Row { side:  40, region: 18, regions:  4, data_words:  114, check_words:  48, blocks: 1 },
+            Size::Side44  => Row { side:  44, region: 20, regions:  4, data_words:  144, check_words:  56, blocks: 1 },
+            Size::Side48  => Row { side:  48, region: 22, regions:  4, data_words:  174, check_words:  68, blocks: 1 },
+            Size::Side52  => Row { side:  52, region: 24, regions:  4, data_words:  204, check_words:  84, blocks: 2 },
+            Size::Side64  => Row { side:  64, region: 14, regions: 16, data_words:  280, check_words: 112, blocks: 2 },
+            Size::Side72  => Row { side:  72, region: 16, regions: 16, data_words:  368, check_words: 144, blocks: 4 },
+            Size::Side80  => Row { side:  80, region: 18, regions: 16, data_words:  456, check_words: 192, blocks: 4 },
+            Size::Side88  => Row { side:  88, region: 20, regions: 16, data_words:  576, check_words: 224, blocks: 4 },
+            Size::Side96  => Row { side:  96, region: 22, regions: 16, data_words:  696, check_words: 272, blocks: 4 },
+            Size::Side104 => Row { side: 104, region: 24, regions: 16, data_words:  816, check_words: 336, blocks: 6 },
+            Size::Side120 => Row { side: 120, region: 18, regions: 36, data_words: 1050, check_words: 408, blocks: 6 },
+            Size::Side132 => Row { side: 132, region: 20, regions: 36, data_words: 1304, check_words: 496, blocks: 8 },
         }
     }
 

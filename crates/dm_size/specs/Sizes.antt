@@ -1,9 +1,7 @@
 -- The square symbol sizes of ISO/IEC 16022:2006, 5.5 (symbol attributes), sides 10 to 132.
-use Rattle.std.specs.Prelude.{◌≡◌, ℕ, ◌+◌, ◌*◌, ◌/◌, ◌%◌, ◌≤◌, ◌-◌, ◌<◌, nat_lt, if◌then◌else◌, List, length, map, take, slice_index}
-use Rattle.std.specs.List.{All, range_with_len}
-use Rattle.dm_check_blocks.specs.declared.size.Size.{Size}
-use Rattle.dm_check_blocks.specs.declared.size.Size.TheVariants.{Side10, Side12, Side14, Side16, Side18, Side20, Side22, Side24, Side26, Side32, Side36, Side40, Side44, Side48, Side52, Side64, Side72, Side80, Side88, Side96, Side104, Side120, Side132}
-use Rattle.dm_gf256.specs.Field.{IsBlockWord}
+use Rattle.std.specs.Prelude.{◌≡◌, ℕ, ◌+◌, ◌*◌, ◌/◌, ◌%◌, ◌≤◌}
+use Rattle.dm_size.specs.declared.size.Size.{Size}
+use Rattle.dm_size.specs.declared.size.Size.TheVariants.{Side10, Side12, Side14, Side16, Side18, Side20, Side22, Side24, Side26, Side32, Side36, Side40, Side44, Side48, Side52, Side64, Side72, Side80, Side88, Side96, Side104, Side120, Side132}
 
 -- A row of the standard's table: the symbol's side in modules, frames included; the side of a data region
 -- without its frame, and the number of regions; the numbers of data words, of check words, and of the blocks
@@ -129,28 +127,3 @@ pub record IsSound (s : Size) : Type 0 where
   pub most_checks : block_checks s ≤ 68
   pub most_block_data : block_data s ≤ 175
   pub longest_block : block_length s ≤ 243
-
--- ---- The words of a symbol and its interleaved blocks: ISO/IEC 16022:2006, 5.7 and Annex A. A position counts the
--- symbol's words from 0, the data words first.
-
--- Where word i of block b stands. The data words are dealt out to the blocks in turn: the first to block 0, the next
--- to block 1, and so on. The check words follow all data words and are dealt out in the same way.
-unfoldable pub position : Size → ℕ → ℕ → ℕ
-position s b i =
-    if nat_lt i (block_data s) then i * blocks s + b
-    else data_words s + (i - block_data s) * blocks s + b
-
--- the words of block b, its data words in order and then its check words
-unfoldable pub block_of : Size → ℕ → List ℕ → List ℕ
-block_of s b words = map (λ i. slice_index words (position s b i)) (range_with_len 0 (block_length s))
-
--- these are all words of a symbol: bytes, of which each block is a block word
-pub record IsSymbol (s : Size) (words : List ℕ) : Type 0 where
-  pub count : length words ≡ all_words s
-  pub bytes : All (λ word. word < 256) words
-  pub block_words : (b : ℕ) → b < blocks s → IsBlockWord (block_checks s) (block_of s b words)
-
--- a symbol that begins with these data words
-pub record Completes (s : Size) (message words : List ℕ) : Type 0 where
-  pub symbol : IsSymbol s words
-  pub begins : take (data_words s) words ≡ message
