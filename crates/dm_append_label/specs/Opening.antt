@@ -39,7 +39,9 @@ abbrev pub ReadsPage : List ℕ → Result PageView PageFault → Type 0
 ReadsPage words (Ok page) = IsPageOf words page
 ReadsPage words (Err (page_faults.Head fault)) = head_at words ≡ Err fault
 ReadsPage words (Err (page_faults.Content fault)) = HasTextFault words fault
-ReadsPage words (Err page_faults.Memory) = (head : HeadView) × (head_at words ≡ Ok head)
+-- memory is asked for once all else is found right
+ReadsPage words (Err page_faults.Memory) =
+    (head : HeadView) × (head_at words ≡ Ok head) × (bytes : List ℕ) × ReadsOnly 5 (drop 4 words) bytes
 
 -- ---- grids
 

@@ -1,6 +1,6 @@
 //! From a grid to a page.
 
-ghost use Rattle.std.specs.Prelude.{◌≡◌, ◌≤◌, length, IfOk};
+ghost use Rattle.std.specs.Prelude.{◌≡◌, ◌≤◌, length, IfOk, Some};
 ghost use Rattle.dm_symbol.specs.Correction.{data_of};
 ghost use Rattle.dm_append_label.specs.Opening.{LabelOpens, Opens, ReadsPage};
 
@@ -71,7 +71,8 @@ pub fn open_label_with<A: Allocator + Copy>(
     reader: &mut SymbolReader<A>,
     grid: &Grid<A>,
 ) -> Result<Opened<A>, LabelFault>
-    ensures { LabelOpens grid.now result }
+    ensures opens { LabelOpens grid.now result }
+    ensures kept { IfOk result (λ label. reader.new ≡ Some grid.now.size) }
 {
     let symbol = reader.read(alloc, grid)?;
     let page = page_of(alloc, &symbol)?;

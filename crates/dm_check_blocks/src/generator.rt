@@ -1,6 +1,6 @@
 //! Generator polynomials.
 
-ghost use Rattle.std.specs.Prelude.{◌≡◌, ◌≤◌, ◌+◌, ℕ, length, take, slice_index};
+ghost use Rattle.std.specs.Prelude.{◌≡◌, ◌<◌, ◌≤◌, ◌+◌, ℕ, length, take, slice_index};
 ghost use Rattle.dm_gf256.specs.Field.{power, value};
 
 use dm_gf256::{Gf, add_multiple};
@@ -17,6 +17,7 @@ pub(crate) fn coefficients_of(count: usize) -> [u8; GENERATOR_WORDS]
     requires { count ≤ MOST_CHECKS }
     ensures size { length result ≡ GENERATOR_WORDS }
     ensures first { slice_index result 0 ≡ 1 }
+    ensures zeros { (j : ℕ) → count < j → slice_index result j ≡ 0 }
     ensures roots { (k : ℕ) → 1 ≤ k → k ≤ count → value (take (count + 1) result) (power 2 k) ≡ 0 }
 {
     let mut coefficients = [0; GENERATOR_WORDS];

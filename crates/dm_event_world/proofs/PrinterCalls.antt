@@ -52,12 +52,12 @@ pub record Lets {A X F : Type 0} (Leaves : Goods → Reply A → Type 0) (Gives 
   pub tells : lacks_memory reply ≡ false
   pub given : (x : X) → answer ≡ Ok x → (tell x ≡ reply) × Gives x goods
 
-module _ {A X F : Type 0} (failed memory save : F) (refuses : F → Reply A) (tell : X → Reply A)
+module _ {A X F may_lack : Type 0} (failed memory save : F) (refuses : F → Reply A) (tell : X → Reply A)
     (verdict : Result LedgerView F) (Leaves : Goods → Reply A → Type 0) (Gives : X → Goods → Type 0)
     (memory_told : lacks_memory (refuses memory) ≡ true) (failed_told : lacks_memory (refuses failed) ≡ false)
     (others_told : (fault : F) → verdict ≡ Err fault → lacks_memory (refuses fault) ≡ false)
     (stop : Stop) (made : stops_before stop ≡ false) (view mid : PrinterView) (answer : Result X F)
-    (carries : Carries failed memory save verdict (planned view (next_save_of stop)) answer mid)
+    (carries : Carries failed memory save may_lack verdict (planned view (next_save_of stop)) answer mid)
     (lets : ((x : X) × (answer ≡ Ok x)) ⊎ (answer ≡ Err save) → Lets Leaves Gives tell answer) where
   abbrev faults : Faults A
   faults = record { failed = refuses failed; save = refuses save; memory = refuses memory }
@@ -89,7 +89,7 @@ module _ {A X F : Type 0} (failed memory save : F) (refuses : F → Reply A) (te
       again same = same_again A view mid (next_save_of stop) (Running view.ledger) (store, fine, refl) store same
 
       saved : (next : LedgerView) → verdict ≡ Ok next → (x : X) → answer ≡ Ok x →
-          IsTrue (is_sound next) → SavesLedger {X = X} {F = F} memory save next (planned view (next_save_of stop)) (Ok x) mid →
+          IsTrue (is_sound next) → SavesLedger {X = X} {F = F} may_lack memory save next (planned view (next_save_of stop)) (Ok x) mid →
           (l : Lets Leaves Gives tell answer) → Carried (Ok x)
       saved next is x at sound does l = by_stop stop refl
         where
@@ -206,7 +206,7 @@ module _ {A X F : Type 0} (failed memory save : F) (refuses : F → Reply A) (te
           let does = carries.saves fine next is in by_answer answer refl does.0 does.1
         where
           by_answer : (a : Result X F) → answer ≡ a → IsTrue (is_sound next) →
-              SavesLedger memory save next (planned view (next_save_of stop)) a mid → Carried answer
+              SavesLedger may_lack memory save next (planned view (next_save_of stop)) a mid → Carried answer
           by_answer (Ok x) at sound does =
               subst Carried (sym at) (saved next is x at sound does (lets (inl (x, at))))
           by_answer (Err fault) at sound (inl lack) =
@@ -215,7 +215,7 @@ module _ {A X F : Type 0} (failed memory save : F) (refuses : F → Reply A) (te
                 comes = subst IsOk (sym is) refl;
                 tells = memory_told;
                 ends_so = lacks_end (ShowsPrinter {A = A}) faults stop (Running view.ledger)
-                    (actors.Running (planned mid next_save.Fine)) (again lack.1);
+                    (actors.Running (planned mid next_save.Fine)) (again lack.2);
                 leaves = unsaved_empty faults stop LacksMemory (Running view.ledger) tt;
               })
           by_answer (Err fault) at sound (inr fails) =

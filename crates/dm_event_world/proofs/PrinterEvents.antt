@@ -410,7 +410,7 @@ module _ {A : Type 0} (size : Size) (scheme : Scheme) (document : List ℕ) (sto
 
   by_cutting : (cutting : Option (List ℕ)) →
       (view.is_failed ≡ false → IsCutting size scheme document cutting) →
-      Carries print_fault.Failed print_fault.Memory print_fault.Save (print_verdict view.ledger (is_some cutting))
+      Carries print_fault.Failed print_fault.Memory print_fault.Save (Unit {0}) (print_verdict view.ledger (is_some cutting))
       (planned view (next_save_of stop)) answer mid →
       IfOk answer (IsMade view.ledger size scheme document cutting) →
       (answer ≡ Err print_fault.Save → (job : JobView) × IsMade view.ledger size scheme document cutting job) →

@@ -1,6 +1,6 @@
 -- A verdict carried out, step by step.
 use Rattle.std.proofs.Common.{arith}
-use Rattle.std.proofs.Common.{◌≡◌, ℕ, List, false, Some, Result, Ok, Err, length, true}
+use Rattle.std.proofs.Common.{◌≡◌, ℕ, List, false, Some, Result, Ok, Err, inl, inr, length, true}
 use Rattle.std.specs.Prelude.{◌==◌, IfOk}
 use Rattle.std.proofs.lemmas.Bool.{cond-true, eq-eqb}
 use Rattle.dm_size.specs.declared.size.Size.{Size}
@@ -8,21 +8,21 @@ use Rattle.dm_encodation.specs.declared.scheme.Scheme.{Scheme}
 use Rattle.dm_append_label.specs.Labels.{AreEnds, parts_from}
 use Rattle.dm_print_ledger.specs.declared.fault.PrintFault.{PrintFault}
 use Rattle.dm_print_ledger.specs.declared.fault.PrintFault.TheVariants as printing
-use Rattle.dm_print_ledger.specs.Verdicts.{Carries, IsInOrder, Saves, least, IsJobOf, IsMade, Prints, print_verdict}
+use Rattle.dm_print_ledger.specs.Verdicts.{Carries, IsInOrder, MayLackMemory, Saves, least, IsJobOf, IsMade, Prints, print_verdict}
 use Rattle.dm_print_ledger.specs.Ledger.{is_sound, JobView, LedgerView, PrinterView}
 
 -- a running printer refuses
-pub refuses : {X F : Type 0} (failed memory save : F) (verdict : Result LedgerView F) (old : PrinterView) (fault : F) →
-    old.is_failed ≡ false → IsInOrder old → verdict ≡ Err fault →
-    (let result : Result X F = Err fault in Carries failed memory save verdict old result old)
-refuses failed memory save verdict old fault running order e = grind arith
+pub refuses : {X F : Type 0} (failed memory save : F) (may_lack : Type 0) (verdict : Result LedgerView F)
+    (old : PrinterView) (fault : F) → old.is_failed ≡ false → IsInOrder old → verdict ≡ Err fault →
+    (let result : Result X F = Err fault in Carries failed memory save may_lack verdict old result old)
+refuses failed memory save may_lack verdict old fault running order e = grind arith
 
 -- a running printer saves the ledger of the verdict
-pub carries : {X F : Type 0} (failed memory save : F) (verdict : Result LedgerView F) (next : LedgerView)
-    (old : PrinterView) (result : Result X F) (new : PrinterView) →
+pub carries : {X F : Type 0} (failed memory save : F) (may_lack : Type 0) (verdict : Result LedgerView F)
+    (next : LedgerView) (old : PrinterView) (result : Result X F) (new : PrinterView) →
     old.is_failed ≡ false → IsInOrder old → verdict ≡ Ok next → is_sound next ≡ true →
-    Saves memory save next old result new → Carries failed memory save verdict old result new
-carries failed memory save verdict next old result new running order e sound saves = grind arith
+    Saves may_lack memory save next old result new → Carries failed memory save may_lack verdict old result new
+carries failed memory save may_lack verdict next old result new running order e sound saves = grind arith
 
 -- a document with parts, where no number is free
 pub none_free : (old : LedgerView) → length old.free ≡ 0 →
@@ -35,11 +35,19 @@ pub made_by : (ledger : LedgerView) (size : Size) (scheme : Scheme) (id : ℕ) (
     IsJobOf size scheme id (parts_from document 0 given) job → IsMade ledger size scheme document (Some ends) job
 made_by ledger size scheme id document given ends job e is made = grind arith
 
+-- what may lack memory where the store may, may lack it
+pub may_lack : {X F : Type 0} (memory save : F) (next : LedgerView) (old : PrinterView) (result : Result X F)
+    (new : PrinterView) → Saves (MayLackMemory old) memory save next old result new
+    → Saves (Unit {0}) memory save next old result new
+may_lack memory save next old (Ok x) new saves = saves
+may_lack memory save next old (Err fault) new (inl lacked) = inl (lacked.0, tt, lacked.2)
+may_lack memory save next old (Err fault) new (inr failed) = inr failed
+
 -- the job of a document was made, and the save of its identification as used has ended so
 pub prints : (old : PrinterView) (size : Size) (scheme : Scheme) (document ends : List ℕ) (next : LedgerView)
     (result : Result JobView PrintFault) (new : PrinterView) → old.is_failed ≡ false → IsInOrder old →
     AreEnds size scheme document ends → Ok next ≡ print_verdict old.ledger true → is_sound next ≡ true →
-    Saves printing.Memory printing.Save next old result new →
+    Saves (Unit {0}) printing.Memory printing.Save next old result new →
     IfOk result (IsMade old.ledger size scheme document (Some ends)) →
     (result ≡ Err printing.Save → (job : JobView) × IsMade old.ledger size scheme document (Some ends) job) →
     Prints old size scheme document result new

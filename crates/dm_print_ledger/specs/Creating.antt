@@ -19,7 +19,7 @@ SavesFirst old ledger (Err creating.Exists) new = (IsTrue old.is_honest → IsSo
 SavesFirst old ledger (Err creating.Device) new =
     ((old.load_plan ≡ LoadsOpen) × (new ≡ old))
     ⊎ ((IsTrue old.is_honest → old.content ≡ None) × Replaces old (ledger_bytes ledger) (Err replacing.Device) new)
-SavesFirst old ledger (Err creating.Memory) new = new ≡ old
+SavesFirst old ledger (Err creating.Memory) new = (new ≡ old) × IsTrue old.may_lack_memory
 SavesFirst old ledger (Err creating.Range) new = ⊥
 
 -- a printer of this number that runs over its store, with this range free, or why there is none

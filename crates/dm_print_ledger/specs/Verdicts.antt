@@ -147,10 +147,11 @@ abbrev pub HoldsLedger : Saved → LedgerView → Type 0
 HoldsLedger saved ledger = IsTrue saved.is_honest → open_verdict saved.content ledger.number ≡ Ok ledger
 
 -- A call that loads answers the verdict on what an honest store holds, unless the load failed. A load meets a device
--- fault only under an open plan.
+-- fault only under an open plan, and lacks memory only where the store's calls may.
 pub record LoadsLedger {X : Type 0} (saved : Saved) (verdict result : Result X OpenFault) : Type 0 where
   pub answer : IsTrue saved.is_honest → (result ≡ verdict) ⊎ ((result ≡ Err Device) ⊎ (result ≡ Err Memory))
   pub device : result ≡ Err Device → saved.load_plan ≡ LoadsOpen
+  pub memory : result ≡ Err Memory → IsTrue saved.may_lack_memory
 
 -- a printer of this number that runs over the store, or why there is none
 abbrev pub Opens : Saved → ℕ → Result PrinterView OpenFault → Type 0
@@ -164,26 +165,27 @@ pub record IsInOrder (printer : PrinterView) : Type 0 where
   pub sound : IsTrue (is_sound printer.ledger)
   pub held : printer.is_failed ≡ false → HoldsLedger printer.saved printer.ledger
 
--- The next ledger was saved, and is gone on with. Or the save was refused its memory, and nothing changed. Or it met a
--- device fault: the ledger stays, and nothing is saved any more.
-abbrev pub Saves : {X F : Type 0} → F → F → LedgerView → PrinterView → Result X F → PrinterView → Type 0
-Saves memory save next old (Ok _) new =
+-- The next ledger was saved, and is gone on with. Or memory was refused where it may lack, and nothing changed. Or the
+-- save met a device fault: the ledger stays, and nothing is saved any more.
+abbrev pub Saves : {X F : Type 0} → Type 0 → F → F → LedgerView → PrinterView → Result X F → PrinterView → Type 0
+Saves may_lack memory save next old (Ok _) new =
     Replaces old.saved (ledger_bytes next) (Ok tt) new.saved
     × (new ≡ record old { saved = new.saved; ledger = next })
-Saves memory save next old (Err fault) new =
-    ((fault ≡ memory) × (new ≡ old))
+Saves may_lack memory save next old (Err fault) new =
+    ((fault ≡ memory) × may_lack × (new ≡ old))
     ⊎ ((fault ≡ save) × Replaces old.saved (ledger_bytes next) (Err replacing.Device) new.saved
     × (new ≡ record old { saved = new.saved; is_failed = true }))
 
 -- A printer that failed before answers so, and does nothing. One that runs answers a refusal and does nothing, or saves
--- the ledger of the verdict, which is sound. The first three are the faults that each call has.
-pub record Carries {X F : Type 0} (failed_before memory save : F) (verdict : Result LedgerView F)
+-- the ledger of the verdict, which is sound. The first three are the faults that each call has, and then comes where
+-- memory may lack.
+pub record Carries {X F : Type 0} (failed_before memory save : F) (may_lack : Type 0) (verdict : Result LedgerView F)
     (old : PrinterView) (result : Result X F) (new : PrinterView) : Type 0 where
   pub in_order : IsInOrder old
   pub failed : old.is_failed ≡ true → (result ≡ Err failed_before) × (new ≡ old)
   pub refused : old.is_failed ≡ false → (fault : F) → verdict ≡ Err fault → (result ≡ Err fault) × (new ≡ old)
   pub saves : old.is_failed ≡ false → (next : LedgerView) → verdict ≡ Ok next
-      → IsTrue (is_sound next) × Saves memory save next old result new
+      → IsTrue (is_sound next) × Saves may_lack memory save next old result new
 
 -- ---- a print of a document that has parts, or has none
 
@@ -209,10 +211,15 @@ abbrev pub ticket_of : LedgerView → ℕ → Range → TicketView
 ticket_of old receiver range =
     record { giver = old.number; serial = old.next_serial; receiver = receiver; range = range }
 
--- what a printer answers to a range that it is to give, and what it is then
+-- the calls of a printer's store may be refused their memory
+abbrev pub MayLackMemory : PrinterView → Type 0
+MayLackMemory printer = IsTrue printer.saved.may_lack_memory
+
+-- what a printer answers to a range that it is to give, and what it is then; it takes no memory but the store's
 abbrev pub Gives : PrinterView → ℕ → Range → Result TicketView GiveFault → PrinterView → Type 0
 Gives old receiver range result new =
-    Carries giving.Failed giving.Memory giving.Save (give_verdict old.ledger receiver range) old result new
+    Carries giving.Failed giving.Memory giving.Save (MayLackMemory old) (give_verdict old.ledger receiver range)
+        old result new
     × IfOk result (λ ticket. ticket ≡ ticket_of old.ledger receiver range)
 
 -- ---- a ticket taken
@@ -233,10 +240,10 @@ take_verdict old ticket =
       givers = givers_with old.givers (giver_of ticket);
     })
 
--- what a printer answers to a ticket that it is to take, and what it is then
+-- what a printer answers to a ticket that it is to take, and what it is then; it takes no memory but the store's
 abbrev pub Takes : PrinterView → TicketView → Result (Unit {0}) TakeFault → PrinterView → Type 0
 Takes old ticket result new =
-    Carries taking.Failed taking.Memory taking.Save (take_verdict old.ledger ticket) old result new
+    Carries taking.Failed taking.Memory taking.Save (MayLackMemory old) (take_verdict old.ledger ticket) old result new
 
 -- ---- jobs
 
@@ -279,12 +286,13 @@ abbrev pub IsMade : LedgerView → Size → Scheme → List ℕ → Option (List
 IsMade ledger size scheme document cutting job = IsSomeAnd cutting (λ ends.
     IsJobOf size scheme (least ledger.free) (parts_from document 0 ends) job)
 
--- What a printer answers to a document, and what it is then. Its job was made before the save, also if that failed.
+-- What a printer answers to a document, and what it is then. Its job was made before the save, also if that failed; the
+-- job takes memory.
 pub record Prints (old : PrinterView) (size : Size) (scheme : Scheme) (document : List ℕ)
     (result : Result JobView PrintFault) (new : PrinterView) : Type 0 where
   pub cutting : Option (List ℕ)
   pub is_cutting : old.is_failed ≡ false → IsCutting size scheme document cutting
-  pub carries : Carries printing.Failed printing.Memory printing.Save
+  pub carries : Carries printing.Failed printing.Memory printing.Save (Unit {0})
       (print_verdict old.ledger (is_some cutting)) old result new
   pub made : IfOk result (IsMade old.ledger size scheme document cutting)
   pub lost : result ≡ Err printing.Save → (job : JobView) × IsMade old.ledger size scheme document cutting job

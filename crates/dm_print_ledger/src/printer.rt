@@ -33,7 +33,7 @@ impl<S: Store, A: Allocator + Copy> Model for Printer<S, A> {
 
 impl<S: Store, A: Allocator + Copy> Printer<S, A> {
     ghost use Rattle.dm_print_ledger.specs.Ledger.{free_count};
-    ghost use Rattle.dm_print_ledger.specs.Verdicts.{IsInOrder, Saves};
+    ghost use Rattle.dm_print_ledger.specs.Verdicts.{IsInOrder, MayLackMemory, Saves};
 
     /// How many identifications are free, as last known to be saved: 0 to 64,516.
     pub fn left(&self) -> u32
@@ -63,7 +63,7 @@ impl<S: Store, A: Allocator + Copy> Printer<S, A> {
     /// `no_memory` where the store was refused its memory, `failed` where it met a device fault.
     pub(crate) fn save<F: Copy>(&mut self, next: Ledger, no_memory: F, failed: F) -> Result<(), F>
         requires { self.old.is_failed ≡ false }
-        ensures { Saves no_memory failed next self.old result self.new }
+        ensures { Saves (MayLackMemory self.old) no_memory failed next self.old result self.new }
     {
         let bytes = bytes_of(&next);
         match self.store.replace(bytes.as_slice()) {

@@ -111,7 +111,7 @@ impl Shown {
 // What bytes say, if they are those of a ledger.
 fn shown_in(bytes: &[u8]) -> Result<Shown, OpenFault>
     ensures value { result ≡ read_ledger bytes.now }
-    ensures loaded { result ≢ Err OpenFault.Device }
+    ensures loaded { (result ≢ Err OpenFault.Device) × (result ≢ Err OpenFault.Memory) }
 {
     if !bytes.starts_with(b"DMLG") {
         return Err(OpenFault::NotALedger);

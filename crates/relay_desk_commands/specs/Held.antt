@@ -31,7 +31,7 @@ documents_in _ = map.empty
 -- what was found of the file of an older version is true of it
 abbrev pub SeesJoint : Saved → SeenJoint → Type 0
 SeesJoint saved (Err moves.Device) = saved.load_plan ≡ LoadsOpen
-SeesJoint saved (Err moves.Memory) = Unit {0}
+SeesJoint saved (Err moves.Memory) = IsTrue saved.may_lack_memory
 SeesJoint saved (Err fault) = IsTrue saved.is_honest → IsSomeAnd saved.content (λ bytes. HasJointFileFault bytes fault)
 SeesJoint saved (Ok found) = IsTrue saved.is_honest → HoldsJointFile saved.content (documents_in (Ok found))
 

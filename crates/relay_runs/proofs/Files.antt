@@ -69,17 +69,17 @@ pub record HoldsFile (saved : Saved) : Type 0 where
   pub sound : is_sound ledger ≡ true
   pub content : saved.content ≡ Some (ledger_bytes ledger)
 
-module _ {X F : Type 0} (failed memory save : F) (verdict : Result LedgerView F) (old new : PrinterView)
+module _ {X F may_lack : Type 0} (failed memory save : F) (verdict : Result LedgerView F) (old new : PrinterView)
     (answer : Result X F) (runs : old.is_failed ≡ false) (honest : IsTrue old.saved.is_honest) (file : HoldsFile old.saved)
-    (carries : Carries failed memory save verdict old answer new) where
+    (carries : Carries failed memory save may_lack verdict old answer new) where
   still : (saved : Saved) → saved.content ≡ old.saved.content → HoldsFile saved
   still saved same = record { ledger = file.ledger; sound = file.sound; content = same ∙ file.content }
 
   saved_file : (next : LedgerView) → is_sound next ≡ true → (a : Result X F) →
-      verdicts.Saves memory save next old a new → HoldsFile new.saved
+      verdicts.Saves may_lack memory save next old a new → HoldsFile new.saved
   saved_file next sound (Ok x) does =
       record { ledger = next; sound = sound; content = does.0.done refl honest }
-  saved_file next sound (Err fault) (inl lack) = still new.saved (ap (λ (v : PrinterView). v.saved.content) lack.1)
+  saved_file next sound (Err fault) (inl lack) = still new.saved (ap (λ (v : PrinterView). v.saved.content) lack.2)
   saved_file next sound (Err fault) (inr fails) =
       elim (old_or_new old.saved.save_plan old.saved.content (Some (ledger_bytes next)) new.saved.content
       (fails.1.faulted refl honest)) [
@@ -108,12 +108,13 @@ file_of saved actor honest file is =
     }
 
 -- a refusal that is not that of the save changes nothing
-pub unchanged : {X F : Type 0} (failed memory save : F) (verdict : Result LedgerView F) (old new : PrinterView) (fault : F) →
-    old.is_failed ≡ false → (fault ≡ save → ⊥) → Carries {X = X} failed memory save verdict old (Err fault) new → new ≡ old
-unchanged {X} failed memory save verdict old new fault runs isnt carries = by_verdict verdict refl
+pub unchanged : {X F may_lack : Type 0} (failed memory save : F) (verdict : Result LedgerView F) (old new : PrinterView)
+    (fault : F) → old.is_failed ≡ false → (fault ≡ save → ⊥)
+    → Carries {X = X} failed memory save may_lack verdict old (Err fault) new → new ≡ old
+unchanged {X} {may_lack = may_lack} failed memory save verdict old new fault runs isnt carries = by_verdict verdict refl
   where
-    by_saves : (next : LedgerView) → verdicts.Saves {X = X} memory save next old (Err fault) new → new ≡ old
-    by_saves next (inl lack) = lack.1
+    by_saves : (next : LedgerView) → verdicts.Saves {X = X} may_lack memory save next old (Err fault) new → new ≡ old
+    by_saves next (inl lack) = lack.2
     by_saves next (inr fails) = absurd (isnt fails.0)
 
     by_verdict : (v : Result LedgerView _) → verdict ≡ v → new ≡ old

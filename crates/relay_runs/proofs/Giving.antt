@@ -5,7 +5,7 @@ use Rattle.dm_print_ledger.specs.declared.fault.GiveFault.{GiveFault}
 use Rattle.dm_print_ledger.specs.declared.fault.GiveFault.TheVariants as give_fault
 use Rattle.dm_print_ledger.specs.declared.range.Range.{Range}
 use Rattle.dm_print_ledger.specs.Ledger.{LedgerView, PrinterView, TicketView}
-use Rattle.dm_print_ledger.specs.Verdicts.{Gives, give_verdict}
+use Rattle.dm_print_ledger.specs.Verdicts.{Gives, MayLackMemory, give_verdict}
 use Rattle.dm_event_history.specs.declared.stop.Stop.{Stop}
 use Rattle.dm_event_history.specs.Relay.{Running}
 use Rattle.dm_event_history.specs.Calls.{Calls, Ending, GiveComes, MayLackFirst, give_faults}
@@ -41,7 +41,8 @@ module _ (A : Type 0) (tickets : List TicketView) (to : ℕ) (range : Range) (vi
     (shown : ShowsPrinter {A = A} (actors.Running (fine_printer view)) (Running stored))
     (gives : Gives view to range answer after) where
   abbrev Under : Type 0
-  Under = IsUnder give_fault.Failed give_fault.Memory give_fault.Save (give_verdict view.ledger to range) view answer after
+  Under = IsUnder give_fault.Failed give_fault.Memory give_fault.Save (MayLackMemory view)
+      (give_verdict view.ledger to range) view answer after
 
   give_so : Under → GivenSo A (length tickets) to range stored answer after
   give_so u =

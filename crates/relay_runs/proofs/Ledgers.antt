@@ -39,7 +39,7 @@ first_same : (old new : Saved) (actor : Actor LedgerView) (ledger : LedgerView) 
 first_same old new actor ledger create_fault.Exists keeps saves = saves.1
 first_same old new actor ledger create_fault.Device keeps (inl opens) = opens.1
 first_same old new actor ledger create_fault.Device keeps (inr fails) = absurd (held_none old actor keeps fails.0)
-first_same old new actor ledger create_fault.Memory keeps saves = saves
+first_same old new actor ledger create_fault.Memory keeps saves = saves.0
 first_same old new actor ledger create_fault.Range keeps saves = absurd saves
 
 creates_none : (old new : Saved) (actor : Actor LedgerView) (number : ℕ) (range : Range) (printer : PrinterView) →
@@ -103,7 +103,7 @@ module _ (number : ℕ) (range : Range) (old new : Saved) (honest : IsTrue old.i
   first_made ranged create_fault.Exists saves = none_made saves.1
   first_made ranged create_fault.Device (inl opens) = none_made opens.1
   first_made ranged create_fault.Device (inr fails) = may_be_made ranged fails.1
-  first_made ranged create_fault.Memory saves = none_made saves
+  first_made ranged create_fault.Memory saves = none_made saves.0
   first_made ranged create_fault.Range saves = absurd saves
 
   by_ok : (printer : PrinterView) (b : Bool) → is_range range ≡ b →

@@ -87,17 +87,18 @@ abbrev pub fine_printer : PrinterView → PrinterView
 fine_printer view = record view { saved = fine view.saved }
 
 -- A call of a printer that runs, made under the plan of a stop that a command can meet: it is none where it is answered.
-pub record IsUnder {X F : Type 0} (failed memory save : F) (verdict : Result LedgerView F) (old : PrinterView)
-    (answer : Result X F) (new : PrinterView) : Type 0 where
+pub record IsUnder {X F : Type 0} (failed memory save : F) (may_lack : Type 0) (verdict : Result LedgerView F)
+    (old : PrinterView) (answer : Result X F) (new : PrinterView) : Type 0 where
   pub stop : Stop
   pub met : IsMet stop
   pub made : stops_before stop ≡ false
-  pub carries : Carries failed memory save verdict (planned (fine_printer old) (next_save_of stop)) answer (fine_printer new)
+  pub carries : Carries failed memory save may_lack verdict (planned (fine_printer old) (next_save_of stop)) answer
+      (fine_printer new)
   pub answered : (x : X) → answer ≡ Ok x → stop ≡ stops.None
 
-module _ {X F : Type 0} (failed memory save : F) (verdict : Result LedgerView F) (old new : PrinterView)
+module _ {X F may_lack : Type 0} (failed memory save : F) (verdict : Result LedgerView F) (old new : PrinterView)
     (answer : Result X F) (runs : old.is_failed ≡ false) (honest : IsTrue old.saved.is_honest)
-    (carries : Carries failed memory save verdict old answer new) where
+    (carries : Carries failed memory save may_lack verdict old answer new) where
   in_order : (next : NextSave) → IsInOrder (planned (fine_printer old) next)
   in_order next = record { sound = carries.in_order.sound; held = carries.in_order.held }
 
@@ -106,7 +107,7 @@ module _ {X F : Type 0} (failed memory save : F) (verdict : Result LedgerView F)
   never_failed next is = absurd (cc (is, runs))
 
   abbrev Is : Type 0
-  Is = IsUnder failed memory save verdict old answer new
+  Is = IsUnder failed memory save may_lack verdict old answer new
 
   -- nothing was saved, and the verdict is a refusal
   refused_under : (fault : F) → verdict ≡ Err fault → Is
@@ -124,7 +125,7 @@ module _ {X F : Type 0} (failed memory save : F) (verdict : Result LedgerView F)
   }
 
   abbrev SavesSo : LedgerView → NextSave → Result X F → Type 0
-  SavesSo next plan a = verdicts.Saves memory save next (planned (fine_printer old) plan) a (fine_printer new)
+  SavesSo next plan a = verdicts.Saves may_lack memory save next (planned (fine_printer old) plan) a (fine_printer new)
 
   -- it is saved so under this stop
   saved_under : (stop : Stop) (next : LedgerView) → IsMet stop → stops_before stop ≡ false → verdict ≡ Ok next →
@@ -163,13 +164,13 @@ module _ {X F : Type 0} (failed memory save : F) (verdict : Result LedgerView F)
       ]
 
   by_answer : (next : LedgerView) → verdict ≡ Ok next → IsTrue (is_sound next) → (a : Result X F) → answer ≡ a →
-      verdicts.Saves memory save next old a new → Is
+      verdicts.Saves may_lack memory save next old a new → Is
   by_answer next is sound (Ok x) at does = saved_under stops.None next tt refl is sound
       (subst (SavesSo next next_save.Fine) (sym at)
       (saves_fine old.saved new.saved (ledger_bytes next) does.0, ap fine_printer does.1))
       (λ y ok. refl)
   by_answer next is sound (Err fault) at (inl lack) = saved_under stops.None next tt refl is sound
-      (subst (SavesSo next next_save.Fine) (sym at) (inl (lack.0, ap fine_printer lack.1))) (λ y ok. refl)
+      (subst (SavesSo next next_save.Fine) (sym at) (inl (lack.0, lack.1, ap fine_printer lack.2))) (λ y ok. refl)
   by_answer next is sound (Err fault) at (inr fails) =
       fault_under next is sound (at ∙ ap (λ (f : F). Err f) fails.0) fails.1 fails.2
 

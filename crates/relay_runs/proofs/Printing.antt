@@ -150,7 +150,7 @@ module _ (A : Type 0) (labels : List Label) (document : List ℕ) (size : Size) 
   left = map left_label labels
 
   abbrev Under : Type 0
-  Under = IsUnder print_fault.Failed print_fault.Memory print_fault.Save
+  Under = IsUnder print_fault.Failed print_fault.Memory print_fault.Save (Unit {0})
       (print_verdict view.ledger (is_some prints.cutting)) view answer after
 
   its_grids : (u : Under) (goods : Goods) →

@@ -4,7 +4,7 @@ use Rattle.std.specs.Prelude.{IsTrue}
 use Rattle.dm_print_ledger.specs.declared.fault.TakeFault.{TakeFault}
 use Rattle.dm_print_ledger.specs.declared.fault.TakeFault.TheVariants as take_fault
 use Rattle.dm_print_ledger.specs.Ledger.{LedgerView, PrinterView, TicketView, is_range}
-use Rattle.dm_print_ledger.specs.Verdicts.{Takes, take_verdict}
+use Rattle.dm_print_ledger.specs.Verdicts.{MayLackMemory, Takes, take_verdict}
 use Rattle.dm_event_history.specs.declared.stop.Stop.{Stop}
 use Rattle.dm_event_history.specs.Relay.{Running}
 use Rattle.dm_event_history.specs.Calls.{Calls, Ending, TakeComes, take_faults}
@@ -33,7 +33,8 @@ module _ (A : Type 0) (number : ℕ) (ticket : TicketView) (view after : Printer
     (shown : ShowsPrinter {A = A} (actors.Running (fine_printer view)) (Running stored))
     (takes : Takes view ticket answer after) where
   abbrev Under : Type 0
-  Under = IsUnder take_fault.Failed take_fault.Memory take_fault.Save (take_verdict view.ledger ticket) view answer after
+  Under = IsUnder take_fault.Failed take_fault.Memory take_fault.Save (MayLackMemory view)
+      (take_verdict view.ledger ticket) view answer after
 
   take_so : Under → TakenSo A number ticket stored answer after
   take_so u =

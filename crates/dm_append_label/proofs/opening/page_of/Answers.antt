@@ -1,15 +1,17 @@
 use Rattle.std.proofs.Common.{◌∙◌, List, ℕ, ap, drop, subst, sym, rules}
-use Rattle.dm_encodation.specs.Grammar.{StuckOnly}
+use Rattle.dm_encodation.specs.Grammar.{ReadsOnly, StuckOnly}
 use Rattle.dm_append_label.specs.Labels.{head_at}
 use Rattle.dm_append_label.specs.inner.ReadHeads.{view_of}
 use Rattle.dm_append_label.proofs.opening.page_of.Goals as goal
 
 pub returns-in-Err-Memory-clause-page : goal.returns-in-Err-Memory-clause-page
-returns-in-Err-Memory-clause-page g c = (
-  view_of c.in_ok-head.head,
-  ap head_at (sym c.data-data.ensures.data) ∙
-      c.in_ok-head.ensures.head.0,
-)
+returns-in-Err-Memory-clause-page g c =
+    let read = c.in-Err-Memory.ensures.memory (search rules) in (
+      view_of c.in_ok-head.head,
+      ap head_at (sym c.data-data.ensures.data) ∙ c.in_ok-head.ensures.head.0,
+      read.0,
+      subst (λ (d : List ℕ). ReadsOnly 5 (drop 4 d) read.0) c.data-data.ensures.data read.1,
+    )
 
 pub returns-in-Err : goal.returns-in-Err
 returns-in-Err g c = record {

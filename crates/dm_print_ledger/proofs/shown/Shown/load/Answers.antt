@@ -7,5 +7,6 @@ returns-in-Ok-Some-clause-loads g c = record {
   answer = λ honest. inl (c.shown_in.ensures.value
       ∙ read_cut _ c.as_slice.result.now (ap Some c.as_slice.ensures.value
       ∙ (rw c.in-Ok-Some.field-0-is at (c.in-Ok-Some.ensures.loads.saved honest))));
-  device = λ is. absurd (c.shown_in.ensures.loaded is);
+  device = λ is. absurd (c.shown_in.ensures.loaded.0 is);
+  memory = λ is. absurd (c.shown_in.ensures.loaded.1 is);
 }
