@@ -1,7 +1,7 @@
 //! Why a desk refuses, each with its name as it is printed.
 
 ghost use Rattle.std.specs.Prelude.{◌≡◌};
-ghost use Rattle.dm_assembly_desk.specs.Faults.{scan_fault, scan_fault_of, import_fault, import_fault_of, desk_fault_of, load_fault, save_fault};
+ghost use Rattle.dm_assembly_desk.specs.Faults.{scan_fault, scan_fault_of, import_fault, import_fault_of, desk_fault_of, load_fault, save_fault, desk_fault_name, scan_fault_name, ask_fault_name, forget_fault_name, export_fault_name, import_fault_name, move_fault_name};
 
 use crate::adding::AddFault;
 use crate::file::FileFault;
@@ -197,8 +197,6 @@ impl From<FileFault> for ImportFault {
 }
 
 impl DeskFault {
-    ghost use Rattle.dm_assembly_desk.specs.Faults.{desk_fault_name};
-
     /// The variant's name.
     pub fn name(self) -> &'static str
         ensures { result.now ≡ desk_fault_name self }
@@ -216,8 +214,6 @@ impl DeskFault {
 }
 
 impl ScanFault {
-    ghost use Rattle.dm_assembly_desk.specs.Faults.{scan_fault_name};
-
     /// The variant's name, and for `Label` that of the label's fault.
     pub fn name(self) -> &'static str
         ensures { result.now ≡ scan_fault_name self }
@@ -234,8 +230,6 @@ impl ScanFault {
 }
 
 impl AskFault {
-    ghost use Rattle.dm_assembly_desk.specs.Faults.{ask_fault_name};
-
     /// The variant's name.
     pub fn name(self) -> &'static str
         ensures { result.now ≡ ask_fault_name self }
@@ -249,8 +243,6 @@ impl AskFault {
 }
 
 impl ForgetFault {
-    ghost use Rattle.dm_assembly_desk.specs.Faults.{forget_fault_name};
-
     /// The variant's name.
     pub fn name(self) -> &'static str
         ensures { result.now ≡ forget_fault_name self }
@@ -265,8 +257,6 @@ impl ForgetFault {
 }
 
 impl ExportFault {
-    ghost use Rattle.dm_assembly_desk.specs.Faults.{export_fault_name};
-
     /// The variant's name.
     pub fn name(self) -> &'static str
         ensures { result.now ≡ export_fault_name self }
@@ -279,8 +269,6 @@ impl ExportFault {
 }
 
 impl ImportFault {
-    ghost use Rattle.dm_assembly_desk.specs.Faults.{import_fault_name};
-
     /// The variant's name.
     pub fn name(self) -> &'static str
         ensures { result.now ≡ import_fault_name self }
@@ -299,8 +287,6 @@ impl ImportFault {
 }
 
 impl MoveFault {
-    ghost use Rattle.dm_assembly_desk.specs.Faults.{move_fault_name};
-
     /// The variant's name.
     pub fn name(self) -> &'static str
         ensures { result.now ≡ move_fault_name self }

@@ -8,11 +8,12 @@
 //! to a set. [`held_at`] and [`JointFile`] say without a desk what one file holds.
 //!
 //! Proved: each answer is that to what is held, and each refusal the first that applies. A page is saved before it is
-//! answered, and one that is held keeps its bytes until its document is forgotten, or a `forget` answers `Save`. A document is given only where each
-//! of its pages is held, and then it is these, joined in order. A call on one document leaves all others. Every refusal
-//! but a failed save leaves the desk and its set as they were; after one that failed the set holds the old or the new
-//! file, and the desk answers `Failed` until it is opened again. A desk that is opened on what an honest set kept holds
-//! exactly that. A file that is looked at without a desk is described as it is, or the reason is named why it is no file of pages.
+//! answered, and one that is held keeps its bytes until its document is forgotten, or a `forget` answers `Save`. A
+//! document is given only where each of its pages is held, and then it is these, joined in order. A call on one
+//! document leaves all others. Every refusal but a failed save leaves the desk and its set as they were; after one that
+//! failed the set holds the old or the new file, and the desk answers `Failed` until it is opened again. A desk that is
+//! opened on what an honest set kept holds exactly that. A file that is looked at without a desk is described as it is,
+//! or the reason is named why it is no file of pages.
 #![tactic(auto)]
 
 mod accepting;

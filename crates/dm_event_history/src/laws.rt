@@ -46,8 +46,8 @@ pub fn headline<A: Allocator>()
     ensures moments { EachRunIsTrue A }
 {}
 
-/// As long as each scan that may have saved its page was fair, desks hold what was scanned, imported and forgotten there
-/// tells, and each reply but that to a scan that is not fair agrees with it, and with what was printed.
+/// As long as each scan that may have saved its page was fair, desks hold what was scanned, imported and forgotten
+/// there tells, and each reply but that to a scan that is not fair agrees with it, and with what was printed.
 pub fn safe_replies<A: Allocator>()
     ensures held { EachFairDeskIsBetween A }
     ensures replies { EachFairReplyIsSafe A }

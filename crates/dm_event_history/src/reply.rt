@@ -9,14 +9,11 @@ use dm_print_ledger::{GiveFault, OpenFault, PrintFault, TakeFault, Ticket};
 use std::alloc::{Allocator, Global};
 
 /// The answer to an event.
+#[rattlefmt::skip]
 #[derive(Drop)]
 pub enum Reply<A: Allocator = Global> {
     /// All labels of the document left; `first` is the number of the first of them, and `count` how many they are.
-    Printed {
-        id: FileId,
-        first: usize,
-        count: u8,
-    },
+    Printed { id: FileId, first: usize, count: u8 },
     PrintRefused(PrintFault),
     /// The desk holds the page.
     Scanned(Accepted),
@@ -27,21 +24,13 @@ pub enum Reply<A: Allocator = Global> {
     Forgotten,
     ForgetRefused(ForgetFault),
     /// The ticket left, under this number.
-    Given {
-        index: usize,
-        ticket: Ticket,
-    },
+    Given { index: usize, ticket: Ticket },
     GiveRefused(GiveFault),
     Taken,
     TakeRefused(TakeFault),
     /// The export left, under this number. It has the pages of the document, of n, whose bits are set: m - 1 for page
     /// m.
-    Exported {
-        index: usize,
-        id: FileId,
-        n: u8,
-        mask: u16,
-    },
+    Exported { index: usize, id: FileId, n: u8, mask: u16 },
     ExportRefused(ExportFault),
     Imported(Imported),
     ImportRefused(ImportFault),

@@ -69,8 +69,8 @@ fn answer_all<A: Allocator + Copy, L: Listener<A>>(
     }
 }
 
-/// A world of new printers, one for each range, and of empty desks, one for each capacity, to which several events come,
-/// one after another. Each is looked at before it is given to the world, and the listener hears each answer.
+/// A world of new printers, one for each range, and of empty desks, one for each capacity, to which several events
+/// come, one after another. Each is looked at before it is given to the world, and the listener hears each answer.
 ///
 /// # Errors
 /// As for [`World::new`].

@@ -28,7 +28,8 @@ pub trait Disk: Drop {
     /// Whether it is honest, what a reader finds, and what a stop may leave.
     ghost state: { Self → DiskState };
 
-    /// The bytes of the file under a name, or their first `limit + 1` if they are longer, or `None` if no file is there.
+    /// The bytes of the file under a name, or their first `limit + 1` if they are longer, or `None` if no file is
+    /// there.
     fn read(&mut self, name: &str, limit: usize) -> Result<Option<Vec<u8, Self::Memory>>, LoadFault>
         ensures honesty { (state self.new).is_honest ≡ (state self.old).is_honest }
         ensures kept { KeepsAll (state self.old) (state self.new) }
@@ -99,8 +100,8 @@ pub trait Folders: Disk {
         ensures lists { IsTrue (Self.state self.old).is_honest → IfOk result (λ keys.
             keys.items ≡ take (limit + 1) (map.keys (contents_in (Self.state self.old) folder.now))) };
 
-    /// Settles the entries of the files of all keys in the folder, as [`Disk::settle_entry`] does with one. A folder that
-    /// isn't there has none.
+    /// Settles the entries of the files of all keys in the folder, as [`Disk::settle_entry`] does with one. A folder
+    /// that isn't there has none.
     fn settle_folder(&mut self, folder: &str) -> Result<(), DiskFault>
         ensures honesty { (Self.state self.new).is_honest ≡ (Self.state self.old).is_honest }
         ensures kept { KeepsAll (Self.state self.old) (Self.state self.new) }

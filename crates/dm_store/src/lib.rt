@@ -1,7 +1,7 @@
 //! Places for saved bytes: one list of bytes, or one for each key; in memory, in files, and behind a fuse.
 //!
-//! What saves is generic over [`Store`] or [`StoreSet`]. Contracts see of each what it holds, whether it is honest, what
-//! its loads may do, and what its next save does. Proved of each store and set here:
+//! What saves is generic over [`Store`] or [`StoreSet`]. Contracts see of each what it holds, whether it is honest,
+//! what its loads may do, and what its next save does. Proved of each store and set here:
 //!
 //! - A load changes nothing. Of an honest store it gives the content, cut after `limit + 1` bytes or keys. It meets a
 //!   device fault only where loads may.
@@ -14,10 +14,10 @@
 //!
 //! [`FileStore`] is a store in a file of a [`Disk`], whose contract (`specs/Disk.antt`) says what a reader finds and
 //! what a stop of the machine may leave. Proved over every disk that keeps it: the store is honest if the disk is;
-//! whenever the machine stops in a save, the file holds the old or the new bytes, whole, and the new ones once the
-//! save has answered `Ok`; a save touches no file but its own and the draft beside it; and no stop takes back what a
-//! load gave of a file whose bytes are on the disk, as those of a save are. So a stop leaves what a store under an open
-//! plan may hold. [`FileSet`] is a set in a folder of a disk that has the calls of [`Folders`], and the same is proved of
+//! whenever the machine stops in a save, the file holds the old or the new bytes, whole, and the new ones once the save
+//! has answered `Ok`; a save touches no file but its own and the draft beside it; and no stop takes back what a load
+//! gave of a file whose bytes are on the disk, as those of a save are. So a stop leaves what a store under an open plan
+//! may hold. [`FileSet`] is a set in a folder of a disk that has the calls of [`Folders`], and the same is proved of
 //! the file of each key; a remove leaves the old bytes or none, and none once it has answered `Ok`.
 //!
 //! [`RealDisk`] is the system's own files: it claims nothing. That its few lines do what the contract says is trusted,

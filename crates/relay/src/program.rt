@@ -133,8 +133,8 @@ impl<'a, R: AllocGlobal + Input + Eprint + Files<File = File> + Clone, W: Write>
         Ok(self.do_over(store, set, reader))
     }
 
-    // Does the command over its files on these disks, behind their gate. Each of these functions adds one type around the
-    // disk's: where one adds two, its proof takes half a minute.
+    // Does the command over its files on these disks, behind their gate. Each of these functions adds one type around
+    // the disk's: where one adds two, its proof takes half a minute.
     fn do_behind<D: Folders, I: Read>(
         &mut self,
         gate: &Gate<'_, R>,

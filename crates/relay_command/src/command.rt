@@ -12,99 +12,43 @@ pub enum Labels {
 }
 
 /// A command with its options, by name. A side is a number from 10 to 132, which need not be one of the sizes.
+#[rattlefmt::skip]
 #[derive(Clone, Copy, Debug, PartialEq, Eq)]
 pub enum Command<'a> {
     /// Prints the words of a symbol.
-    Words {
-        side: u16,
-        scheme: Scheme,
-    },
+    Words { side: u16, scheme: Scheme },
     /// Draws a symbol, in PBM's plain form or packed.
-    Draw {
-        side: u16,
-        scheme: Scheme,
-        plain: bool,
-    },
+    Draw { side: u16, scheme: Scheme, plain: bool },
     /// Reads images of symbols, and prints what each carries.
     Read,
     /// Says for each side how many labels a document takes.
-    Plan {
-        scheme: Scheme,
-    },
+    Plan { scheme: Scheme },
     /// Says what a ticket, in either of its forms, gives.
-    Ticket {
-        ticket: &'a str,
-    },
+    Ticket { ticket: &'a str },
     /// Makes the ledger of the printer of a number, to which the identifications from first to last are free.
-    Ledger {
-        file: &'a str,
-        number: u16,
-        first: u16,
-        last: u16,
-    },
+    Ledger { file: &'a str, number: u16, first: u16, last: u16 },
     /// Prints a document as labels.
-    Print {
-        file: &'a str,
-        number: u16,
-        labels: Labels,
-        scheme: Scheme,
-    },
+    Print { file: &'a str, number: u16, labels: Labels, scheme: Scheme },
     /// Gives the identifications from first to last to the printer `to`.
-    Give {
-        file: &'a str,
-        number: u16,
-        to: u16,
-        first: u16,
-        last: u16,
-    },
+    Give { file: &'a str, number: u16, to: u16, first: u16, last: u16 },
     /// Takes a ticket, in either of its forms.
-    Take {
-        file: &'a str,
-        number: u16,
-        ticket: &'a str,
-    },
+    Take { file: &'a str, number: u16, ticket: &'a str },
     /// Says what a ledger holds.
-    Left {
-        file: &'a str,
-    },
+    Left { file: &'a str },
     /// Gathers scanned labels at a desk with room for `capacity` documents.
-    Scan {
-        file: &'a str,
-        capacity: u16,
-    },
+    Scan { file: &'a str, capacity: u16 },
     /// Gives the document of an identification, whose two words are in hexadecimal, back.
-    Deliver {
-        file: &'a str,
-        id: &'a str,
-    },
+    Deliver { file: &'a str, id: &'a str },
     /// Lets a document go.
-    Forget {
-        file: &'a str,
-        id: &'a str,
-    },
+    Forget { file: &'a str, id: &'a str },
     /// Gives the pages that are held of a document, for another desk.
-    Export {
-        file: &'a str,
-        id: &'a str,
-    },
+    Export { file: &'a str, id: &'a str },
     /// Takes in the pages that another desk has given.
-    Import {
-        file: &'a str,
-        capacity: u16,
-    },
+    Import { file: &'a str, capacity: u16 },
     /// Says what the files of a desk hold: of each document, or of the one of an identification.
-    Held {
-        file: &'a str,
-        id: Option<&'a str>,
-    },
+    Held { file: &'a str, id: Option<&'a str> },
     /// Draws again the label of a page, 1 to 16, that a desk holds.
-    Copy {
-        file: &'a str,
-        id: &'a str,
-        page: u16,
-        side: u16,
-        scheme: Scheme,
-    },
+    Copy { file: &'a str, id: &'a str, page: u16, side: u16, scheme: Scheme },
     /// Plays a world of printers and desks by a script.
     World,
 }

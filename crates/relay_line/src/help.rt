@@ -23,7 +23,8 @@ Exit status: 0 where all was done; 1 where something was refused, which a line
 says what a refusal means.",
 };
 
-// Those of the commands, in the order in which the program's help lists them: of symbols, printers, desks, and the rest.
+// Those of the commands, in the order in which the program's help lists them: of symbols, printers, desks, and the
+// rest.
 static OF_SYMBOLS: [Page; 3] = [
     Page {
         name: "words",

@@ -214,8 +214,8 @@ pub fn command_line<'a, S: AsStr>(alloc: Global, words: &'a [S]) -> Result<Comma
     }
 }
 
-/// The files that `read` or `scan` takes images from, in turn, or none where it takes them from its input. The words are
-/// those of a line that `command_line` has taken.
+/// The files that `read` or `scan` takes images from, in turn, or none where it takes them from its input. The words
+/// are those of a line that `command_line` has taken.
 ///
 /// # Errors
 /// Memory was refused.

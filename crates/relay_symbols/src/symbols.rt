@@ -25,9 +25,9 @@ fn text_image<A: Allocator + Copy>(alloc: A, side: u16, text: &[u8]) -> Option<V
     grid_image(alloc, &grid).ok()
 }
 
-/// Draws the symbol of this side that carries the text, in ASCII encodation with no head, and answers how many bytes the
-/// image has, which are then at the front of `image`. Answers 0, and leaves `image` as it is, if no size has this side,
-/// the text does not fit, the image has no room, or memory is refused.
+/// Draws the symbol of this side that carries the text, in ASCII encodation with no head, and answers how many bytes
+/// the image has, which are then at the front of `image`. Answers 0, and leaves `image` as it is, if no size has this
+/// side, the text does not fit, the image has no room, or memory is refused.
 #[unsafe(no_mangle)]
 pub extern "C" fn relay_symbol_from_text(
     alloc: Global,
@@ -63,8 +63,8 @@ fn image_of_words<A: Allocator + Copy>(alloc: A, side: u16, words: &[u8]) -> Opt
 }
 
 /// Draws the grid of all words of a symbol of this side, data words first, whether they are those of a symbol or not,
-/// and answers how many bytes the image has, which are then at the front of `image`. Answers 0, and leaves `image` as it
-/// is, if no size has this side, the words are not as many as it has, the image has no room, or memory is refused.
+/// and answers how many bytes the image has, which are then at the front of `image`. Answers 0, and leaves `image` as
+/// it is, if no size has this side, the words are not as many as it has, the image has no room, or memory is refused.
 #[unsafe(no_mangle)]
 pub extern "C" fn relay_image_from_words(
     alloc: Global,
