@@ -1,5 +1,5 @@
 -- What a desk does for a call: it adds pages, forgets a document, or gives what it holds.
-use Rattle.std.specs.Prelude.{◌≡◌, ℕ, true, Option, Some, None, Result, IsTrue, ◌&&◌, not, length, Ok, Err, is_some, is_none, nat_le, ◌==◌, if◌then◌else◌, ◌-◌, replicate, slice_set, List}
+use Rattle.std.specs.Prelude.{◌≡◌, ℕ, true, Option, Some, None, Result, IsTrue, ◌&&◌, not, length, Ok, Err, is_some, is_none, nat_le, ◌==◌, if◌then◌else◌, ◌-◌, replicate, slice_set, List, codes}
 use Rattle.std.specs.List.{list_all}
 use Rattle.std.specs.FinMap as map
 use Rattle.dm_store.specs.Saved.{SavePlan, HeldAfterFault, Outcome, Done, Faulted, Refused, Saves, SavedSet, RemovesKey, outcome_of_remove}
@@ -88,6 +88,12 @@ with_pages held id pages = map.insert held id (pages_with held id pages)
 -- the pages that are given and not held
 abbrev pub added_to : Documents → ℕ → Pages → ℕ
 added_to held id pages = added_mask (own_pages held id) pages
+
+-- the name of what a page or an import was, as lines have it
+abbrev pub kind_name : Kind → List ℕ
+kind_name New = codes "new"
+kind_name Again = codes "again"
+kind_name Complete = codes "complete"
 
 -- some pages are added, and these are held then
 abbrev pub kind_of : Pages → Kind

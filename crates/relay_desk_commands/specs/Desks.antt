@@ -8,7 +8,7 @@ use Rattle.hex.specs.Hex.{decode_sized}
 use Rattle.dm_store.specs.Saved.{Saved, SavedSet}
 use Rattle.dm_append_label.specs.Labels.{id_words, PageView}
 use Rattle.dm_append_label.specs.Opening.{OpensAs}
-use Rattle.dm_assembly_desk.specs.Adding.{Asks, Exports, Forgets, ImportsBytes, AcceptsGrid}
+use Rattle.dm_assembly_desk.specs.Adding.{Asks, Exports, Forgets, ImportsBytes, AcceptsGrid, kind_name}
 use Rattle.dm_assembly_desk.specs.Faults.{ask_fault_name, desk_fault_name, export_fault_name, forget_fault_name, import_fault_name, move_fault_name, scan_fault_name}
 use Rattle.dm_assembly_desk.specs.Opening.{Moves, HasDeskFault, Opens}
 use Rattle.dm_assembly_desk.specs.Documents.{Documents, DeskView, KeepsPages, IsInOrder}
@@ -21,7 +21,8 @@ use Rattle.relay_streams.specs.declared.fault.WriteFault.{WriteFault}
 use Rattle.relay_desk_commands.specs.declared.documents.Given.{Given}
 use Rattle.relay_desk_commands.specs.declared.documents.Given.TheVariants.{Document, File}
 use Rattle.relay_desk_commands.specs.declared.import.TheConstants.{IMPORT_BYTES}
-use Rattle.relay_shared.specs.Lines.{forgotten_line, imported_line, accepted_line, id_text}
+use Rattle.relay_shared.specs.Lines.{accepted_line, id_text, imported_line}
+use Rattle.relay_desk_commands.specs.Lines.{forgotten_line}
 use Rattle.relay_shared.specs.Command.{HasInputFault, refusal_name, LeavesErrors, OnlyOutput, Puts, RefusesOnErrors, RefusesOnOutput, StreamsView, TellsAnswer, TellsBytes, TellsRefusal}
 use Rattle.relay_shared.specs.declared.command.Refusal.TheVariants as refusals
 use Rattle.dm_finder_frame.specs.Frame.{GridView}
@@ -141,12 +142,16 @@ EndsForget text = EndsOnId RefusesOnOutput text (λ id. EndsAtDesk RefusesOnOutp
 -- than the greatest file has, or all if they are fewer, and then the desk was opened, and has answered. Nothing was
 -- written to the standard error.
 pub data EndsImport (capacity : ℕ) (old : OnDesk) (status : ℕ) (new : OnDesk) : Type 0 where
+-- the line of pages that were taken in
+abbrev pub line_of_import : Imported → List ℕ
+line_of_import reply = imported_line reply.id reply.n reply.added (kind_name reply.kind)
+
   not_read : (fault : InputFault) → HasInputFault old.streams.input new.streams.input fault → new.files ≡ old.files
       → TellsRefusal (input_fault_name fault) old.streams.output status new.streams.output
       → LeavesErrors old.streams new.streams → EndsImport capacity old status new
   read : (bytes : List ℕ) → ReadsFirst old.streams.input new.streams.input IMPORT_BYTES bytes
       → EndsAtDesk (λ name before told after. TellsRefusal name before.output told after.output) capacity
-      (AnswersCall imported_line import_fault_name (ImportsBytes bytes)) old status new
+      (AnswersCall line_of_import import_fault_name (ImportsBytes bytes)) old status new
       → LeavesErrors old.streams new.streams → EndsImport capacity old status new
 
 -- ---- what is scanned
@@ -180,7 +185,7 @@ HasNoGrid p fault = (fault ≡ Shape → ¬ HasShape p) × (fault ≡ Memory →
 pub data ScansPicture (A : Type 0) (number : ℕ) (p : Picture) (before : AtDesk) : Said → AtDesk → Type 0 where
   accepted : {desk : DeskView} (grid : GridView) (reply : Accepted) → HasShape p → IsGridInside p grid
       → AcceptsGrid A grid before.desk (Ok reply) desk → ScansPicture A number p before
-      (record { line = accepted_line reply; refused = false }) (record before { desk = desk })
+      (record { line = accepted_line reply.id reply.m reply.n (kind_name reply.kind); refused = false }) (record before { desk = desk })
   refused : {after : AtDesk} (grid : GridView) (fault : ScanFault) (id : Option ℕ) → HasShape p → IsGridInside p grid
       → AcceptsGrid A grid before.desk (Err fault) after.desk → IfSome id (IsIdOn grid)
       → Notes number id (scan_fault_name fault) before.errors after.errors
@@ -195,7 +200,7 @@ scan_images A = record {
   State = AtDesk;
   Answers = λ number before p said after. ScansPicture A number p before said after;
   SeesUnread = λ number before name after.
-      (after.desk ≡ before.desk) × Notes number None name before.errors after.errors;
+      (after.desk ≡ before.desk) × Notes number None name [] before.errors after.errors;
   has_ended = λ at. at.desk.is_failed;
 }
 

@@ -13,7 +13,7 @@ use Rattle.dm_assembly_desk.specs.declared.fault.MoveFault.{MoveFault}
 use Rattle.dm_assembly_desk.specs.declared.fault.MoveFault.TheVariants as moves
 use Rattle.dm_assembly_desk.specs.declared.reply.Held.{Held}
 use Rattle.relay_streams.specs.Streams.{refused_line, AppendsPart, OutputView}
-use Rattle.relay_shared.specs.Lines.{held_line, unsound_joint_line, unsound_line}
+use Rattle.relay_desk_commands.specs.Lines.{held_line, unsound_joint_line, unsound_line}
 use Rattle.relay_shared.specs.Command.{OnlyOutput, RefusesOnOutput, Tells}
 use Rattle.relay_desk_commands.specs.Desks.{EndsOnId, OnDesk}
 

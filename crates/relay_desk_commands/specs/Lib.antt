@@ -1,3 +1,4 @@
+pub mod Lines
 pub mod Desks
 pub mod Held
 pub mod Copy

@@ -9,9 +9,7 @@ use crate::lines::put_forgotten;
 use dm_append_label::FileId;
 use dm_assembly_desk::{AskFault, Desk, ExportFault, MOST_CAPACITY};
 use dm_store::{Store, StoreSet};
-use relay_shared::{
-    EndedDesk, Refusal, Streams, put_forgotten, refuse, status_after, status_after_bytes,
-};
+use relay_shared::{EndedDesk, Refusal, Streams, refuse, status_after, status_after_bytes};
 use std::alloc::Allocator;
 use std::io::{Read, Write};
 

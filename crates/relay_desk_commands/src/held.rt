@@ -17,9 +17,7 @@ use dm_assembly_desk::{
     AskFault, DeskFault, Held, JointFile, MOST_JOINT_FILE_BYTES, MoveFault, held_at, is_listed,
 };
 use dm_store::{LoadFault, Store, StoreSet};
-use relay_shared::{
-    EndedDesk, Refusal, Streams, put_held, put_unsound, put_unsound_joint, refuse, status_after,
-};
+use relay_shared::{EndedDesk, Refusal, Streams, refuse, status_after};
 use relay_streams::{Output, WriteFault};
 use std::alloc::Allocator;
 use std::io::{Read, Write};

@@ -40,7 +40,11 @@ pub fn import_command<A: Allocator + Copy, S: Store, T: StoreSet, R: Read, W: Wr
         Err(ended) => return ended,
     };
     let status = match opened.desk.import(&bytes) {
-        Ok(imported) => status_after(put_imported(&mut streams.output, imported)),
+        Ok(imported) => {
+            let kind = imported.kind.name();
+            let Imported { id, n, added, .. } = imported;
+            status_after(put_imported(&mut streams.output, id, n, added, kind))
+        }
         Err(fault) => refuse(&mut streams.output, fault.name()),
     };
     opened.end(status)

@@ -14,6 +14,7 @@ mod documents;
 mod held;
 mod import;
 pub mod laws;
+mod lines;
 mod scan;
 
 pub use copy::{CopyOptions, copy_command};

@@ -95,7 +95,8 @@ impl<T: StoreSet, A: Allocator + Copy> OnImages<A> for Scanning<T, A> {
         };
         match self.desk.accept(&grid) {
             Ok(accepted) => {
-                put_accepted(output, accepted)?;
+                let kind = accepted.kind.name();
+                put_accepted(output, accepted.id, accepted.m, accepted.n, kind)?;
                 Ok(DONE)
             }
             Err(fault) => {

@@ -10,7 +10,7 @@ use Rattle.dm_size.specs.Sizes.{side}
 use Rattle.dm_size.proofs.Sound.{sound}
 use Rattle.dm_encodation.specs.declared.scheme.Scheme.{Scheme}
 use Rattle.dm_print_ledger.specs.Verdicts.{HasLabels}
-use Rattle.relay_shared.specs.declared.printer_lines.PlannedSide.{PlannedSide}
+use Rattle.relay_printer_commands.specs.declared.lines.PlannedSide.{PlannedSide}
 use Rattle.relay_printer_commands.specs.Print.{IsPlan, IsPlanned}
 
 -- a number of labels of a side

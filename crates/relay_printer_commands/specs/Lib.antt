@@ -1,3 +1,4 @@
+pub mod Lines
 pub mod Printers
 pub mod Print
 pub mod Tickets

@@ -19,10 +19,10 @@ use Rattle.relay_streams.specs.Streams.{input_fault_name, AppendsPart, InputView
 use Rattle.relay_streams.specs.declared.fault.InputFault.{InputFault}
 use Rattle.relay_streams.specs.declared.fault.WriteFault.{WriteFault}
 use Rattle.relay_shared.specs.Command.{HasInputFault, ReadsDocument, refusal_name, ReadsNothing, RefusesOnErrors, RefusesOnOutput, StreamsView, TellsOnOutput, TellsRefusal}
-use Rattle.relay_shared.specs.Lines.{printed_line, side_line}
+use Rattle.relay_printer_commands.specs.Lines.{printed_line, side_line}
 use Rattle.relay_shared.specs.declared.command.Refusal.{Refusal}
 use Rattle.relay_shared.specs.declared.command.Refusal.TheVariants.{Memory, Output, Side}
-use Rattle.relay_shared.specs.declared.printer_lines.PlannedSide.{PlannedSide}
+use Rattle.relay_printer_commands.specs.declared.lines.PlannedSide.{PlannedSide}
 use Rattle.relay_printer_commands.specs.Printers.{OnLedger}
 
 -- ---- the labels of a job

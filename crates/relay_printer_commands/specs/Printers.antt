@@ -9,7 +9,7 @@ use Rattle.dm_print_ledger.specs.declared.fault.GiveFault.{GiveFault}
 use Rattle.dm_print_ledger.specs.declared.fault.OpenFault.{OpenFault}
 use Rattle.dm_print_ledger.specs.declared.fault.TakeFault.{TakeFault}
 use Rattle.dm_print_ledger.specs.declared.range.Range.{Range}
-use Rattle.relay_shared.specs.Lines.{left_line, taken_line, ticket_line, shown_lines}
+use Rattle.relay_printer_commands.specs.Lines.{left_line, taken_line, ticket_line, shown_lines}
 use Rattle.relay_shared.specs.Command.{refusal_name, OnlyOutput, RefusesOnOutput, StreamsView, TellsOnOutput, TellsAnswer}
 use Rattle.relay_shared.specs.declared.command.Refusal.TheVariants.{Ticket}
 use Rattle.relay_printer_commands.specs.Tickets.{HasTicket, IsTextOf}

@@ -5,7 +5,7 @@ use Rattle.hex.specs.Hex.{decode_sized}
 use Rattle.dm_gf256.specs.Field.{IsBlockWord}
 use Rattle.dm_print_ledger.specs.Ledger.{AreOfTicket, ticket_bytes, TicketView}
 use Rattle.relay_shared.specs.Command.{refusal_name, RefusesOnOutput, StreamsView, TellsOnOutput}
-use Rattle.relay_shared.specs.Lines.{check_line, from_line}
+use Rattle.relay_printer_commands.specs.Lines.{check_line, from_line}
 use Rattle.relay_shared.specs.declared.command.Refusal.TheVariants.{Ticket}
 
 -- ---- twelve bytes: ten, and two check words of them

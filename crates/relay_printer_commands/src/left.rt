@@ -3,16 +3,14 @@
 ghost use Rattle.std.specs.Prelude.{IsTrue};
 ghost use Rattle.std.specs.List.{All, flat_map};
 ghost use Rattle.dm_print_ledger.specs.Ledger.{is_range};
-ghost use Rattle.relay_shared.specs.Lines.{free_line, shown_lines, took_line};
+ghost use Rattle.relay_printer_commands.specs.Lines.{free_line, shown_lines, took_line};
 ghost use Rattle.relay_shared.specs.Command.{Puts};
 ghost use Rattle.relay_printer_commands.specs.Printers.{EndsLeft, ledger_at};
 
 use crate::lines::{put_free, put_given, put_left, put_number, put_took};
 use dm_print_ledger::{Giver, Range, Shown};
 use dm_store::Store;
-use relay_shared::{
-    Ended, Streams, put_free, put_given, put_left, put_number, put_took, refuse, status_after,
-};
+use relay_shared::{Ended, Streams, refuse, status_after};
 use relay_streams::{Output, WriteFault};
 use std::io::{Read, Write};
 

@@ -13,14 +13,15 @@
 pub mod laws;
 mod ledger;
 mod left;
+mod lines;
 mod plan;
 mod print;
 mod tickets;
 
 pub use ledger::{give_command, ledger_command};
 pub use left::left_command;
-pub use plan::plan_command;
 pub use lines::PlannedSide;
+pub use plan::plan_command;
 pub use print::print_command;
 pub use relay_command::Labels;
 pub use tickets::{take_command, ticket_command};

@@ -4,16 +4,15 @@ ghost use Rattle.std.specs.Prelude.{◌≡◌, ◌↔◌, ℕ, Some};
 ghost use Rattle.relay_printer_commands.specs.Print.{IsPlan, IsPlanned, EndsPlan};
 ghost use Rattle.std.specs.List.{flat_map};
 ghost use Rattle.relay_streams.specs.Streams.{TakesPart};
-ghost use Rattle.relay_shared.specs.Lines.{side_line};
+ghost use Rattle.relay_printer_commands.specs.Lines.{side_line};
 ghost use Rattle.relay_shared.specs.Command.{Puts};
 
 use crate::lines::{PlannedSide, put_side};
 use arrayvec::ArrayVec;
 use dm_encodation::Scheme;
 use dm_print_ledger::{PrintFault, label_count};
-use relay_shared::{
-    DOCUMENT_BYTES, PlannedSide, Streams, put_side, read_document, refuse, status_after,
-};
+use dm_size::Size;
+use relay_shared::{DOCUMENT_BYTES, Streams, read_document, refuse, status_after};
 use relay_streams::{Output, WriteFault};
 use std::alloc::Allocator;
 use std::io::{Read, Write};

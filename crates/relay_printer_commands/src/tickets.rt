@@ -5,7 +5,7 @@
 ghost use Rattle.std.specs.Prelude.{◌≡◌, ◌+◌, ◌*◌, ◌<◌, ◌↔◌, ℕ, List, length, slice_index, IsTrue, MatchOption};
 ghost use Rattle.std.specs.List.{All};
 ghost use Rattle.dm_print_ledger.specs.Ledger.{AreOfTicket, ticket_bytes};
-ghost use Rattle.relay_shared.specs.Lines.{taken_line};
+ghost use Rattle.relay_printer_commands.specs.Lines.{taken_line};
 ghost use Rattle.relay_printer_commands.specs.Tickets.{HasTicket, IsBareText, IsCheckText, IsChecked, IsTextOf, EndsTicket, digits_in_groups, ticket_lines};
 ghost use Rattle.relay_shared.specs.Command.{Puts, TellsAnswer};
 ghost use Rattle.dm_print_ledger.specs.Verdicts.{take_fault_name};

@@ -26,7 +26,7 @@ use Rattle.relay_command.specs.declared.command.Labels.{Labels}
 use Rattle.relay_command.specs.declared.command.Labels.TheVariants.{OfSide}
 use Rattle.relay_streams.specs.Streams.{OutputView}
 use Rattle.relay_shared.specs.Command.{StreamsView, TellsRefusal}
-use Rattle.relay_shared.specs.Lines.{ticket_line}
+use Rattle.relay_printer_commands.specs.Lines.{ticket_line}
 use Rattle.relay_printer_commands.proofs.Sizes.{same_size}
 use Rattle.relay_printer_commands.specs.Print.{EndsPrint, PrintsLabels, images_of}
 use Rattle.relay_printer_commands.specs.Print.EndsPrint.{no_side, not_read, too_long, read as was_read}

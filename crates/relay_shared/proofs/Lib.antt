@@ -1,3 +1,3 @@
 pub mod ImageLoop
-pub mod Lines
+pub mod Writing
 pub mod Telling

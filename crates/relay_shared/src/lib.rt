@@ -1,5 +1,5 @@
 //! What the commands of `relay` share: how a command ends, the document and the images that it reads, the loop over
-//! these images, the refusals that several commands give, and the lines that they write of printers and of desks.
+//! these images, refusals, how a refused image would be read, and lines that commands of several crates write.
 //!
 //! Proved: which bytes of an input are the document, and when there is none; where the images on an input end; that a
 //! line is written whole, in the words of its definition, or that the output has failed and a part of the line is out.
@@ -9,7 +9,7 @@ mod command;
 mod desk_lines;
 mod images;
 pub mod laws;
-mod printer_lines;
+mod lines;
 
 pub use command::{
     DOCUMENT_BYTES, Ended, EndedDesk, Refusal, Streams, read_document, refuse, status_after,
@@ -20,7 +20,4 @@ pub use desk_lines::{
     put_unsound_joint,
 };
 pub use images::{Answered, DONE, MOST_IMAGES, OnImages, REFUSED, each_image};
-pub use printer_lines::{
-    PlannedSide, id_digits, put_check, put_free, put_from, put_given, put_left, put_number,
-    put_printed, put_side, put_taken, put_ticket, put_took,
-};
+pub use lines::{id_digits, put_accepted, put_imported, word_digits};

@@ -11,7 +11,8 @@ use Rattle.dm_event_history.specs.declared.reply.Reply.TheVariants.{Printed, Pri
 use Rattle.dm_event_world.specs.declared.answers.Answer.{Answer}
 use Rattle.dm_event_world.specs.declared.answers.Answer.TheVariants as answer_kinds
 use Rattle.relay_streams.specs.Streams.{refused_line, input_fault_name, InputView, OutputView, ReadsFirst}
-use Rattle.relay_shared.specs.Lines.{accepted_line, imported_line, id_text, hexadecimal}
+use Rattle.dm_assembly_desk.specs.Adding.{kind_name}
+use Rattle.relay_shared.specs.Lines.{accepted_line, imported_line, id_text, word_text, hexadecimal}
 use Rattle.dm_event_world.specs.Shows.{IsWatched, HasWorldFault, world_fault_name}
 use Rattle.dm_event_world.specs.declared.fault.WorldFault.{WorldFault}
 use Rattle.relay_streams.specs.declared.fault.InputFault.{InputFault}
@@ -41,7 +42,7 @@ numbered_ticket_line index bytes = codes "ticket " ++ (decimal index ++ (32 ∷ 
 -- the number of pages of the document, the pages that the export has, as a number of two bytes in hexadecimal, and the
 -- line's end
 abbrev pub export_end : ℕ → ℕ → List ℕ
-export_end n mask = 32 ∷ (decimal n ++ (32 ∷ (encode_lower (mask / 256 ∷ mask % 256 ∷ []) ++ 10 ∷ [])))
+export_end n mask = 32 ∷ (decimal n ++ (32 ∷ (word_text mask ++ 10 ∷ [])))
 
 -- `export`, its number, the identification, and the end
 abbrev pub export_line : ℕ → ℕ → ℕ → ℕ → List ℕ
@@ -51,7 +52,7 @@ export_line index id n mask = codes "export " ++ (decimal index ++ (32 ∷ (id_t
 abbrev pub reply_line : {A : Type 0} → Reply A → List ℕ
 reply_line (Printed id first count) = labels_line id first count
 reply_line (PrintRefused fault) = refused_line (print_fault_name fault)
-reply_line (Scanned accepted) = accepted_line accepted
+reply_line (Scanned reply) = accepted_line reply.id reply.m reply.n (kind_name reply.kind)
 reply_line (ScanRefused fault) = refused_line (scan_fault_name fault)
 reply_line (Document bytes) = document_line bytes
 reply_line (AskRefused fault) = refused_line (ask_fault_name fault)
@@ -63,7 +64,7 @@ reply_line Taken = codes "taken" ++ 10 ∷ []
 reply_line (TakeRefused fault) = refused_line (take_fault_name fault)
 reply_line (Exported index id n mask) = export_line index id n mask
 reply_line (ExportRefused fault) = refused_line (export_fault_name fault)
-reply_line (Imported imported) = imported_line imported
+reply_line (Imported reply) = imported_line reply.id reply.n reply.added (kind_name reply.kind)
 reply_line (ImportRefused fault) = refused_line (import_fault_name fault)
 reply_line Restarted = codes "restarted" ++ 10 ∷ []
 reply_line (PrinterRefused fault) = refused_line (open_fault_name fault)

@@ -80,7 +80,7 @@ fn put_exported<W: Write>(
 ) -> Result<(), WriteFault>
     ensures { Puts (export_line index id n mask) output.old result output.new }
 {
-    let (id, mask) = (id_digits(id), mask_digits(mask));
+    let (id, mask) = (id_digits(id), word_digits(mask));
     let (mut digits, mut pages) = (Buffer::new(), Buffer::new());
     let index = digits.format(index).as_bytes();
     let n = pages.format(n).as_bytes();
@@ -96,7 +96,7 @@ fn put_reply<A: Allocator, W: Write>(
     match reply {
         Reply::Printed { id, first, count } => put_labels(output, *id, *first, *count),
         Reply::PrintRefused(fault) => output.put_refusal(fault.name()),
-        Reply::Scanned(accepted) => put_accepted(output, *accepted),
+        Reply::Scanned(page) => put_accepted(output, page.id, page.m, page.n, page.kind.name()),
         Reply::ScanRefused(fault) => output.put_refusal(fault.name()),
         Reply::Document(bytes) => put_document(output, bytes.as_slice()),
         Reply::AskRefused(fault) => output.put_refusal(fault.name()),
@@ -108,7 +108,9 @@ fn put_reply<A: Allocator, W: Write>(
         Reply::TakeRefused(fault) => output.put_refusal(fault.name()),
         Reply::Exported { index, id, n, mask } => put_exported(output, *index, *id, *n, *mask),
         Reply::ExportRefused(fault) => output.put_refusal(fault.name()),
-        Reply::Imported(imported) => put_imported(output, *imported),
+        Reply::Imported(pages) => {
+            put_imported(output, pages.id, pages.n, pages.added, pages.kind.name())
+        }
         Reply::ImportRefused(fault) => output.put_refusal(fault.name()),
         Reply::Restarted => output.put(b"restarted\n"),
         Reply::PrinterRefused(fault) => output.put_refusal(fault.name()),

@@ -1,6 +1,6 @@
 use Rattle.std.proofs.Common.{Ok, Err, refl}
 use Rattle.dm_pbm_io.specs.Image.{picture, written}
-use Rattle.relay_shared.proofs.Lines.{puts}
+use Rattle.relay_shared.proofs.Writing.{puts}
 use Rattle.relay_shared.proofs.Telling.{told_bytes}
 use Rattle.relay_desk_commands.specs.Copy.EndsCopyOf.{no_side, of_side}
 use Rattle.relay_desk_commands.specs.Desks.EndsAtDesk.{no_desk, opened}

@@ -1,5 +1,5 @@
 use Rattle.std.proofs.Common.{Ok, Err, refl}
-use Rattle.relay_shared.proofs.Lines.{puts}
+use Rattle.relay_shared.proofs.Writing.{puts}
 use Rattle.relay_shared.proofs.Telling.{told_bytes}
 use Rattle.relay_desk_commands.specs.Desks.EndsAtDesk.{no_desk, opened}
 use Rattle.relay_desk_commands.specs.Desks.EndsOnId.{no_id, of_id}

@@ -1,4 +1,4 @@
-use Rattle.relay_shared.proofs.Lines.{puts_both}
+use Rattle.relay_shared.proofs.Writing.{puts_both}
 use Rattle.relay_desk_commands.proofs.held.put_seen.Goals as goal
 
 pub returns-in-Ok-Some : goal.returns-in-Ok-Some

@@ -24,7 +24,7 @@ returns-clause-ends g c =
     rw (c.end.ensures.status, c.end.ensures.store, c.end.ensures.set, ← c.streams.view_is)
     (elim c.match-import.branch [
       | in-Ok-import w ↦
-          let says = rw opens.1 at (told _ w.put_imported.ensures w.status_after-status.ensures) in
+          let says = rw (opens.1, w.name-kind.ensures) at (told _ w.put_imported.ensures w.status_after-status.ensures) in
           let did = rw c.deref.ensures.value at (w.in-Ok-import.ensures.imported running) in
           rw (w.streams-is, w.status-is) (read _ c.in-Ok.ensures.read (opened c.in-Ok-open_desk.opened.desk opens.0
           (_, Ok w.in-Ok-import.imported, did, refl, says)) refl)

@@ -1,5 +1,5 @@
-use Rattle.relay_shared.specs.Lines.{took_line}
-use Rattle.relay_shared.proofs.Lines.{puts_before}
+use Rattle.relay_printer_commands.specs.Lines.{took_line}
+use Rattle.relay_shared.proofs.Writing.{puts_before}
 use Rattle.relay_printer_commands.proofs.left.put_givers.Goals as goal
 
 pub returns-in_err-put_took : goal.returns-in_err-put_took

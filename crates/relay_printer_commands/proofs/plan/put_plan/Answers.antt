@@ -1,5 +1,5 @@
-use Rattle.relay_shared.specs.Lines.{side_line}
-use Rattle.relay_shared.proofs.Lines.{puts_before}
+use Rattle.relay_printer_commands.specs.Lines.{side_line}
+use Rattle.relay_shared.proofs.Writing.{puts_before}
 use Rattle.relay_printer_commands.proofs.plan.put_plan.Goals as goal
 
 pub returns-in_err-put_side : goal.returns-in_err-put_side

@@ -1,4 +1,4 @@
-use Rattle.relay_shared.proofs.Lines.{puts_both, puts_first}
+use Rattle.relay_shared.proofs.Writing.{puts_both, puts_first}
 use Rattle.relay_printer_commands.proofs.tickets.put_lines.Goals as goal
 
 pub returns-in_err-put_from : goal.returns-in_err-put_from

@@ -1,7 +1,7 @@
 use Rattle.std.proofs.Common.{refl, subst}
 use Rattle.dm_pbm_io.specs.Image.{Picture, picture, written}
 use Rattle.relay_shared.specs.Command.{Puts}
-use Rattle.relay_shared.proofs.Lines.{puts}
+use Rattle.relay_shared.proofs.Writing.{puts}
 use Rattle.relay_shared.proofs.Telling.{told_bytes}
 use Rattle.relay_symbol_commands.specs.DocumentSymbol.EndsDraw.{drawn, refused}
 use Rattle.relay_symbol_commands.specs.declared.refusal.SymbolRefusal.TheVariants.{Memory}

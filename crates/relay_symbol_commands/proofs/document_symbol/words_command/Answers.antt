@@ -1,5 +1,5 @@
 use Rattle.std.proofs.Common.{refl}
-use Rattle.relay_shared.proofs.Lines.{puts}
+use Rattle.relay_shared.proofs.Writing.{puts}
 use Rattle.relay_shared.proofs.Telling.{told}
 use Rattle.relay_symbol_commands.specs.DocumentSymbol.{EndsWords as ends}
 use Rattle.relay_symbol_commands.specs.declared.refusal.SymbolRefusal.TheVariants.{Memory}

@@ -1,5 +1,5 @@
 use Rattle.relay_streams.proofs.Parts.{part_more}
-use Rattle.relay_shared.proofs.Lines.{puts_next, puts_part}
+use Rattle.relay_shared.proofs.Writing.{puts_next, puts_part}
 use Rattle.relay_world_command.proofs.reply_lines.put_answer.Goals as goal
 
 pub returns-in_err-put : goal.returns-in_err-put

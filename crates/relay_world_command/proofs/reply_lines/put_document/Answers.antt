@@ -2,7 +2,7 @@ use Rattle.std.proofs.Common.{◌≡◌, List, ℕ, [], ◌∷◌, refl, arith}
 use Rattle.hex.specs.Hex.{encode_lower}
 use Rattle.relay_shared.specs.Lines.{hexadecimal}
 use Rattle.relay_streams.proofs.Parts.{part_more}
-use Rattle.relay_shared.proofs.Lines.{puts, puts_both, puts_first, puts_next, puts_part}
+use Rattle.relay_shared.proofs.Writing.{puts, puts_both, puts_first, puts_next, puts_part}
 use Rattle.relay_world_command.proofs.reply_lines.put_document.Goals as goal
 
 -- the digits of some bytes

@@ -20,7 +20,7 @@ returns-in-Ok-accept-clause-answer g c =
     let runs = after_scan accepts.opened _ reply c.accept.new.self c.requires.running accepts.scans in record {
       said = _;
       answers = accepted c.in-Ok.grid c.in-Ok-accept.accepted c.in-Ok.ensures.grid.0 c.in-Ok.ensures.grid.1 accepts;
-      told = (c.in_ok-put_accepted-in-Ok-accept.ensures.written, refl, sym runs);
+      told = (rw c.name-kind.ensures at c.in_ok-put_accepted-in-Ok-accept.ensures.written, refl, sym runs);
     }
 
 pub returns-in_err-put_accepted-in-Ok-accept-clause-answer : goal.returns-in_err-put_accepted-in-Ok-accept-clause-answer
@@ -30,7 +30,7 @@ returns-in_err-put_accepted-in-Ok-accept-clause-answer g c =
       said = _;
       answers = accepted c.in-Ok.grid c.in-Ok-accept.accepted c.in-Ok.ensures.grid.0 c.in-Ok.ensures.grid.1
           (c.in-Ok-accept.ensures.scanned c.requires.running);
-      told = (c.put_accepted.ensures.part, c.in_err-put_accepted-in-Ok-accept.ensures.failed);
+      told = (rw c.name-kind.ensures at c.put_accepted.ensures.part, c.in_err-put_accepted-in-Ok-accept.ensures.failed);
     }
 
 pub returns-clause-answer : goal.returns-clause-answer

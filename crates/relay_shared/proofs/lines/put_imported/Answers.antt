@@ -1,5 +1,5 @@
-use Rattle.relay_shared.proofs.Lines.{puts}
-use Rattle.relay_shared.proofs.desk_lines.put_imported.Goals as goal
+use Rattle.relay_shared.proofs.Writing.{puts}
+use Rattle.relay_shared.proofs.lines.put_imported.Goals as goal
 
 pub returns : goal.returns
 returns g c =
@@ -7,8 +7,7 @@ returns g c =
       c.id_digits-id.ensures,
       c.as_bytes-n.ensures.value,
       c.format.ensures.text,
-      c.mask_digits-added.ensures,
-      c.as_bytes-kind.ensures.value,
-      c.name_of.ensures,
+      c.word_digits-added.ensures,
+      c.as_bytes.ensures.value,
     ) at (puts _ c.args.output.now c.put_all.new.self c.put_all.result c.put_all.ensures.written c.put_all.ensures.part
     c.put_all.ensures.failed)

@@ -1,31 +1,21 @@
-//! The lines that the commands of printers write: of printers, of tickets, of what a ledger holds, and of the sides of
-//! a plan. They take no memory, and an `Err` is a write that the output has refused.
+//! The lines of printers, of tickets, of what a ledger holds, and of the sides of a plan. They take no memory, and an
+//! `Err` is a write that the output has refused.
 
 ghost use Rattle.std.specs.Prelude.{◌≡◌, ◌≤◌, IsTrue};
-ghost use Rattle.relay_shared.specs.Lines.{id_text, left_line, printed_line, taken_line, ticket_line, check_line, from_line, free_line, given_line, number_line, took_line, side_line};
+ghost use Rattle.relay_shared.specs.Lines.{id_text};
+ghost use Rattle.relay_printer_commands.specs.Lines.{left_line, printed_line, taken_line, ticket_line, check_line, from_line, free_line, given_line, number_line, took_line, side_line};
 ghost use Rattle.relay_shared.specs.Command.{Puts};
 ghost use Rattle.dm_print_ledger.specs.Ledger.{is_range};
 
 use dm_append_label::FileId;
 use dm_print_ledger::{GREATEST, Giver, Range, Ticket};
 use itoa::Buffer;
+use relay_shared::id_digits;
 use relay_streams::{Output, WriteFault};
 use std::io::Write;
 
-/// The two words of an identification in hexadecimal.
-pub fn id_digits(id: FileId) -> [u8; 4]
-    ensures { result ≡ id_text id }
-{
-    let (first, second) = id.words();
-    let mut digits = [0u8; 4];
-    let Ok(()) = hex::encode_to_slice([first, second], &mut digits) else {
-        unreachable!()
-    };
-    digits
-}
-
 /// Writes how many identifications are free.
-pub fn put_left<W: Write>(output: &mut Output<W>, left: u32) -> Result<(), WriteFault>
+pub(crate) fn put_left<W: Write>(output: &mut Output<W>, left: u32) -> Result<(), WriteFault>
     ensures { Puts (left_line left) output.old result output.new }
 {
     let mut digits = Buffer::new();
@@ -33,7 +23,7 @@ pub fn put_left<W: Write>(output: &mut Output<W>, left: u32) -> Result<(), Write
 }
 
 /// Writes what was printed: the identification, the number of labels, and how many identifications are left.
-pub fn put_printed<W: Write>(
+pub(crate) fn put_printed<W: Write>(
     output: &mut Output<W>,
     id: FileId,
     count: u8,
@@ -49,7 +39,7 @@ pub fn put_printed<W: Write>(
 }
 
 /// Writes a ticket.
-pub fn put_ticket<W: Write>(output: &mut Output<W>, ticket: Ticket) -> Result<(), WriteFault>
+pub(crate) fn put_ticket<W: Write>(output: &mut Output<W>, ticket: Ticket) -> Result<(), WriteFault>
     ensures { Puts (ticket_line ticket) output.old result output.new }
 {
     let mut digits = [0u8; 20];
@@ -60,7 +50,7 @@ pub fn put_ticket<W: Write>(output: &mut Output<W>, ticket: Ticket) -> Result<()
 }
 
 /// Writes that a ticket was taken, and how many identifications are left.
-pub fn put_taken<W: Write>(output: &mut Output<W>, left: u32) -> Result<(), WriteFault>
+pub(crate) fn put_taken<W: Write>(output: &mut Output<W>, left: u32) -> Result<(), WriteFault>
     ensures { Puts (taken_line left) output.old result output.new }
 {
     let mut digits = Buffer::new();
@@ -68,7 +58,7 @@ pub fn put_taken<W: Write>(output: &mut Output<W>, left: u32) -> Result<(), Writ
 }
 
 /// Writes which printer gave a ticket, to which, its serial, and its first and last number, in decimal.
-pub fn put_from<W: Write>(output: &mut Output<W>, ticket: Ticket) -> Result<(), WriteFault>
+pub(crate) fn put_from<W: Write>(output: &mut Output<W>, ticket: Ticket) -> Result<(), WriteFault>
     ensures { Puts (from_line ticket) output.old result output.new }
 {
     output.put_all(&[
@@ -88,7 +78,7 @@ pub fn put_from<W: Write>(output: &mut Output<W>, ticket: Ticket) -> Result<(), 
 
 /// Writes twelve bytes, those of a ticket and their check words, as they can be copied by hand: in hexadecimal, in
 /// groups of four digits, which hyphens join.
-pub fn put_check<W: Write>(output: &mut Output<W>, bytes: [u8; 12]) -> Result<(), WriteFault>
+pub(crate) fn put_check<W: Write>(output: &mut Output<W>, bytes: [u8; 12]) -> Result<(), WriteFault>
     ensures { Puts (check_line bytes) output.old result output.new }
 {
     let mut digits = [0u8; 24];
@@ -123,7 +113,10 @@ fn number_digits(number: u16) -> [u8; 4]
 }
 
 /// Writes which printer a ledger is of.
-pub fn put_number<W: Write>(output: &mut Output<W>, number: Option<u16>) -> Result<(), WriteFault>
+pub(crate) fn put_number<W: Write>(
+    output: &mut Output<W>,
+    number: Option<u16>,
+) -> Result<(), WriteFault>
     ensures { Puts (number_line number) output.old result output.new }
 {
     match number {
@@ -136,7 +129,7 @@ pub fn put_number<W: Write>(output: &mut Output<W>, number: Option<u16>) -> Resu
 }
 
 /// Writes which identifications are free, in decimal and as a label has them.
-pub fn put_free<W: Write>(output: &mut Output<W>, range: Range) -> Result<(), WriteFault>
+pub(crate) fn put_free<W: Write>(output: &mut Output<W>, range: Range) -> Result<(), WriteFault>
     requires { IsTrue (is_range range) }
     ensures { Puts (free_line range) output.old result output.new }
 {
@@ -151,7 +144,7 @@ pub fn put_free<W: Write>(output: &mut Output<W>, range: Range) -> Result<(), Wr
 }
 
 /// Writes how many tickets were given.
-pub fn put_given<W: Write>(output: &mut Output<W>, given: u16) -> Result<(), WriteFault>
+pub(crate) fn put_given<W: Write>(output: &mut Output<W>, given: u16) -> Result<(), WriteFault>
     ensures { Puts (given_line given) output.old result output.new }
 {
     let mut digits = Buffer::new();
@@ -159,7 +152,7 @@ pub fn put_given<W: Write>(output: &mut Output<W>, given: u16) -> Result<(), Wri
 }
 
 /// Writes which ticket of a printer was taken last.
-pub fn put_took<W: Write>(output: &mut Output<W>, giver: Giver) -> Result<(), WriteFault>
+pub(crate) fn put_took<W: Write>(output: &mut Output<W>, giver: Giver) -> Result<(), WriteFault>
     ensures { Puts (took_line giver) output.old result output.new }
 {
     let (mut numbered, mut counted) = (Buffer::new(), Buffer::new());
@@ -178,7 +171,10 @@ pub struct PlannedSide {
 }
 
 /// Writes how many labels of a side a document has.
-pub fn put_side<W: Write>(output: &mut Output<W>, planned: PlannedSide) -> Result<(), WriteFault>
+pub(crate) fn put_side<W: Write>(
+    output: &mut Output<W>,
+    planned: PlannedSide,
+) -> Result<(), WriteFault>
     ensures { Puts (side_line planned) output.old result output.new }
 {
     let (mut numbered, mut counted) = (Buffer::new(), Buffer::new());

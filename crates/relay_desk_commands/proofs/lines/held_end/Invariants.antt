@@ -1,6 +1,6 @@
 use Rattle.std.specs.Prelude.{◌≡◌, ◌≤◌, ◌*◌, ◌+◌, ◌++◌, length}
-use Rattle.relay_shared.specs.Lines.{held_word, missing_pages}
-use Rattle.relay_shared.proofs.desk_lines.held_end.Given as goal
+use Rattle.relay_desk_commands.specs.Lines.{held_word, missing_pages}
+use Rattle.relay_desk_commands.proofs.lines.held_end.Given as goal
 
 -- the pages before are written, of which each takes four bytes at most
 abbrev pub invariant-loop-m : goal.invariant-loop-m
