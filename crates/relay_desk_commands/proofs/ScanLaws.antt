@@ -1,6 +1,8 @@
 -- What a desk is after a scan: if a save failed, it has failed, and else it runs on.
-use Rattle.std.specs.Prelude.{◌≡◌, Bool, true, false, Result, Ok, Err}
-use Rattle.std.proofs.Common.{refl, ap, sym, ◌∙◌}
+use Rattle.dm_pbm_io.specs.Image.{Picture}
+use Rattle.relay_shared.specs.Cure.{EndsNote}
+use Rattle.std.specs.Prelude.{◌≡◌, ◌||◌, ℕ, List, Bool, true, false, Result, Ok, Err}
+use Rattle.std.proofs.Common.{inl, inr, refl, ap, sym, ◌∙◌}
 use Rattle.dm_append_label.specs.declared.fault.LabelFault.{LabelFault}
 use Rattle.dm_append_label.specs.declared.fault.LabelFault.TheVariants as labels
 use Rattle.dm_append_label.specs.declared.opening.Opened.{Opened}
@@ -43,3 +45,14 @@ after_scan (Ok opened) before reply after running done =
     adds_failed opened.page.id (lone opened.page) before after running done.0 done.2
     ∙ sym (ap is_save done.1 ∙ same_save opened.page done.0)
 after_scan (Err fault) before reply after running done = cc (ap is_save done.0, label_is_no_save fault)
+
+-- the end of a note: no more is tried than may be
+pub ends_note : {tried wanted : Bool} {p : Picture} {text ending : List ℕ} → (tried ≡ true → wanted ≡ true)
+    → text ≡ ending → EndsNote tried p ending → EndsNote wanted p text
+ends_note may same (inl is) = inl (same ∙ is)
+ends_note may same (inr (tried, cure, is, ends)) = inr (may tried, cure, is, same ∙ ends)
+
+-- what follows from each of two follows from either
+pub either : {P : Type 0} (a b : Bool) → (a ≡ true → P) → (b ≡ true → P) → (a || b) ≡ true → P
+either true b one other is = one refl
+either false b one other is = other is

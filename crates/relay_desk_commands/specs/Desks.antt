@@ -1,7 +1,7 @@
 -- What `deliver`, `export`, `forget`, `import` and `scan` do to the files of a desk, and what they write. `scan` prints
 -- a line for each image, in order, up to the end of the input, a plain image, bytes that are no image, a save that
 -- failed, or the greatest number of images.
-use Rattle.std.specs.Prelude.{◌≡◌, ◌<◌, ℕ, List, [], ◌∷◌, ◌++◌, codes, Option, None, Some, IfSome, Result, Ok, Err, MatchResult, false}
+use Rattle.std.specs.Prelude.{◌≡◌, ◌<◌, ℕ, List, [], ◌∷◌, ◌++◌, codes, Option, None, Some, IfSome, Result, Ok, Err, MatchResult, Bool, true, false}
 use Rattle.std.specs.Fmt.{decimal}
 use Rattle.std.specs.FinMap as map
 use Rattle.hex.specs.Hex.{decode_sized}
@@ -32,6 +32,10 @@ use Rattle.dm_pbm_io.specs.declared.fault.ShapeFault.{ShapeFault}
 use Rattle.dm_pbm_io.specs.declared.fault.ShapeFault.TheVariants.{Shape, Memory}
 use Rattle.dm_assembly_desk.specs.declared.fault.ScanFault.{ScanFault}
 use Rattle.dm_assembly_desk.specs.declared.reply.Accepted.{Accepted}
+use Rattle.dm_assembly_desk.specs.declared.reply.Imported.{Imported}
+use Rattle.dm_append_label.specs.declared.fault.LabelFault.TheVariants.{Border, Block}
+use Rattle.dm_assembly_desk.specs.declared.fault.ScanFault.TheVariants.{Label}
+use Rattle.relay_shared.specs.Cure.{EndsNote}
 use Rattle.relay_shared.specs.EachImage.{ImageCommand, Said, TellsImages, progress_at, refusal_of}
 
 -- ---- a desk's files
@@ -138,14 +142,14 @@ EndsForget text = EndsOnId RefusesOnOutput text (λ id. EndsAtDesk RefusesOnOutp
     (λ desk old status new. OnlyOutput old new.streams
     × AnswersCall (λ _. forgotten_line id) forget_fault_name (Forgets id) desk old status new))
 
--- How `import` ends: the input could not be read; or no read failed, and these bytes were read, and no other, one more
--- than the greatest file has, or all if they are fewer, and then the desk was opened, and has answered. Nothing was
--- written to the standard error.
-pub data EndsImport (capacity : ℕ) (old : OnDesk) (status : ℕ) (new : OnDesk) : Type 0 where
 -- the line of pages that were taken in
 abbrev pub line_of_import : Imported → List ℕ
 line_of_import reply = imported_line reply.id reply.n reply.added (kind_name reply.kind)
 
+-- How `import` ends: the input could not be read; or no read failed, and these bytes were read, and no other, one more
+-- than the greatest file has, or all if they are fewer, and then the desk was opened, and has answered. Nothing was
+-- written to the standard error.
+pub data EndsImport (capacity : ℕ) (old : OnDesk) (status : ℕ) (new : OnDesk) : Type 0 where
   not_read : (fault : InputFault) → HasInputFault old.streams.input new.streams.input fault → new.files ≡ old.files
       → TellsRefusal (input_fault_name fault) old.streams.output status new.streams.output
       → LeavesErrors old.streams new.streams → EndsImport capacity old status new
@@ -161,16 +165,32 @@ pub record AtDesk : Type 0 where
   pub desk : DeskView
   pub errors : OutputView
 
--- `relay: image`, its number, the identification of its label, if one is known, and the name of its refusal
-abbrev pub image_note : ℕ → Option ℕ → List ℕ → List ℕ
-image_note number None name = codes "relay: image " ++ (decimal number ++ (codes ": " ++ (name ++ 10 ∷ [])))
-image_note number (Some id) name = codes "relay: image " ++
-    (decimal number ++ (codes " (" ++ (id_text id ++ (codes "): " ++ (name ++ 10 ∷ [])))))
+-- `relay: image`, its number, the identification of its label, if one is known, the name of its refusal, and the end
+abbrev pub image_note : ℕ → Option ℕ → List ℕ → List ℕ → List ℕ
+image_note number None name ending =
+    codes "relay: image " ++ (decimal number ++ (codes ": " ++ (name ++ (ending ++ 10 ∷ []))))
+image_note number (Some id) name ending = codes "relay: image " ++
+    (decimal number ++ (codes " (" ++ (id_text id ++ (codes "): " ++ (name ++ (ending ++ 10 ∷ []))))))
 
 -- this was noted on the standard error, or it has failed, with a part of it
-abbrev pub Notes : ℕ → Option ℕ → List ℕ → OutputView → OutputView → Type 0
-Notes number id name old new =
-    (put : Result (Unit {0}) WriteFault) × Puts (image_note number id name) old put new
+abbrev pub Notes : ℕ → Option ℕ → List ℕ → List ℕ → OutputView → OutputView → Type 0
+Notes number id name ending old new =
+    (put : Result (Unit {0}) WriteFault) × Puts (image_note number id name ending) old put new
+
+-- the refusal of a picture was noted, and, if it is of the image itself, maybe a change after which the image is read
+abbrev pub NotesPicture : Bool → Picture → ℕ → Option ℕ → List ℕ → OutputView → OutputView → Type 0
+NotesPicture of_image p number id name old new =
+    (ending : List ℕ) × EndsNote of_image p ending × Notes number id name ending old new
+
+-- the refusal is of the image itself, and not of what its label says, nor of the desk
+abbrev pub is_of_image : ScanFault → Bool
+is_of_image (Label (Border wrong)) = true
+is_of_image (Label (Block block)) = true
+is_of_image fault = false
+
+abbrev pub is_of_shape : ShapeFault → Bool
+is_of_shape Shape = true
+is_of_shape Memory = false
 
 -- the grid opens as a label with this identification
 abbrev pub IsIdOn : GridView → ℕ → Type 0
@@ -188,10 +208,10 @@ pub data ScansPicture (A : Type 0) (number : ℕ) (p : Picture) (before : AtDesk
       (record { line = accepted_line reply.id reply.m reply.n (kind_name reply.kind); refused = false }) (record before { desk = desk })
   refused : {after : AtDesk} (grid : GridView) (fault : ScanFault) (id : Option ℕ) → HasShape p → IsGridInside p grid
       → AcceptsGrid A grid before.desk (Err fault) after.desk → IfSome id (IsIdOn grid)
-      → Notes number id (scan_fault_name fault) before.errors after.errors
+      → NotesPicture (is_of_image fault) p number id (scan_fault_name fault) before.errors after.errors
       → ScansPicture A number p before (refusal_of (scan_fault_name fault)) after
   no_grid : {errors : OutputView} (fault : ShapeFault) → HasNoGrid p fault
-      → Notes number None (shape_fault_name fault) before.errors errors
+      → NotesPicture (is_of_shape fault) p number None (shape_fault_name fault) before.errors errors
       → ScansPicture A number p before (refusal_of (shape_fault_name fault)) (record before { errors = errors })
 
 -- `scan` as a command over images: after a save that failed it reads no more

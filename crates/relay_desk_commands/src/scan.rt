@@ -15,7 +15,8 @@ use dm_pbm_io::{Image, ShapeFault, grid_of};
 use dm_store::{Store, StoreSet};
 use itoa::Buffer;
 use relay_shared::{
-    Answered, DONE, EndedDesk, OnImages, REFUSED, Streams, each_image, id_digits, put_accepted,
+    Answered, DONE, EndedDesk, OnImages, REFUSED, Streams, each_image, id_digits, note_ending,
+    put_accepted,
 };
 use relay_streams::{Output, WriteFault};
 use std::alloc::Allocator;
@@ -32,18 +33,25 @@ fn id_of_label<A: Allocator + Copy>(alloc: A, grid: &Grid<A>) -> Option<FileId>
 }
 
 // Notes of which image a refusal is, and of which label. If the standard error fails, the scan goes on.
-fn put_note<E: Write>(errors: &mut Output<E>, number: u32, id: Option<FileId>, name: &str)
-    ensures { Notes number id name.now errors.old errors.new }
+fn put_note<E: Write>(
+    errors: &mut Output<E>,
+    number: u32,
+    id: Option<FileId>,
+    name: &str,
+    ending: &str,
+)
+    ensures { Notes number id name.now ending.now errors.old errors.new }
 {
+    let start: &[u8] = b"relay: image ";
     let mut digits = Buffer::new();
     let number = digits.format(number).as_bytes();
-    let name = name.as_bytes();
+    let (name, ending) = (name.as_bytes(), ending.as_bytes());
     let _ = match id {
         Some(id) => {
             let id = id_digits(id);
-            errors.put_all(&[b"relay: image ", number, b" (", &id, b"): ", name, b"\n"])
+            errors.put_all(&[start, number, b" (", &id, b"): ", name, ending, b"\n"])
         }
-        None => errors.put_all(&[b"relay: image ", number, b": ", name, b"\n"]),
+        None => errors.put_all(&[start, number, b": ", name, ending, b"\n"]),
     };
 }
 
@@ -89,7 +97,8 @@ impl<T: StoreSet, A: Allocator + Copy> OnImages<A> for Scanning<T, A> {
             Ok(grid) => grid,
             Err(shape) => {
                 let name = shape.name();
-                put_note(errors, number, None, name);
+                let ending = note_ending(alloc, image, matches!(shape, ShapeFault::Shape));
+                put_note(errors, number, None, name, &ending);
                 return put_refused(output, name, false);
             }
         };
@@ -102,14 +111,17 @@ impl<T: StoreSet, A: Allocator + Copy> OnImages<A> for Scanning<T, A> {
             Err(fault) => {
                 let id = id_of_label(alloc, &grid);
                 let name = fault.name();
-                put_note(errors, number, id, name);
+                let of_image = matches!(fault, ScanFault::Label(Border { .. }))
+                    | matches!(fault, ScanFault::Label(Block { .. }));
+                let ending = note_ending(alloc, image, of_image);
+                put_note(errors, number, id, name, &ending);
                 put_refused(output, name, matches!(fault, ScanFault::Save))
             }
         }
     }
 
     fn see_unread<E: Write>(&mut self, errors: &mut Output<E>, number: u32, name: &str) {
-        put_note(errors, number, None, name);
+        put_note(errors, number, None, name, "");
     }
 
     ghost keeps_itself = { λ now errors. ((λ id m bytes held. held), (λ order. order)) };
@@ -124,7 +136,7 @@ impl<T: StoreSet, A: Allocator + Copy> OnImages<A> for Scanning<T, A> {
 /// each `IIII m/n new`, `again` or `complete`, after the save, or `refused NAME`. A refused image doesn't end the
 /// command; a save that failed does, and so do bytes that are no image, and a plain image. At most 65,536 images are
 /// read. The desk is opened before anything is read. Which image a refusal is of goes to the standard error, as
-/// `relay: image N: NAME`, or `relay: image N (IIII): NAME` if its label opens.
+/// `relay: image N: NAME`, or `relay: image N (IIII): NAME` if its label opens, and then what [`note_ending`] gives.
 pub fn scan_command<A: Allocator + Copy, S: Store, T: StoreSet, R: Read, W: Write, E: Write>(
     alloc: A,
     store: S,

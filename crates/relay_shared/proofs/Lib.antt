@@ -1,3 +1,4 @@
 pub mod ImageLoop
 pub mod Writing
 pub mod Telling
+pub mod ChangedImages

@@ -1,4 +1,5 @@
 pub mod Lines
 pub mod Command
 pub mod EachImage
+pub mod Cure
 pub mod inner

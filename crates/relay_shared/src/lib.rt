@@ -6,7 +6,7 @@
 #![tactic(auto)]
 
 mod command;
-mod desk_lines;
+mod cure;
 mod images;
 pub mod laws;
 mod lines;
@@ -15,9 +15,6 @@ pub use command::{
     DOCUMENT_BYTES, Ended, EndedDesk, Refusal, Streams, read_document, refuse, status_after,
     status_after_bytes,
 };
-pub use desk_lines::{
-    mask_digits, put_accepted, put_forgotten, put_held, put_imported, put_unsound,
-    put_unsound_joint,
-};
+pub use cure::note_ending;
 pub use images::{Answered, DONE, MOST_IMAGES, OnImages, REFUSED, each_image};
 pub use lines::{id_digits, put_accepted, put_imported, word_digits};

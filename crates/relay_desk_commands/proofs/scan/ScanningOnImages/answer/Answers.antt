@@ -1,17 +1,27 @@
-use Rattle.std.proofs.Common.{◌≡◌, Ok, Err, ap, refl, sym, ◌∙◌}
+use Rattle.std.proofs.Common.{◌≡◌, true, true≢false, Ok, Err, ap, refl, sym, ◌∙◌}
 use Rattle.std.proofs.lemmas.Result.{err_from_is_err_and}
 use Rattle.relay_desk_commands.specs.Desks.ScansPicture.{accepted, no_grid, refused}
-use Rattle.relay_desk_commands.proofs.ScanLaws.{after_scan, no_save}
-use Rattle.relay_desk_commands.proofs.scan.ScanningOnImages.answer.Goals.{in-Save, in_default}
+use Rattle.dm_assembly_desk.specs.declared.fault.ScanFault.TheVariants.{Label}
+use Rattle.relay_desk_commands.specs.Desks.{is_of_image, is_of_shape}
+use Rattle.relay_desk_commands.proofs.ScanLaws.{after_scan, either, ends_note, no_save}
+use Rattle.relay_desk_commands.proofs.scan.ScanningOnImages.answer.Goals.{in-Shape, in_default, in-Label-Border, in_default-matches, in_default-matches-4, in-Label-Block, in_default-matches-2, in_default-matches-2-2, in-Save, in_default-matches-3}
 use Rattle.relay_desk_commands.proofs.scan.ScanningOnImages.answer.Goals as goal
 
 pub returns-in-Err-clause-answer : goal.returns-in-Err-clause-answer
-returns-in-Err-clause-answer g c = record {
-  said = _;
-  answers = no_grid c.in-Err.shape (λ e. c.in-Err.ensures.shape (ap Err e), λ e. c.in-Err.ensures.memory (ap Err e))
-      (rw c.name-name.ensures at c.put_note.ensures);
-  told = rw (c.requires.running, ← c.name-name.ensures) c.put_refused.ensures;
-}
+returns-in-Err-clause-answer g c =
+    let shape = c.in-Err.shape in
+    let may : c.match-matches.matches ≡ true → is_of_shape shape ≡ true = elim c.match-matches.branch [
+      | in-Shape w ↦ λ e. ap is_of_shape w.in-Shape.is
+      | in_default w ↦ λ e. absurd (true≢false (sym e ∙ w.matches-is))
+    ] in record {
+      said = _;
+      answers = no_grid shape (λ e. c.in-Err.ensures.shape (ap Err e), λ e. c.in-Err.ensures.memory (ap Err e)) (
+        c.deref.result.now,
+        ends_note may c.deref.ensures c.note_ending-ending.ensures,
+        rw c.name-name.ensures at c.put_note.ensures,
+      );
+      told = rw (c.requires.running, ← c.name-name.ensures) c.put_refused.ensures;
+    }
 
 pub returns-in-Ok-accept-clause-answer : goal.returns-in-Ok-accept-clause-answer
 returns-in-Ok-accept-clause-answer g c =
@@ -38,12 +48,29 @@ returns-clause-answer g c =
     let fault = c.in-Err-accept.fault in
     let accepts = c.in-Err-accept.ensures.scanned c.requires.running in
     let ends = after_scan accepts.opened _ (Err fault) c.accept.new.self c.requires.running accepts.scans in
-    let last : c.match-matches.matches ≡ c.accept.new.self.is_failed = elim c.match-matches.branch [
+    let border : c.match-matches-2.matches ≡ true → is_of_image fault ≡ true = elim c.match-matches-2.branch [
+      | in-Label-Border w ↦ λ e.
+          (let is = w.in-Label-Border.is in ap is_of_image (is ∙ ap Label (rw is at w.in-Label-Border.field-0-is)))
+      | in_default-matches w ↦ λ e. absurd (true≢false (sym e ∙ w.matches-is))
+      | in_default-matches-4 w ↦ λ e. absurd (true≢false (sym e ∙ w.matches-is))
+    ] in
+    let block : c.match-matches-3.matches ≡ true → is_of_image fault ≡ true = elim c.match-matches-3.branch [
+      | in-Label-Block w ↦ λ e.
+          (let is = w.in-Label-Block.is in ap is_of_image (is ∙ ap Label (rw is at w.in-Label-Block.field-0-is)))
+      | in_default-matches-2 w ↦ λ e. absurd (true≢false (sym e ∙ w.matches-is))
+      | in_default-matches-2-2 w ↦ λ e. absurd (true≢false (sym e ∙ w.matches-is))
+    ] in
+    let may = either c.match-matches-2.matches c.match-matches-3.matches border block in
+    let last : c.match-matches-4.matches ≡ c.accept.new.self.is_failed = elim c.match-matches-4.branch [
       | in-Save w ↦ w.matches-is ∙ sym (rw w.in-Save.is at ends)
-      | in_default w ↦ w.matches-is ∙ sym (ends ∙ no_save fault w.in_default.not-Save)
+      | in_default-matches-3 w ↦ w.matches-is ∙ sym (ends ∙ no_save fault w.in_default-matches-3.not-Save)
     ] in record {
       said = _;
       answers = refused c.in-Ok.grid fault c.id_of_label-id.result c.in-Ok.ensures.grid.0 c.in-Ok.ensures.grid.1 accepts
-          c.id_of_label-id.ensures (rw c.name-name-in-Err-accept.ensures at c.put_note-in-Err-accept.ensures);
+          c.id_of_label-id.ensures (
+            c.deref-in-Err-accept.result.now,
+            ends_note may c.deref-in-Err-accept.ensures c.note_ending-ending-in-Err-accept.ensures,
+            rw c.name-name-in-Err-accept.ensures at c.put_note-in-Err-accept.ensures,
+          );
       told = rw (c.name-name-in-Err-accept.ensures, last) at c.put_refused-in-Err-accept.ensures;
     }
