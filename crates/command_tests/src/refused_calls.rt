@@ -3,10 +3,10 @@
 //! command writes.
 
 use dm_append_label::{FileId, LabelFault, Page, SealFault, open_label, seal, still_near};
-use dm_size::Size;
 use dm_encodation::{DecodeFault, Scheme, decode};
 use dm_finder_frame::Grid;
 use dm_pbm_io::{PbmFault, ShapeFault, grid_of, read_image};
+use dm_size::Size;
 use dm_symbol::{SymbolFault, correct_grid};
 use relay_symbol_commands::{ReadRefusal, SymbolRefusal};
 use std::alloc::Allocator;

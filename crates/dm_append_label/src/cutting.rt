@@ -6,8 +6,8 @@ ghost use Rattle.dm_append_label.specs.Labels.{AreEnds, HasNoEnds, IsCut, until_
 use crate::head::HEAD_WORDS;
 use crate::laws::parts_of_a_document;
 use arrayvec::ArrayVec;
-use dm_size::Size;
 use dm_encodation::{Scheme, fit};
+use dm_size::Size;
 use thiserror::Error;
 
 /// The most labels of one document (ISO/IEC 16022:2006, 5.6).

@@ -8,10 +8,10 @@ ghost use Rattle.dm_append_label.specs.declared.fault.SealFault.TheVariants.{Too
 use crate::fault::SealFault;
 use crate::head::{HEAD_WORDS, Head, words_of_head};
 use crate::page::Page;
-use dm_size::Size;
 use dm_encodation::{EncodeFault, Scheme, encode};
 use dm_finder_frame::Grid;
 use dm_placement::Layout;
+use dm_size::Size;
 use dm_symbol::draw_symbol;
 use std::alloc::Allocator;
 

@@ -14,10 +14,10 @@ ghost use Rattle.dm_event_world.specs.inner.Calls.{IsMadeUnder, ends_early, most
 use crate::actor::{LeftLabel, PrinterActor};
 use crate::call::{is_stopped_before, is_stopping, lacks_memory, most_labels, next_save};
 use dm_append_label::MOST_LABELS;
-use dm_size::Size;
 use dm_encodation::Scheme;
 use dm_event_history::{Reply, Stop};
 use dm_print_ledger::{GiveFault, Job, OpenRefused, PrintFault, Printer, Range, TakeFault, Ticket};
+use dm_size::Size;
 use dm_store::{MemStore, NextSave};
 use std::alloc::Allocator;
 use std::mem;

@@ -9,10 +9,10 @@ use crate::scanned::are_within;
 use crate::world::World;
 use crate::{desk_act, printer_act};
 use dm_append_label::FileId;
-use dm_size::Size;
 use dm_encodation::Scheme;
 use dm_event_history::{Event, Reply, Stop};
 use dm_print_ledger::Range;
+use dm_size::Size;
 use dm_symbol::still_near;
 use std::alloc::{AllocError, Allocator};
 

@@ -8,8 +8,8 @@ ghost use Rattle.dm_pbm_io.specs.inner.Streaming.{IsDrawnTo};
 
 use crate::fault::ShapeFault;
 use crate::image::Image;
-use dm_size::Size;
 use dm_finder_frame::Grid;
+use dm_size::Size;
 use std::alloc::{AllocError, Allocator};
 
 // Draws a row of a grid into the light pixels of its image.

@@ -219,7 +219,7 @@ MayLackMemory printer = IsTrue printer.saved.may_lack_memory
 abbrev pub Gives : PrinterView → ℕ → Range → Result TicketView GiveFault → PrinterView → Type 0
 Gives old receiver range result new =
     Carries giving.Failed giving.Memory giving.Save (MayLackMemory old) (give_verdict old.ledger receiver range)
-        old result new
+    old result new
     × IfOk result (λ ticket. ticket ≡ ticket_of old.ledger receiver range)
 
 -- ---- a ticket taken

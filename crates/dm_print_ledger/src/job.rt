@@ -5,10 +5,10 @@ ghost use Rattle.dm_append_label.specs.Labels.{Fits, PartsFit, parts_from};
 ghost use Rattle.dm_print_ledger.specs.Verdicts.{AreLabels, IsJobOf, IsLabelOf};
 
 use dm_append_label::{FileId, Page, SealFault, seal_with};
-use dm_size::Size;
 use dm_encodation::Scheme;
 use dm_finder_frame::Grid;
 use dm_placement::Layout;
+use dm_size::Size;
 use std::alloc::{AllocError, Allocator, Global};
 use std::marker::Model;
 

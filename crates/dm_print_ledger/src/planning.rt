@@ -5,8 +5,8 @@ ghost use Rattle.dm_print_ledger.specs.Verdicts.{HasLabels};
 
 use dm_append_label::cut;
 use dm_append_label::laws::parts_of_a_document;
-use dm_size::Size;
 use dm_encodation::Scheme;
+use dm_size::Size;
 
 /// How many labels of this size and encodation a document has, 2 to 16: as many as a printer prints of it, and none
 /// where a printer answers `TooLong`. No label is made, and no memory is taken.

@@ -4,8 +4,8 @@ use crate::fault::PrintFault;
 use crate::job::{Job, make_job};
 use crate::printer::Printer;
 use dm_append_label::{FileId, cut};
-use dm_size::Size;
 use dm_encodation::Scheme;
+use dm_size::Size;
 use dm_store::Store;
 use std::alloc::Allocator;
 

@@ -5,8 +5,8 @@ ghost use Rattle.relay_script.specs.Words.{AreBytesOf, AreFlipsOf, IsFlipOf, IsF
 
 use crate::spelled::{Spelled, cut, read_all};
 use dm_append_label::FileId;
-use dm_size::Size;
 use dm_event_history::{Bytes, Flips, Kept, Stop};
+use dm_size::Size;
 use hex::FromHexError;
 use std::alloc::{AllocError, Allocator};
 use thiserror::Error;

@@ -5,8 +5,8 @@ ghost use Rattle.relay_symbols.specs.Symbols.{DrawsLabel, ReadsPage};
 
 use crate::images::{grid_from, grid_image, put};
 use dm_append_label::{FileId, Page, open_label, seal};
-use dm_size::Size;
 use dm_encodation::Scheme;
+use dm_size::Size;
 use std::alloc::{Allocator, Global};
 
 // The page of a text: page m of n of the document of an identification, given by its number.

@@ -4,9 +4,9 @@ ghost use Rattle.std.specs.Prelude.{◌≡◌, ◌≢◌, ◌≤◌, ◌^◌, �
 ghost use Rattle.relay_symbols.specs.Symbols.{DrawsText, DrawsWords, ReadsText};
 
 use crate::images::{grid_from, grid_image, put};
-use dm_size::Size;
 use dm_encodation::{Scheme, decode, encode};
 use dm_placement::Layout;
+use dm_size::Size;
 use dm_symbol::{correct_grid, draw_symbol, draw_words};
 use std::alloc::{Allocator, Global};
 

@@ -5,9 +5,9 @@
 use super::{FIRST, FULL, THIRD, WHOLE};
 use dm_append_label::{FileId, Page, seal};
 use dm_assembly_desk::{Desk, ExportFault, Kind};
-use dm_size::Size;
 use dm_encodation::Scheme;
 use dm_finder_frame::Grid;
+use dm_size::Size;
 use dm_store::{FuseSet, Kept, MemSet, StoreSet};
 use std::alloc::Global;
 use std::process::Abort;

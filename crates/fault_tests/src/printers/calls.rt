@@ -2,9 +2,9 @@
 // each growth of memory is refused in turn. A call that was refused for lack of memory has changed nothing, and is done
 // when it is made again, by the same printer or by one that is opened on what is saved. After a save that failed the
 // printer is opened again, and goes on: no identification is given twice.
-use dm_size::Size;
 use dm_encodation::Scheme;
 use dm_print_ledger::{CreateFault, Printer, Range, Ticket};
+use dm_size::Size;
 use dm_store::{FuseStore, Kept, MemStore};
 use std::alloc::Global;
 use std::process::Abort;
