@@ -66,9 +66,10 @@ pub static EXPLANATIONS: [&str; 45] = [
     What to do: read the line `relay: PATH: WHY`. Look at the path, its rights\n  \
     and the disk; wait for the other program. After `ledger` look with `left`:\n  the ledger may be there.\n",
     "Save\n  From: all that save but `ledger`.\n  \
-    The save failed, or the lock file was removed. The ID or the range may be\n  \
-    used up, the page held, the document forgotten; nothing was printed or\n  given.\n  \
-    What to do: look at the disk and its rights, and give the command again.\n",
+    The save failed, also where the folder is missing, or the lock file was\n  \
+    removed. The ID or the range may be used up, the page held, the document\n  \
+    forgotten; nothing was printed or given.\n  \
+    What to do: look at the folder, the disk and its rights, and give the\n  command again.\n",
     "Write\n  From: all; `read` and `scan` say nothing.\n  \
     The output refused a write. What was saved stays saved: the ledger is made,\n  \
     the ID used, the range given or taken, the pages held, the document\n  forgotten.\n  \
