@@ -1,6 +1,6 @@
 //! The check words of one block: the remainder of its data words by the generator polynomial.
 
-ghost use Rattle.std.specs.Prelude.{◌≡◌, ◌<◌, ◌≤◌, ◌+◌, ℕ, List, length, ◌++◌, ◌∷◌};
+ghost use Rattle.std.specs.Prelude.{◌≡◌, ◌<◌, ◌≤◌, ◌+◌, ℕ, List, length, ◌++◌};
 ghost use Rattle.std.specs.List.{All};
 ghost use Rattle.dm_gf256.specs.Field.{IsBlockWord};
 ghost use Rattle.dm_check_blocks.specs.inner.Remainders.{IsGenerator, AddsWord};
@@ -30,9 +30,7 @@ fn fill_word_by_word(message: &[u8], checks: &mut [u8], generator: &[u8])
     requires roots { IsGenerator generator.now }
     ensures { IsBlockWord (length checks.old) (message.now ++ checks.new) }
 {
-    for check in checks.iter_mut() {
-        *check = 0;
-    }
+    checks.fill(0);
     for word in message {
         step(checks, generator, *word);
     }
@@ -56,21 +54,6 @@ fn fill_by_rows(message: &[u8], checks: &mut [u8])
     checks.copy_from_slice(&windows[0][count..count + checks.len()]);
 }
 
-// Fills in the check words of one block.
-pub(crate) fn fill(message: &[u8], checks: &mut [u8])
-    requires some { 1 ≤ length checks.old }
-    requires most { length checks.old ≤ MOST_CHECKS }
-    requires fits { length message.now + length checks.old ≤ 255 }
-    ensures { IsBlockWord (length checks.old) (message.now ++ checks.new) }
-{
-    if message.len() < FEWEST_BY_ROWS {
-        let row = generator_row(checks.len());
-        fill_word_by_word(message, checks, &row[..checks.len()]);
-    } else {
-        fill_by_rows(message, checks);
-    }
-}
-
 /// Fills in the check words of one block. There are 1 to 68 of them, and at most 255 words together with the
 /// message, the block's data words, of which the first is the coefficient of the highest power (ISO/IEC 16022:2006,
 /// Annex E).
@@ -82,5 +65,10 @@ pub fn checks_of(message: &[u8], checks: &mut [u8])
     ensures only { (others : List ℕ) → length others ≡ length checks.old → All (λ word. word < 256) others
         → IsBlockWord (length checks.old) (message.now ++ others) → others ≡ checks.new }
 {
-    fill(message, checks);
+    if message.len() < FEWEST_BY_ROWS {
+        let row = generator_row(checks.len());
+        fill_word_by_word(message, checks, &row[..checks.len()]);
+    } else {
+        fill_by_rows(message, checks);
+    }
 }

@@ -7,7 +7,7 @@ ghost use Rattle.dm_size.specs.Sizes.{data_words, all_words, blocks, block_data,
 ghost use Rattle.dm_check_blocks.specs.Blocks.{position, block_of, Completes};
 ghost use Rattle.dm_check_blocks.specs.inner.Remainders.{row_at, KeepsOtherWords, HoldsData, HoldsChecks};
 
-use crate::checks::fill;
+use crate::checks::checks_of;
 use crate::multiples::{Multiples, WINDOW_WORDS, Window};
 use dm_size::Size;
 use std::alloc::{AllocError, Allocator};
@@ -104,7 +104,7 @@ pub fn complete_blocks(size: Size, message: &[u8], words: &mut [u8])
     ensures bytes { All (λ word. word < 256) words.new }
 {
     if size.blocks() == 1 {
-        fill(message, &mut words[message.len()..]);
+        checks_of(message, &mut words[message.len()..]);
     } else {
         complete_in_turns(size, words);
     }

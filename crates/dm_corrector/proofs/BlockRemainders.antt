@@ -3,9 +3,8 @@ use Rattle.std.proofs.Common.{◌≡◌, ℕ, ◌+◌, ◌<◌, ◌≤◌, ◌�
 use Rattle.std.proofs.lemmas.List.{length-replicate, take-append-drop}
 use Rattle.std.proofs.lemmas.List.Elements.{All-get_or, All-from_get_or, recursion_from_All}
 use Rattle.std.specs.List.{All}
-use Rattle.std.specs.Int.Bits.{bit_xor}
 use Rattle.std.proofs.lemmas.Nat.{xor_comm}
-use Rattle.dm_gf256.specs.Field.{power, product, add_scaled, value, IsBlockWord}
+use Rattle.dm_gf256.specs.Field.{power, add_scaled, value, IsBlockWord}
 use Rattle.dm_gf256.proofs.Divide.{length-add_scaled, value-add_scaled, value-append, xor_solve}
 use Rattle.dm_gf256.proofs.OneBlockWord.{one_block_word}
 use Rattle.dm_gf256.proofs.Ring.{one-product, power_byte, product_byte}

@@ -1,6 +1,6 @@
 -- Roots among places: products that aren't zero, different powers of 2, and std's word for being in a list.
-use Rattle.std.proofs.Common.{List, [], arith, inl, inr, length, suc, sym, zero, ℕ, ⊎_elim, ◌<◌, ◌∙◌, ◌∷◌, ◌≡◌, ◌≢◌, ◌≤◌, ◌⊎◌}
-use Rattle.std.proofs.lemmas.Bool.{cases_eq, cases_lt}
+use Rattle.std.proofs.Common.{List, [], arith, inl, inr, length, suc, sym, zero, ℕ, ⊎_elim, ◌<◌, ◌∙◌, ◌∷◌, ◌≡◌, ◌≢◌, ◌⊎◌}
+use Rattle.std.proofs.lemmas.Bool.{cases_lt}
 use Rattle.std.specs.List.{Contains}
 use Rattle.dm_gf256.proofs.Ring.{one-product, power_two_distinct, product_comm, product_zero}
 use Rattle.dm_gf256.specs.Field.{power, product}

@@ -1,5 +1,5 @@
 -- Lists that aren't all zeros.
-use Rattle.std.proofs.Common.{◌≡◌, ℕ, refl, zero, suc, ◌<◌, arith, List, [], ◌∷◌, length, get_or}
+use Rattle.std.proofs.Common.{◌≡◌, ℕ, zero, suc, ◌<◌, arith, List, [], ◌∷◌, length, get_or}
 use Rattle.std.proofs.lemmas.List.{get_or_past}
 
 -- a zero before zeros

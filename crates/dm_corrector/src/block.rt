@@ -1,10 +1,10 @@
 //! Correction of one block.
 
-ghost use Rattle.std.specs.Prelude.{◌≡◌, ◌<◌, ◌≤◌, ◌-◌, ◌↔◌, ℕ, List, length, take, IfOk, IsTrue, OnOk, OnErr};
+ghost use Rattle.std.specs.Prelude.{◌≡◌, ◌<◌, ◌≤◌, ◌-◌, ◌↔◌, length, take, IsTrue};
 ghost use Rattle.std.specs.List.{All};
 ghost use Rattle.dm_gf256.specs.Field.{differ, IsBlockWord};
-ghost use Rattle.dm_corrector.specs.Symbols.{Corrects};
-ghost use Rattle.dm_corrector.specs.inner.Polynomials.{EndsCorrection, IsRemainder};
+ghost use Rattle.dm_corrector.specs.Symbols.{EndsCorrection};
+ghost use Rattle.dm_corrector.specs.inner.Polynomials.{IsRemainder};
 
 use crate::elements::is_zero;
 use crate::error_values::take_out;
@@ -145,12 +145,7 @@ pub fn correct_with<L: Locate>(
     requires most { checks ≤ MOST_CHECKS }
     requires longer { checks < length block.old }
     requires fits { length block.old ≤ MOST_WORDS }
-    ensures near { OnOk result (Corrects checks block.old block.new) }
-    ensures changed { IfOk result (λ k. k ≡ differ block.old block.new) }
-    ensures only { OnOk result ((w : List ℕ) → Corrects checks block.old w → w ≡ block.new) }
-
-    ensures none { OnErr result ((w : List ℕ) → Corrects checks block.old w → ⊥) }
-    ensures unchanged { OnErr result (block.new ≡ block.old) }
+    ensures { EndsCorrection checks block.old result block.new }
 {
     let data = block.len() - checks;
     let mut room = [0; MOST_WORDS];
@@ -170,12 +165,7 @@ pub fn correct(block: &mut [u8], checks: usize) -> Result<u8, Uncorrectable>
     requires most { checks ≤ MOST_CHECKS }
     requires longer { checks < length block.old }
     requires fits { length block.old ≤ MOST_WORDS }
-    ensures near { OnOk result (Corrects checks block.old block.new) }
-    ensures changed { IfOk result (λ k. k ≡ differ block.old block.new) }
-    ensures only { OnOk result ((w : List ℕ) → Corrects checks block.old w → w ≡ block.new) }
-
-    ensures none { OnErr result ((w : List ℕ) → Corrects checks block.old w → ⊥) }
-    ensures unchanged { OnErr result (block.new ≡ block.old) }
+    ensures { EndsCorrection checks block.old result block.new }
 {
     correct_with(&Massey, block, checks)
 }

@@ -1,11 +1,10 @@
 //! Correction of a whole symbol, block by block.
 
-ghost use Rattle.std.specs.Prelude.{◌≡◌, ◌≢◌, ◌<◌, ◌+◌, ◌*◌, ◌%◌, ℕ, List, length, slice_index, take, IfOk, IfErr, OnOk, OnErr};
+ghost use Rattle.std.specs.Prelude.{◌≡◌, ◌≢◌, ◌<◌, ◌+◌, ℕ, List, length, take, IfOk, IfErr, OnOk, OnErr};
 ghost use Rattle.dm_gf256.specs.Field.{differ, IsBlockWord};
-ghost use Rattle.dm_size.specs.Sizes.{all_words, blocks, block_checks, block_data};
+ghost use Rattle.dm_size.specs.Sizes.{all_words, blocks, block_checks, block_data, block_length};
 ghost use Rattle.dm_check_blocks.specs.Blocks.{block_of, IsSymbol};
 ghost use Rattle.dm_corrector.specs.Symbols.{Corrects, CorrectsSymbol, IsFirstFaulty};
-ghost use Rattle.dm_corrector.specs.inner.Polynomials.{AddsDifferences};
 
 use crate::block::{Uncorrectable, correct_completed};
 use crate::massey::Massey;
@@ -37,28 +36,36 @@ impl BlockFault {
     }
 }
 
-// Copies every `stride`-th word, from the one at `start` on, into a block.
-fn gather(words: &[u8], start: usize, stride: usize, block: &mut [u8])
-    requires { (k : ℕ) → k < length block.old → k * stride + start < length words.now }
-    ensures { (k : ℕ) → k < length block.old
-        → slice_index block.new k ≡ slice_index words.now (k * stride + start) }
+// Copies a block of a symbol.
+fn gather(size: Size, number: usize, words: &[u8], block: &mut [u8])
+    requires count { length words.now ≡ all_words size }
+    requires number { number < blocks size }
+    requires long { length block.old ≡ block_length size }
+    ensures { block.new ≡ block_of size number words.now }
 {
+    let blocks = size.blocks();
     for k in 0..block.len() {
-        block[k] = words[k * stride + start];
+        block[k] = words[k * blocks + number];
     }
 }
 
-// Copies a block back to every `stride`-th word, from the one at `start` on.
-fn scatter(words: &mut [u8], start: usize, stride: usize, block: &[u8])
-    requires inside { (k : ℕ) → k < length block.now → k * stride + start < length words.old }
-    requires once { start < stride }
-    ensures own { (k : ℕ) → k < length block.now
-        → slice_index words.new (k * stride + start) ≡ slice_index block.now k }
-    ensures others { (p : ℕ) → p % stride ≢ start → slice_index words.new p ≡ slice_index words.old p }
-    ensures changed { AddsDifferences stride start words.old words.new block.now }
+// Copies a block back to its places in the symbol.
+fn scatter(size: Size, number: usize, words: &mut [u8], block: &[u8])
+    requires count { length words.old ≡ all_words size }
+    requires number { number < blocks size }
+    requires long { length block.now ≡ block_length size }
+    ensures own { block.now ≡ block_of size number words.new }
+    ensures others { (b : ℕ) → b < blocks size → b ≢ number
+        → block_of size b words.new ≡ block_of size b words.old }
+
+    // Counting: if this block still equals that of `before`, to copy it back adds just its own differences.
+    ensures changed { (before : List ℕ) → length before ≡ length words.old
+        → block_of size number before ≡ block_of size number words.old
+        → differ before words.new ≡ differ before words.old + differ (block_of size number words.old) block.now }
 {
+    let blocks = size.blocks();
     for k in 0..block.len() {
-        words[k * stride + start] = block[k];
+        words[k * blocks + number] = block[k];
     }
 }
 
@@ -89,15 +96,14 @@ fn correct_block(
         → block_of size number before ≡ block_of size number words.old
         → differ before words.new ≡ differ before words.old + k) }
 {
-    let blocks = size.blocks();
     let mut copy = [0; MOST_WORDS];
     let block = &mut copy[..size.block_length()];
-    gather(words, number, blocks, block);
+    gather(size, number, words, block);
     let mut room = [0; MOST_WORDS];
     let word = &mut room[..size.block_length()];
-    gather(completed, number, blocks, word);
+    gather(size, number, completed, word);
     let changed = correct_completed(&Massey, block, word, size.block_checks())?;
-    scatter(words, number, blocks, block);
+    scatter(size, number, words, block);
     Ok(changed)
 }
 

@@ -68,7 +68,7 @@ past e f a b z h l =
     ap (λ n. product n b) (sym z)
 
 -- the entry at an exponent and k is the product with 2 to the power k
-pub power_product : (a e k : ℕ) → IsExponent a e → k < 256 → get_or POWERS (e + k) 0 ≡ product a (power 2 k)
+power_product : (a e k : ℕ) → IsExponent a e → k < 256 → get_or POWERS (e + k) 0 ≡ product a (power 2 k)
 power_product a e k h l =
     ⊎_elim (λ (p : (e < 255) × (power 2 e ≡ a)).
     let m : e < 255 = p.0 in

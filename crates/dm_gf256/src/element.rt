@@ -4,7 +4,7 @@ ghost use Rattle.std.specs.Prelude.{◌≡◌, ◌<◌};
 ghost use Rattle.std.specs.Int.Bits.{bit_xor};
 ghost use Rattle.dm_gf256.specs.Field.{product, power, value};
 
-use crate::powers::{inverse_of, power_of_two, product_of, product_with_power};
+use crate::powers::{POWERS, exponent_of};
 
 /// An element of the field: bit i is the coefficient of x^i.
 #[derive(Clone, Copy, Debug, Default, PartialEq, Eq, Hash)]
@@ -22,33 +22,26 @@ impl Gf {
         Gf(self.0 ^ other.0)
     }
 
-    /// The product modulo x^8 + x^5 + x^3 + x^2 + 1.
+    /// The product modulo x^8 + x^5 + x^3 + x^2 + 1: the sum of two exponents is that of the product.
     pub fn mul(self, other: Gf) -> Gf
         ensures { result.0 ≡ product self.0 other.0 }
     {
-        Gf(product_of(self.0, other.0))
+        Gf(POWERS[exponent_of(self.0) as usize + exponent_of(other.0) as usize])
     }
 
-    /// The product with 2 to the power k: `mul` by `alpha(k)`, with one look-up less.
-    pub fn mul_alpha(self, k: u8) -> Gf
-        ensures { result.0 ≡ product self.0 (power 2 k) }
-    {
-        Gf(product_with_power(self.0, k))
-    }
-
-    /// The inverse of an element that isn't zero.
+    /// The inverse of an element that isn't zero: 255 less its exponent is that of the inverse.
     pub fn inv(self) -> Gf
         requires { 0 < self.0 }
         ensures { product self.0 result.0 ≡ 1 }
     {
-        Gf(inverse_of(self.0))
+        Gf(POWERS[255 - exponent_of(self.0) as usize])
     }
 
     /// 2, the primitive element, to the power k.
     pub fn alpha(k: u8) -> Gf
         ensures { result.0 ≡ power 2 k }
     {
-        Gf(power_of_two(k))
+        Gf(POWERS[k as usize])
     }
 
     /// The value at x of a polynomial, its first element being the coefficient of the highest power.

@@ -1,13 +1,15 @@
-use Rattle.std.proofs.Common.{◌≡◌, ◌∷◌, sym, ◌∙◌, ap, arith, length, take}
+use Rattle.std.proofs.Common.{◌≡◌, ◌∷◌, sym, ◌∙◌, ap, arith, get_or, length, take}
 use Rattle.dm_gf256.specs.Field.{product, power, value}
 use Rattle.dm_gf256.proofs.Ring.{product-zero_l, power_byte}
+use Rattle.dm_check_blocks.proofs.DivisionSteps.{zeros_at}
 use Rattle.dm_check_blocks.proofs.Remainders.{zeros_value, next_word, whole}
 use Rattle.dm_check_blocks.proofs.checks.fill_word_by_word.Goals as goal
 
 pub loop-word-init : goal.loop-word-init
 unfolding value
-loop-word-init c = λ x h z. zeros_value c.loop-check.checks x (λ k l. c.loop-check.invariant k (omega arith)) ∙
-    sym (product-zero_l _)
+loop-word-init c = λ x h z.
+    zeros_value c.fill.new.self x (λ k l. ap (λ t. get_or t k 0) (c.fill.ensures.after (λ y e. e)) ∙
+    zeros_at (length c.args.checks.now) k) ∙ sym (product-zero_l _)
 
 pub loop-word-preserved : goal.loop-word-preserved
 loop-word-preserved c = λ x h z.

@@ -7,8 +7,8 @@ use Rattle.dm_corrector.specs.Symbols.{Corrects}
 use Rattle.dm_corrector.proofs.Corrected.{one_correction}
 use Rattle.dm_corrector.proofs.Differences.{differ_le}
 use Rattle.dm_corrector.proofs.WordsByPlace.{all_bytes}
-use Rattle.dm_check_blocks.proofs.Interleaving.{length-block_of}
-use Rattle.dm_corrector.proofs.SymbolBlocks.{same_data, same_symbol}
+use Rattle.dm_check_blocks.proofs.Interleaving.{length-block_of, same_from_blocks}
+use Rattle.dm_corrector.proofs.SymbolBlocks.{same_data}
 use Rattle.dm_corrector.proofs.symbol.correct_symbol.Goals as goal
 
 pub returns-in-Err-clause-first : goal.returns-in-Err-clause-first
@@ -31,7 +31,7 @@ returns-clause-only c = λ w r.
     let new = c.loop-block.corrected in
     let e : c.blocks-blocks.result ≡ blocks s = c.blocks-blocks.ensures.value in
     let longest : block_length s ≤ 243 = t.longest_block in
-    same_symbol s w new t r.count c.loop-block.invariant.count
+    same_from_blocks s w new r.count c.loop-block.invariant.count
     (λ b l.
     let n : length (block_of s b c.args.words.now) ≡ block_length s = length-block_of s b c.args.words.now in
     one_correction (block_checks s) (block_of s b c.args.words.now) (block_of s b new) (block_of s b w) (omega arith)
@@ -80,9 +80,8 @@ pub correct_block-requires-clause-data : goal.correct_block-requires-clause-data
 correct_block-requires-clause-data c =
     let s = c.args.size in
     let k = c.loop-block.block in
-    let t = c.blocks-blocks.ensures.sound in
     let inside : k < blocks s = (let e : c.blocks-blocks.result ≡ blocks s = c.blocks-blocks.ensures.value in
     let l : k < c.blocks-blocks.result = c.loop-block-test.true in omega arith) in
-    same_data s k c.complete_blocks.new.words c.args.words.now t inside
+    same_data s k c.complete_blocks.new.words c.args.words.now inside
     (λ p l. c.complete_blocks.ensures.message p l ∙ ap (λ v. get_or v p 0) c.copy_from_slice-2.ensures.after)
     ∙ sym (ap (take (block_data s)) (c.loop-block.invariant.rest k (omega arith) inside))
