@@ -5,7 +5,6 @@ use Rattle.dm_encodation.specs.declared.mode.Mode.{Mode}
 use Rattle.dm_encodation.specs.declared.mode.Mode.TheVariants.{Padded}
 use Rattle.dm_encodation.specs.declared.fault.DecodeFault.{DecodeFault}
 use Rattle.dm_encodation.specs.inner.Reading.{prepend, step, finish, reading}
-use Rattle.dm_encodation.specs.inner.StepViews.{Fails}
 use Rattle.dm_encodation.proofs.ReadsToReading.{reading_step, prepend-prepend, padded_read}
 
 -- a step that succeeds
@@ -40,10 +39,6 @@ pub fails_last : (m : Mode) (at : ℕ) (words front : List ℕ) (f : DecodeFault
     length words ≤ at → at ≤ length words → Err f ≡ finish m (length words + 1)
     → prepend front (reading m (at + 1) (drop at words)) ≡ total → total ≡ Err f
 fails_last m at words front f total le ge e so_far = sym so_far ∙ ap (prepend front) (at_last m at words le ge ∙ sym e)
-
--- a fault that is read is a fault of the collector
-pub fails_so : (f : DecodeFault) (total : Result (List ℕ) DecodeFault) → total ≡ Err f → Fails f total
-fails_so f total e = grind arith
 
 -- pads end what is read
 pub padded_so : (p : ℕ) (words front : List ℕ) (total : Result (List ℕ) DecodeFault)

@@ -1,11 +1,11 @@
 //! The text of a symbol's data words.
 
-ghost use Rattle.std.specs.Prelude.{◌≡◌, ◌≢◌, ◌+◌, ◌-◌, ◌*◌, ◌≤◌, ◌++◌, ℕ, List, length, drop, Ok, IfOk, IfErr, OnOk};
+ghost use Rattle.std.specs.Prelude.{◌≡◌, ◌≢◌, ◌+◌, ◌-◌, ◌*◌, ◌≤◌, ◌++◌, ℕ, List, length, drop, true, IfOk, IfErr, OnOk};
 ghost use Rattle.std.specs.Prelude.{IsErrOf};
 ghost use Rattle.dm_encodation.specs.Grammar.{ReadsOnly, StuckOnly};
 ghost use Rattle.dm_encodation.specs.inner.Counting.{ArePairs, digits_from};
 ghost use Rattle.dm_encodation.specs.inner.Reading.{reading};
-ghost use Rattle.dm_encodation.specs.inner.StepViews.{bytes_of, Checks, Fails};
+ghost use Rattle.dm_encodation.specs.inner.StepViews.{bytes_of, Collects};
 ghost use Rattle.dm_encodation.specs.declared.fault.DecodeFault.TheVariants.{Memory};
 ghost use Rattle.dm_encodation.specs.declared.mode.Mode.TheVariants.{Ascii};
 
@@ -39,93 +39,68 @@ fn write_digits(digits: &mut [u8], words: &[u8], from: usize, count: usize)
     }
 }
 
-// The digits of words of two digits each, with memory for `room` bytes asked for at first.
-fn digits_of_pairs<A: Allocator>(
+// Writes the digits of words of two digits each, with memory for as many bytes more as words follow them.
+fn write_first_digits<A: Allocator + Copy>(
     alloc: A,
+    out: &mut Vec<u8, A>,
     words: &[u8],
     from: usize,
     end: usize,
-    room: usize,
-) -> Result<Vec<u8, A>, AllocError>
+) -> Result<(), AllocError>
     requires after { from ≤ end }
     requires within { end ≤ length words.now }
     requires pairs { ArePairs words.now from end }
-    ensures { IfOk result (λ v. v.items ≡ digits_from words.now from (end - from)) }
+    ensures { OnOk result (out.new.items ≡ digits_from words.now from (end - from)) }
 {
-    let mut out = Vec::with_capacity(alloc, room)?;
     let count = end - from;
+    *out = Vec::with_capacity(alloc, 2 * count + (words.len() - end))?;
     out.resize(2 * count, 0)?;
     write_digits(&mut out[..], words, from, count);
-    Ok(out)
-}
-
-// Whether the words are a text; no memory is asked for. Gives the number of its bytes, by which
-// memory is then asked for once; no contract rests on that number.
-fn check(words: &[u8], from: usize) -> Result<usize, DecodeFault>
-    requires { from ≤ length words.now }
-    ensures { Checks result (reading Ascii (from + 1) (drop from words.now)) }
-{
-    let start = pairs_end(words, from);
-    let mut count = (start - from).saturating_mul(2);
-    let mut mode = Mode::Ascii;
-    for at in start..words.len() {
-        if let Mode::Padded = mode {
-            return Ok(count);
-        }
-        let (next, output) = step(mode, at + 1, words[at])?;
-        count = count.saturating_add(output.len());
-        mode = next;
-    }
-    let output = finish(mode, words.len() + 1)?;
-    Ok(count.saturating_add(output.len()))
-}
-
-// Writes the bytes that a word gives.
-#[inline(always)]
-fn push_output<A: Allocator>(out: &mut Vec<u8, A>, output: Decoded) -> Result<(), AllocError>
-    ensures { OnOk result (out.new.items ≡ out.old.items ++ bytes_of output) }
-{
-    match output {
-        Decoded::Nothing => {}
-        Decoded::One(a) => out.push(a)?,
-        Decoded::Two(a, b) => {
-            out.push(a)?;
-            out.push(b)?;
-        }
-        Decoded::Three(a, b, c) => {
-            out.push(a)?;
-            out.push(b)?;
-            out.push(c)?;
-        }
-    }
     Ok(())
 }
 
-// The bytes of the words, with memory for `count` of them asked for at first.
-fn collect<A: Allocator + Copy>(
+// Writes the bytes that a word gives, if all before them are written. Gives whether they are.
+#[inline(always)]
+fn push_output<A: Allocator>(out: &mut Vec<u8, A>, output: Decoded, is_whole: bool) -> bool
+    ensures { result ≡ true → (is_whole ≡ true) × (out.new.items ≡ out.old.items ++ bytes_of output) }
+{
+    if !is_whole {
+        return false;
+    }
+    match output {
+        Decoded::Nothing => true,
+        Decoded::One(a) => out.push(a).is_ok(),
+        Decoded::Two(a, b) => out.push(a).is_ok() && out.push(b).is_ok(),
+        Decoded::Three(a, b, c) => out.push(a).is_ok()
+            && out.push(b).is_ok()
+            && out.push(c).is_ok(),
+    }
+}
+
+// Writes the bytes of the words, and gives whether there was memory for all of them. Where it is refused, the words are
+// still looked through.
+fn read_words<A: Allocator + Copy>(
     alloc: A,
+    out: &mut Vec<u8, A>,
     words: &[u8],
     from: usize,
-    count: usize,
-) -> Result<Vec<u8, A>, DecodeFault>
+) -> Result<bool, DecodeFault>
     requires { from ≤ length words.now }
-    ensures given { IfOk result (λ v. reading Ascii (from + 1) (drop from words.now) ≡ Ok v.items) }
-    ensures fails { IfErr result (λ f. Fails f (reading Ascii (from + 1) (drop from words.now))) }
+    ensures { Collects result out.new.items (reading Ascii (from + 1) (drop from words.now)) }
 {
     let start = pairs_end(words, from);
-    let mut out = digits_of_pairs(alloc, words, from, start, count)?;
+    let mut is_whole = write_first_digits(alloc, out, words, from, start).is_ok();
     let mut mode = Mode::Ascii;
     for at in start..words.len() {
         if let Mode::Padded = mode {
-            return Ok(out);
+            return Ok(is_whole);
         }
         let (next, output) = step(mode, at + 1, words[at])?;
-        push_output(&mut out, output)?;
+        is_whole = push_output(out, output, is_whole);
         mode = next;
     }
     let output = finish(mode, words.len() + 1)?;
-    push_output(&mut out, output)?;
-    Ok(out)
+    Ok(push_output(out, output, is_whole))
 }
 
 /// The bytes that the data words from index `from` on read as (ISO/IEC 16022:2006, 5.2; how a run
@@ -134,7 +109,7 @@ fn collect<A: Allocator + Copy>(
 ///
 /// # Errors
 /// The first fault from the left. `Memory` comes only where the words have no fault, since all of
-/// them are looked through before any memory is asked for.
+/// them are looked through even if memory is refused.
 pub fn decode<A: Allocator + Copy>(
     alloc: A,
     words: &[u8],
@@ -147,6 +122,10 @@ pub fn decode<A: Allocator + Copy>(
     ensures memory { IsErrOf result Memory → (bytes : List ℕ)
         × ReadsOnly (from + 1) (drop from words.now) bytes }
 {
-    let count = check(words, from)?;
-    collect(alloc, words, from, count)
+    let mut out = Vec::new(alloc);
+    if read_words(alloc, &mut out, words, from)? {
+        Ok(out)
+    } else {
+        Err(DecodeFault::Memory)
+    }
 }

@@ -8,8 +8,8 @@
 //!
 //! Proved: `encode` writes exactly the words of the definition, and they read as the bytes that
 //! went in and as nothing else; `need`, `fit` and the refusal `TooLong` are exact; `decode` gives
-//! the one reading of the words, or the one fault at which they are stuck. `need` and `fit` take no
-//! memory, and `decode` looks through the whole text before it asks for any.
+//! the one reading of the words, or the one fault at which they are stuck, and `Memory` only where
+//! they have no fault. `need` and `fit` take no memory.
 //!
 //! The way down: `counter` counts the words of a text byte by byte (`counting` runs it), `encoding`
 //! writes the text by `ascii`, `run` (C40 and Text, by the values of `characters`) or `base256`, and

@@ -1,8 +1,8 @@
 //! Reading word by word.
 
-ghost use Rattle.std.specs.Prelude.{◌≡◌, ℕ, ◌+◌, ◌<◌, ◌≤◌, IfOk, Ok, length};
+ghost use Rattle.std.specs.Prelude.{◌≡◌, ℕ, ◌+◌, ◌<◌, ◌≤◌, IfOk, Ok};
 ghost use Rattle.dm_encodation.specs.inner.Reading;
-ghost use Rattle.dm_encodation.specs.inner.StepViews.{bytes_of, seen, seen_end, seen_unit, IsMode};
+ghost use Rattle.dm_encodation.specs.inner.StepViews.{seen, seen_end, seen_unit, IsMode};
 ghost use Rattle.dm_encodation.specs.declared.mode.Mode.TheVariants.{Length, LongLength};
 
 use crate::fault::DecodeFault;
@@ -17,20 +17,6 @@ pub(crate) enum Decoded {
     One(u8),
     Two(u8, u8),
     Three(u8, u8, u8),
-}
-
-impl Decoded {
-    /// The number of these bytes.
-    pub(crate) fn len(self) -> usize
-        ensures { result ≡ length (bytes_of self) }
-    {
-        match self {
-            Decoded::Nothing => 0,
-            Decoded::One(..) => 1,
-            Decoded::Two(..) => 2,
-            Decoded::Three(..) => 3,
-        }
-    }
 }
 
 // A word in ASCII.

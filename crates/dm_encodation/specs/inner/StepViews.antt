@@ -1,5 +1,5 @@
 -- The results of the reader's functions with their bytes as lists, as Reading.antt has them.
-use Rattle.std.specs.Prelude.{◌≡◌, ℕ, ◌<◌, ◌≤◌, List, [], ◌∷◌, Option, Some, None, Result, Ok, Err}
+use Rattle.std.specs.Prelude.{◌≡◌, ℕ, ◌<◌, ◌≤◌, Bool, true, List, [], ◌∷◌, Option, Some, None, Result, Ok, Err}
 use Rattle.dm_encodation.specs.declared.mode.Mode.{Mode}
 use Rattle.dm_encodation.specs.declared.mode.Mode.TheVariants.{Upper, Half, Length, LongLength, Bytes}
 use Rattle.dm_encodation.specs.declared.mode.Pending.{Pending}
@@ -8,7 +8,7 @@ use Rattle.dm_encodation.specs.declared.reader.Decoded.{Decoded}
 use Rattle.dm_encodation.specs.declared.reader.Decoded.TheVariants.{Nothing, One, Two, Three}
 use Rattle.dm_encodation.specs.declared.fault.DecodeFault.{DecodeFault}
 use Rattle.dm_encodation.specs.declared.mode.ValueFault.TheVariants.{Fnc1, Missing}
-use Rattle.dm_encodation.specs.declared.fault.DecodeFault.TheVariants.{Unsupported, Reserved, Memory}
+use Rattle.dm_encodation.specs.declared.fault.DecodeFault.TheVariants.{Unsupported, Reserved}
 use Rattle.dm_encodation.specs.inner.Reading.{Stepped, Valued}
 
 -- the bytes that one word gives
@@ -23,7 +23,7 @@ abbrev pub option_bytes : Option ℕ → List ℕ
 option_bytes None = []
 option_bytes (Some b) = b ∷ []
 
--- the result of a step, of the end of the words, of a value, of three values, and of a check
+-- the result of a step, of the end of the words, of a value, of three values, and of an end without bytes
 abbrev pub seen : Result (Mode × Decoded) DecodeFault → Stepped
 seen (Ok x) = Ok (x.0, bytes_of x.1)
 seen (Err f) = Err f
@@ -58,12 +58,7 @@ abbrev pub fault_of : ValueFault → ℕ → ℕ → DecodeFault
 fault_of Fnc1 p w = Unsupported p w
 fault_of Missing p w = Reserved p w
 
--- a check's result agrees with what is read
-abbrev pub Checks : Result ℕ DecodeFault → Result (List ℕ) DecodeFault → Type 0
-Checks (Ok x) read = (bytes : List ℕ) × (read ≡ Ok bytes)
-Checks (Err f) read = read ≡ Err f
-
--- a collector's fault is the one that is read, or lack of memory
-abbrev pub Fails : DecodeFault → Result (List ℕ) DecodeFault → Type 0
-Fails Memory read = Unit {0}
-Fails f read = read ≡ Err f
+-- the answer is the fault that is read, or whether all bytes that are read were written
+abbrev pub Collects : Result Bool DecodeFault → List ℕ → Result (List ℕ) DecodeFault → Type 0
+Collects (Ok is_whole) items read = (bytes : List ℕ) × (read ≡ Ok bytes) × (is_whole ≡ true → items ≡ bytes)
+Collects (Err f) items read = read ≡ Err f

@@ -1,34 +1,33 @@
-use Rattle.std.proofs.Common.{◌+◌, ◌<◌, ℕ, get_or, drop, arith}
+use Rattle.std.proofs.Common.{◌+◌, drop, arith}
 use Rattle.std.proofs.lemmas.List.{length-drop}
 use Rattle.dm_encodation.proofs.Lengths.{reads_short}
-use Rattle.std.proofs.lemmas.Result.{err_from_is_err_and, IfOk-weaker}
+use Rattle.std.proofs.lemmas.Result.{err_from_is_err_and}
 use Rattle.dm_encodation.proofs.Reread.{decided, decided_fault, bytes_from, never_memory}
 use Rattle.dm_encodation.proofs.decoding.decode.Goals as goal
 
-pub returns-in_err-count-clause-stuck : goal.returns-in_err-count-clause-stuck
-returns-in_err-count-clause-stuck g c = grind (arith, err_from_is_err_and, bytes_from, decided_fault)
+pub returns-in_err-read_words-clause-stuck : goal.returns-in_err-read_words-clause-stuck
+returns-in_err-read_words-clause-stuck g c = grind (arith, err_from_is_err_and, bytes_from, decided_fault)
 
-pub returns-in_err-count-clause-memory : goal.returns-in_err-count-clause-memory
-returns-in_err-count-clause-memory g c = grind (arith, err_from_is_err_and, bytes_from, never_memory)
+pub returns-in_err-read_words-clause-memory : goal.returns-in_err-read_words-clause-memory
+returns-in_err-read_words-clause-memory g c = grind (arith, err_from_is_err_and, bytes_from, never_memory)
 
-pub returns-clause-read : goal.returns-clause-read
-returns-clause-read g c = grind (arith, bytes_from, decided)
+pub returns-then-branch-clause-read : goal.returns-then-branch-clause-read
+returns-then-branch-clause-read g c =
+    let read = c.in_ok-read_words.ensures in
+    rw (read.2 c.if-branch.true) (decided (c.args.from + 1) (drop c.args.from c.args.words.now) read.0
+    (bytes_from c.args.from c.args.words.now (λ i. omega (arith, c.type_inv.words i))) read.1)
 
-pub returns-clause-stuck : goal.returns-clause-stuck
-returns-clause-stuck g c = grind arith
+pub returns-then-branch-clause-short : goal.returns-then-branch-clause-short
+returns-then-branch-clause-short g c =
+    let read = c.in_ok-read_words.ensures in
+    let short = reads_short (decided (c.args.from + 1) (drop c.args.from c.args.words.now) read.0
+    (bytes_from c.args.from c.args.words.now (λ i. omega (arith, c.type_inv.words i))) read.1).reads in
+    rw (read.2 c.if-branch.true) (omega (arith, length-drop c.args.from c.args.words.now))
 
-pub returns-clause-memory : goal.returns-clause-memory
-returns-clause-memory g c =
-    grind (
-      arith,
-      decided (c.args.from + 1) (drop c.args.from c.args.words.now) c.in_ok-count.ensures.0 (bytes_from
-          c.args.from c.args.words.now (λ i. omega (arith, c.type_inv.words i))) c.in_ok-count.ensures.1,
+pub returns-else-branch-clause-memory : goal.returns-else-branch-clause-memory
+returns-else-branch-clause-memory g c = λ _.
+    let read = c.in_ok-read_words.ensures in (
+      read.0,
+      decided (c.args.from + 1) (drop c.args.from c.args.words.now) read.0
+          (bytes_from c.args.from c.args.words.now (λ i. omega (arith, c.type_inv.words i))) read.1,
     )
-
-pub returns-clause-short : goal.returns-clause-short
-returns-clause-short g c =
-    let fits : (i : ℕ) → get_or (drop c.args.from c.args.words.now) i 0 < 256 = bytes_from c.args.from c.args.words.now
-    (λ i. omega (arith, c.type_inv.words i)) in
-    IfOk-weaker c.collect.result _ _
-    (λ v e. let short = reads_short (decided (c.args.from + 1) (drop c.args.from c.args.words.now) v.items fits e).reads
-    in omega (arith, length-drop c.args.from c.args.words.now)) c.collect.ensures.given
