@@ -2,10 +2,7 @@
 
 ghost use Rattle.std.specs.Prelude.{◌≡◌};
 ghost use Rattle.dm_pbm_io.specs.FaultNames.{pbm_fault_name, shape_fault_name};
-ghost use Rattle.dm_pbm_io.specs.declared.fault.HeaderFault.TheVariants as header_faults;
-ghost use Rattle.dm_pbm_io.specs.declared.fault.RasterFault.TheVariants as raster_faults;
 ghost use Rattle.dm_pbm_io.specs.declared.fault.ShapeFault.TheVariants as shape_faults;
-ghost use Rattle.dm_pbm_io.specs.inner.Streaming.{byte_fault, header_fault, raster_fault};
 
 use std::alloc::AllocError;
 use thiserror::Error;
@@ -81,77 +78,5 @@ impl From<AllocError> for ShapeFault {
 
     fn from(_: AllocError) -> Self {
         ShapeFault::Memory
-    }
-}
-
-/// Why no byte came where one was needed.
-#[derive(Clone, Copy)]
-pub(crate) enum ByteFault {
-    Cut,
-    Read,
-}
-
-/// Why a header was not read.
-#[derive(Clone, Copy)]
-pub(crate) enum HeaderFault {
-    Header,
-    Byte(ByteFault),
-}
-
-/// Why a raster was not read.
-#[derive(Clone, Copy)]
-pub(crate) enum RasterFault {
-    TooLarge,
-    Pixel,
-    Byte(ByteFault),
-}
-
-impl From<ByteFault> for HeaderFault {
-    ghost from_gives = { λ fault whole. whole ≡ header_faults.Byte fault };
-
-    fn from(fault: ByteFault) -> Self {
-        HeaderFault::Byte(fault)
-    }
-}
-
-impl From<ByteFault> for RasterFault {
-    ghost from_gives = { λ fault whole. whole ≡ raster_faults.Byte fault };
-
-    fn from(fault: ByteFault) -> Self {
-        RasterFault::Byte(fault)
-    }
-}
-
-impl From<ByteFault> for PbmFault {
-    ghost from_gives = { λ fault whole. whole ≡ byte_fault fault };
-
-    fn from(fault: ByteFault) -> Self {
-        match fault {
-            ByteFault::Cut => PbmFault::Cut,
-            ByteFault::Read => PbmFault::Read,
-        }
-    }
-}
-
-impl From<HeaderFault> for PbmFault {
-    ghost from_gives = { λ fault whole. whole ≡ header_fault fault };
-
-    fn from(fault: HeaderFault) -> Self {
-        match fault {
-            HeaderFault::Header => PbmFault::Header,
-            HeaderFault::Byte(fault) => PbmFault::from(fault),
-        }
-    }
-}
-
-impl From<RasterFault> for PbmFault {
-    ghost from_gives = { λ fault whole. whole ≡ raster_fault fault };
-
-    fn from(fault: RasterFault) -> Self {
-        match fault {
-            RasterFault::TooLarge => PbmFault::TooLarge,
-            RasterFault::Pixel => PbmFault::Pixel,
-            RasterFault::Byte(fault) => PbmFault::from(fault),
-        }
     }
 }

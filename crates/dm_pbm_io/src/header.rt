@@ -3,9 +3,9 @@
 ghost use Rattle.std.specs.Prelude.{◌≡◌, ◌≤◌, ℕ, min, IsTrue, IfSome, List, MatchResult};
 ghost use Rattle.std.specs.Char.{is_ascii_digit};
 ghost use Rattle.dm_pbm_io.specs.Header.{is_white, is_hidden, IsHeaderBody, StopsInHeader};
-ghost use Rattle.dm_pbm_io.specs.inner.Streaming.{next_state, with_digit, HasNumber, header_fault, Takes, TakesUntil};
+ghost use Rattle.dm_pbm_io.specs.inner.Streaming.{next_state, with_digit, HasNumber, Takes, TakesUntil};
 
-use crate::fault::HeaderFault;
+use crate::fault::PbmFault;
 use crate::limits::HEADER_BYTES;
 use crate::source::{ByteSource, next_byte};
 
@@ -81,13 +81,13 @@ impl HeaderState {
 }
 
 /// The width and the height that the header gives after its magic number. What is above 1,025 is 1,025.
-pub(crate) fn read_size<M, S: ByteSource<M>>(source: &mut S) -> Result<(u16, u16), HeaderFault>
+pub(crate) fn read_size<M, S: ByteSource<M>>(source: &mut S) -> Result<(u16, u16), PbmFault>
     ensures { MatchResult result
         (λ size. (body : List ℕ) × (width : ℕ) × (height : ℕ) × Takes (S.view source.old) (S.view source.new) body
         × IsHeaderBody body width height × (size.0 ≡ min width 1025) × (size.1 ≡ min height 1025))
         (λ fault. (body : List ℕ)
-        × TakesUntil (S.view source.old) (S.view source.new) body (header_fault fault)
-        × StopsInHeader body (S.view source.new).remaining (header_fault fault)) }
+        × TakesUntil (S.view source.old) (S.view source.new) body fault
+        × StopsInHeader body (S.view source.new).remaining fault) }
 {
     let mut state = HeaderState::AfterMagic;
     let mut inside = false;
@@ -96,7 +96,7 @@ pub(crate) fn read_size<M, S: ByteSource<M>>(source: &mut S) -> Result<(u16, u16
         inside = is_hidden(inside, byte);
         if !inside {
             state = match state.next(byte) {
-                None => return Err(HeaderFault::Header),
+                None => return Err(PbmFault::Header),
                 Some(next) => next,
             };
             if let HeaderState::Done(width, height) = state {
@@ -104,5 +104,5 @@ pub(crate) fn read_size<M, S: ByteSource<M>>(source: &mut S) -> Result<(u16, u16
             }
         }
     }
-    Err(HeaderFault::Header)
+    Err(PbmFault::Header)
 }

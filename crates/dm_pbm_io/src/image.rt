@@ -4,9 +4,9 @@ ghost use Rattle.std.specs.Prelude.{◌≡◌, ◌<◌, ◌≤◌, ◌*◌, ℕ,
 ghost use Rattle.std.specs.Io.KnownBytes.{Consumes, Keeps, IsAtEnd};
 ghost use Rattle.dm_pbm_io.specs.Header.{magic, StopsInRaster};
 ghost use Rattle.dm_pbm_io.specs.Image.{IsNoMagic, IsRaster, Spells, SpellsAfterMagic, Refuses, RefusesAfterMagic, picture};
-ghost use Rattle.dm_pbm_io.specs.inner.Streaming.{raster_fault, FindsEnd, Takes, TakesUntil};
+ghost use Rattle.dm_pbm_io.specs.inner.Streaming.{FindsEnd, Takes, TakesUntil};
 
-use crate::fault::{PbmFault, RasterFault};
+use crate::fault::PbmFault;
 use crate::header::read_size;
 use crate::limits::GREATEST_SIDE;
 use crate::packed::RowSource;
@@ -67,7 +67,7 @@ fn read_raster<M, S: RowSource<M>, A: Allocator>(
     plain: bool,
     width: u16,
     height: u16,
-) -> Result<(), RasterFault>
+) -> Result<(), PbmFault>
     requires empty { pixels.old.items ≡ [] }
     requires width { (0 < width) × (width ≤ GREATEST_SIDE) }
     requires height { (0 < height) × (height ≤ GREATEST_SIDE) }
@@ -75,15 +75,15 @@ fn read_raster<M, S: RowSource<M>, A: Allocator>(
     ensures { MatchResult result
         (λ _. (raster : List ℕ) × Takes (S.view source.old) (S.view source.new) raster
         × IsRaster plain raster width height pixels.new.items)
-        (λ fault. (raster : List ℕ) × TakesUntil (S.view source.old) (S.view source.new) raster (raster_fault fault)
-        × StopsInRaster plain raster width height (S.view source.new).remaining (raster_fault fault)) }
+        (λ fault. (raster : List ℕ) × TakesUntil (S.view source.old) (S.view source.new) raster fault
+        × StopsInRaster plain raster width height (S.view source.new).remaining fault) }
 {
     let (width, height) = (usize::from(width), usize::from(height));
     if plain {
         read_plain(source, pixels, width * height)
     } else {
         push_light(pixels, width * height);
-        Ok(read_packed(source, pixels.as_mut_slice(), width, height)?)
+        read_packed(source, pixels.as_mut_slice(), width, height)
     }
 }
 

@@ -4,16 +4,16 @@
 //! byte at a time, and no byte past it, so that several images may follow one another; [`Image::write`] writes one to
 //! an [`Output`](relay_streams::Output), row by row. [`read_image`] and [`write_image`] do the same over any reader and
 //! writer, and [`image_in`] reads the image that bytes in memory begin with. [`image_of`] draws a grid inside its quiet
-//! zone, [`grid_of`] takes the grid out of an image, and [`grid_moved`] makes the image that grid. Where this project
-//! is more lenient than Netpbm's manual pages, the definitions in `specs/` say so.
+//! zone, and [`grid_of`] takes the grid out of an image. Where this project is more lenient than Netpbm's manual pages,
+//! the definitions in `specs/` say so.
 //!
 //! Proved: the bytes taken spell the image that was read, and no other; each refusal comes exactly where the
 //! definitions put it; what is written is the definition's text, and reads back as the image; `Image::read` answers
 //! `Read`, and `Image::write` its fault, only where the input or the output has failed, and `image_in` never answers
 //! `Read`; of an image that was not written whole a part went out from its first byte on, and nothing if a write had
-//! failed before; the image of a grid is the definition's picture, and gives that grid back; `grid_of` and `grid_moved`
-//! refuse exactly the images that have not the shape of a symbol. Only tested: that `read_image` and `write_image`
-//! answer those faults only where the reader or the writer failed.
+//! failed before; the image of a grid is the definition's picture, and gives that grid back; `grid_of` refuses exactly
+//! the images that have not the shape of a symbol. Only tested: that `read_image` and `write_image` answer those faults
+//! only where the reader or the writer failed.
 #![tactic(auto)]
 
 mod fault;
@@ -32,5 +32,5 @@ pub use fault::{PbmFault, ShapeFault};
 pub use image::{Image, image_in, read_image};
 pub use limits::{GREATEST_SIDE, HEADER_BYTES, PLAIN_BYTES};
 pub use relay_streams::WriteFault;
-pub use symbol_image::{grid_moved, grid_of, image_of};
+pub use symbol_image::{grid_of, image_of};
 pub use write::write_image;

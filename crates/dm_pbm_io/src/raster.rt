@@ -2,9 +2,9 @@
 
 ghost use Rattle.std.specs.Prelude.{◌≡◌, ℕ, ◌+◌, ◌*◌, ◌<◌, ◌≤◌, List, [], ◌∷◌, ◌++◌, length, replicate, vec_len, vec_capacity, MatchResult, MatchOption, false};
 ghost use Rattle.dm_pbm_io.specs.Header.{digit_of, is_pixel_digit, IsPackedRaster, IsPlainRaster, StopsInPlain, StopsInPacked};
-ghost use Rattle.dm_pbm_io.specs.inner.Streaming.{byte_fault, raster_fault, Takes, TakesUntil};
+ghost use Rattle.dm_pbm_io.specs.inner.Streaming.{Takes, TakesUntil};
 
-use crate::fault::{ByteFault, RasterFault};
+use crate::fault::PbmFault;
 use crate::header::{is_hidden, is_white};
 use crate::limits::{GREATEST_SIDE, PLAIN_BYTES};
 use crate::packed::RowSource;
@@ -40,15 +40,15 @@ pub(crate) fn read_plain<M, S: ByteSource<M>, A: Allocator>(
     source: &mut S,
     pixels: &mut Vec<bool, A>,
     count: usize,
-) -> Result<(), RasterFault>
+) -> Result<(), PbmFault>
     requires empty { pixels.old.items ≡ [] }
     requires some { 0 < count }
     requires room { count ≤ vec_capacity pixels.old }
     ensures { MatchResult result
         (λ _. (raster : List ℕ) × Takes (S.view source.old) (S.view source.new) raster
         × IsPlainRaster raster count pixels.new.items)
-        (λ fault. (raster : List ℕ) × TakesUntil (S.view source.old) (S.view source.new) raster (raster_fault fault)
-        × StopsInPlain raster count (S.view source.new).remaining (raster_fault fault)) }
+        (λ fault. (raster : List ℕ) × TakesUntil (S.view source.old) (S.view source.new) raster fault
+        × StopsInPlain raster count (S.view source.new).remaining fault) }
 {
     let mut inside = false;
     for taken in 0..PLAIN_BYTES {
@@ -61,14 +61,14 @@ pub(crate) fn read_plain<M, S: ByteSource<M>, A: Allocator>(
             continue;
         }
         let Some(pixel) = pixel_of(byte) else {
-            return Err(RasterFault::Pixel);
+            return Err(PbmFault::Pixel);
         };
         push_pixel(pixels, pixel);
         if pixels.len() == count {
             return Ok(());
         }
     }
-    Err(RasterFault::TooLarge)
+    Err(PbmFault::TooLarge)
 }
 
 /// Adds light pixels, for which there is room.
@@ -89,15 +89,15 @@ pub(crate) fn read_packed<M, S: RowSource<M>>(
     pixels: &mut [bool],
     width: usize,
     height: usize,
-) -> Result<(), ByteFault>
+) -> Result<(), PbmFault>
     requires width { width ≤ GREATEST_SIDE }
     requires height { height ≤ GREATEST_SIDE }
     requires count { length pixels.old ≡ width * height }
     ensures { MatchResult result
         (λ _. (raster : List ℕ) × Takes (S.view source.old) (S.view source.new) raster
         × IsPackedRaster raster width height pixels.new)
-        (λ fault. (raster : List ℕ) × TakesUntil (S.view source.old) (S.view source.new) raster (byte_fault fault)
-        × StopsInPacked raster width height (S.view source.new).remaining (byte_fault fault)) }
+        (λ fault. (raster : List ℕ) × TakesUntil (S.view source.old) (S.view source.new) raster fault
+        × StopsInPacked raster width height (S.view source.new).remaining fault) }
 {
     for row in 0..height {
         source.draw_next(&mut pixels[row * width..row * width + width])?;

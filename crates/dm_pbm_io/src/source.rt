@@ -4,9 +4,9 @@ ghost use Rattle.std.specs.Prelude.{◌≡◌, ◌<◌, List, ℕ, [], ◌∷◌
 ghost use Rattle.std.specs.Io.KnownBytes.{Keeps};
 ghost use Rattle.relay_streams.specs.Streams.{InputView, TakesFewer};
 ghost use Rattle.dm_pbm_io.specs.Header.{HasNoByte};
-ghost use Rattle.dm_pbm_io.specs.inner.Streaming.{byte_fault, Takes, TakesFront, TakesNext, TakesUntil};
+ghost use Rattle.dm_pbm_io.specs.inner.Streaming.{Takes, TakesFront, TakesNext, TakesUntil};
 
-use crate::fault::ByteFault;
+use crate::fault::PbmFault;
 use relay_streams::{Input, ReadFault, fill_from, next_byte_of};
 use std::io::Read;
 
@@ -84,41 +84,41 @@ impl ByteSource<InMemory> for &[u8] {
 }
 
 /// The next byte, or `None` at the end.
-pub(crate) fn read_byte<M, S: ByteSource<M>>(source: &mut S) -> Result<Option<u8>, ByteFault>
+pub(crate) fn read_byte<M, S: ByteSource<M>>(source: &mut S) -> Result<Option<u8>, PbmFault>
     ensures { MatchResult result
         (TakesNext (S.view source.old) (S.view source.new))
-        (λ fault. (fault ≡ ByteFault.Read)
-        × TakesUntil (S.view source.old) (S.view source.new) [] (byte_fault fault)) }
+        (λ fault. (fault ≡ PbmFault.Read)
+        × TakesUntil (S.view source.old) (S.view source.new) [] fault) }
 {
     match source.next() {
         Ok(found) => Ok(found),
-        Err(_) => Err(ByteFault::Read),
+        Err(_) => Err(PbmFault::Read),
     }
 }
 
 /// The next byte, where the image needs one.
-pub(crate) fn next_byte<M, S: ByteSource<M>>(source: &mut S) -> Result<u8, ByteFault>
+pub(crate) fn next_byte<M, S: ByteSource<M>>(source: &mut S) -> Result<u8, PbmFault>
     ensures { MatchResult result
         (λ byte. Takes (S.view source.old) (S.view source.new) (byte ∷ []))
-        (λ fault. TakesUntil (S.view source.old) (S.view source.new) [] (byte_fault fault)
-        × HasNoByte (S.view source.new).remaining (byte_fault fault)) }
+        (λ fault. TakesUntil (S.view source.old) (S.view source.new) [] fault
+        × HasNoByte (S.view source.new).remaining fault) }
 {
     match read_byte(source)? {
         Some(byte) => Ok(byte),
-        None => Err(ByteFault::Cut),
+        None => Err(PbmFault::Cut),
     }
 }
 
 /// Fills a row with the next bytes. The image needs all of them.
-pub(crate) fn next_row<M, S: ByteSource<M>>(source: &mut S, row: &mut [u8]) -> Result<(), ByteFault>
+pub(crate) fn next_row<M, S: ByteSource<M>>(source: &mut S, row: &mut [u8]) -> Result<(), PbmFault>
     ensures { MatchResult result
         (λ _. Takes (S.view source.old) (S.view source.new) row.new)
-        (λ fault. (part : List ℕ) × TakesUntil (S.view source.old) (S.view source.new) part (byte_fault fault)
-        × (length part < length row.new) × HasNoByte (S.view source.new).remaining (byte_fault fault)) }
+        (λ fault. (part : List ℕ) × TakesUntil (S.view source.old) (S.view source.new) part fault
+        × (length part < length row.new) × HasNoByte (S.view source.new).remaining fault) }
 {
     match source.fill_buffer(row) {
-        Ok(count) if count < row.len() => Err(ByteFault::Cut),
+        Ok(count) if count < row.len() => Err(PbmFault::Cut),
         Ok(_) => Ok(()),
-        Err(ReadFault::Read) => Err(ByteFault::Read),
+        Err(ReadFault::Read) => Err(PbmFault::Read),
     }
 }

@@ -102,30 +102,3 @@ pub fn grid_of<A: Allocator + Copy, B: Allocator>(
     };
     Ok(Grid::from_modules(size, modules_of(alloc, image)?))
 }
-
-// The pixels inside the quiet zone, row by row, in the memory of all pixels. Each row moves to a place before its own.
-fn modules_moved<A: Allocator>(image: Image<A>) -> Vec<bool, A>
-    requires square { image.width ≡ image.height }
-    requires zone { 3 ≤ image.width }
-    requires count { length image.pixels.items ≡ image.width * image.height }
-    ensures { result.items ≡ modules_inside (picture image) }
-{
-    let width = image.width as usize;
-    let side = width - 2;
-    let mut pixels = image.pixels;
-    for row in 0..side {
-        let start = (row + 1) * width + 1;
-        pixels.copy_within(start..start + side, row * side);
-    }
-    pixels.truncate(side * side);
-    pixels
-}
-
-/// The grid that `grid_of` gives, in the memory of the image, or `None` where the image has not the shape of a symbol.
-pub fn grid_moved<A: Allocator>(image: Image<A>) -> Option<Grid<A>>
-    ensures { MatchOption result (HasShape (picture image) → ⊥)
-        (λ grid. HasShape (picture image) × IsGridInside (picture image) grid) }
-{
-    let size = size_in(&image)?;
-    Some(Grid::from_modules(size, modules_moved(image)))
-}

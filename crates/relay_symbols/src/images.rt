@@ -5,7 +5,7 @@ ghost use Rattle.dm_pbm_io.specs.Image.{p4};
 ghost use Rattle.relay_symbols.specs.Symbols.{ShowsGrid};
 
 use dm_finder_frame::Grid;
-use dm_pbm_io::{grid_moved, image_in, image_of, write_image};
+use dm_pbm_io::{grid_of, image_in, image_of, write_image};
 use std::alloc::{AllocError, Allocator};
 
 // More than the bytes of a header, with its widths of three digits.
@@ -36,7 +36,7 @@ pub(crate) fn grid_from<A: Allocator + Copy>(alloc: A, bytes: &[u8]) -> Option<G
     ensures { IfSome result (ShowsGrid bytes.now) }
 {
     match image_in(alloc, bytes) {
-        Ok(Some(image)) => grid_moved(image),
+        Ok(Some(image)) => grid_of(alloc, &image).ok(),
         Ok(None) | Err(_) => None,
     }
 }

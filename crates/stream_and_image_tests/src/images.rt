@@ -4,7 +4,7 @@ ghost use Rattle.std.specs.Prelude.{◌≡◌, ◌*◌, IfOk, length};
 
 use dm_finder_frame::Grid;
 use dm_pbm_io::{
-    Image, PbmFault, ShapeFault, grid_moved, grid_of, image_in, image_of, read_image, write_image,
+    Image, PbmFault, ShapeFault, grid_of, image_in, image_of, read_image, write_image,
 };
 use relay_streams::{Input, Output};
 use std::alloc::{AllocError, Global};
@@ -138,9 +138,6 @@ fn a_symbol_is_read_and_drawn(rt: HostRuntime) -> Result<(), Fail> {
         let image = read_image(alloc, &mut reader)?.expect(&rt, "an image");
         let grid = grid_of(alloc, &image)?;
         assert!(rt; image.plain == plain && is_symbol(&grid));
-        let image = image_in(alloc, text)?.expect(&rt, "an image");
-        let moved = grid_moved(image).expect(&rt, "a grid");
-        assert!(rt; is_symbol(&moved));
         let image = image_of(alloc, &grid, plain)?;
         let mut bytes = Vec::new(alloc);
         write_image(&mut bytes, &image)?;

@@ -1,44 +1,21 @@
--- How far the image of a grid is drawn.
+-- How far the image of a grid is drawn, which bytes a source gave and a sink took, and how far a header is read.
 use Rattle.std.specs.Prelude.{◌≡◌, ℕ, ◌+◌, ◌*◌, ◌<◌, Bool, false, nat_lt, List, length, get_or, if◌then◌else◌, ◌≢◌, true, [], ◌∷◌, Option, MatchOption, ◌-◌, ◌==◌, ◌≤◌, min, Some, None}
 use Rattle.std.specs.Io.KnownBytes.{Appends, Consumes, IsAtEnd, Keeps}
 use Rattle.std.specs.Char.{is_ascii_digit}
 use Rattle.dm_size.specs.Squares.{Square}
 use Rattle.dm_pbm_io.specs.Image.{pixel_with_quiet_zone}
 use Rattle.dm_pbm_io.specs.declared.fault.PbmFault.{PbmFault}
-use Rattle.dm_pbm_io.specs.declared.fault.ByteFault.{ByteFault}
-use Rattle.dm_pbm_io.specs.declared.fault.HeaderFault.{HeaderFault}
-use Rattle.dm_pbm_io.specs.declared.fault.RasterFault.{RasterFault}
 use Rattle.relay_streams.specs.Streams.{Fills, InputView, OutputView}
 use Rattle.dm_pbm_io.specs.declared.fault.PbmFault.TheVariants.{Read}
 use Rattle.dm_pbm_io.specs.Header.{is_white}
 use Rattle.dm_pbm_io.specs.declared.header.HeaderState.{HeaderState}
 use Rattle.dm_pbm_io.specs.declared.header.HeaderState.TheVariants.{AfterMagic, BeforeWidth, InWidth, BeforeHeight, InHeight, Done}
-use Rattle.dm_pbm_io.specs.declared.fault.PbmFault.TheVariants as pbm_faults
-use Rattle.dm_pbm_io.specs.declared.fault.ByteFault.TheVariants as byte_faults
-use Rattle.dm_pbm_io.specs.declared.fault.HeaderFault.TheVariants as header_faults
-use Rattle.dm_pbm_io.specs.declared.fault.RasterFault.TheVariants as raster_faults
 
 -- the pixels of the image of a square, w wide: that many rows of the square are drawn, and all other pixels are light
 pub record IsDrawnTo (s : Square) (w rows : ℕ) (pixels : List Bool) : Type 0 where
   pub count : length pixels ≡ w * w
   pub drawn : (r c : ℕ) → r < w → c < w
       → get_or pixels (r * w + c) false ≡ (if nat_lt r (rows + 1) then pixel_with_quiet_zone s r c else false)
-
--- of a byte
-abbrev pub byte_fault : ByteFault → PbmFault
-byte_fault byte_faults.Cut = pbm_faults.Cut
-byte_fault byte_faults.Read = pbm_faults.Read
-
--- of a header
-abbrev pub header_fault : HeaderFault → PbmFault
-header_fault header_faults.Header = pbm_faults.Header
-header_fault (header_faults.Byte fault) = byte_fault fault
-
--- of a raster
-abbrev pub raster_fault : RasterFault → PbmFault
-raster_fault raster_faults.TooLarge = pbm_faults.TooLarge
-raster_fault raster_faults.Pixel = pbm_faults.Pixel
-raster_fault (raster_faults.Byte fault) = byte_fault fault
 
 -- these bytes were taken, and no read has failed
 pub record Takes (old new : InputView) (bytes : List ℕ) : Type 0 where
