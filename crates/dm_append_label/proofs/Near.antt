@@ -9,12 +9,10 @@ use Rattle.dm_symbol.specs.Correction.{CorrectedView, CorrectsGrid, CorrectsNear
 use Rattle.dm_symbol.specs.declared.fault.SymbolFault.{SymbolFault}
 use Rattle.dm_symbol.specs.declared.fault.SymbolFault.TheVariants as symbol_faults
 use Rattle.dm_append_label.specs.Labels.{PageView, HeadView, IsHead, head_at, head_from, head_of, head_words, Carries}
-use Rattle.dm_append_label.specs.Opening.{page_fault, symbol_fault, IsPageOf, LabelOpens, Opens, OpensNear, ReadsPage}
+use Rattle.dm_append_label.specs.Opening.{symbol_fault, IsPageOf, LabelOpens, Opens, OpensNear, ReadsPage}
 use Rattle.dm_append_label.specs.declared.opening.TheConstants.{MOST_PAGE_BYTES}
-use Rattle.dm_append_label.specs.declared.fault.HeadFault.{HeadFault}
-use Rattle.dm_append_label.specs.declared.fault.HeadFault.TheVariants as head_faults
-use Rattle.dm_append_label.specs.declared.fault.PageFault.{PageFault}
-use Rattle.dm_append_label.specs.declared.fault.PageFault.TheVariants as page_faults
+use Rattle.dm_append_label.specs.declared.fault.LabelFault.{LabelFault}
+use Rattle.dm_append_label.specs.declared.fault.LabelFault.TheVariants.{Border, Block, Content, Memory}
 use Rattle.dm_append_label.specs.declared.opening.Opened.{Opened}
 
 -- ---- heads
@@ -46,7 +44,7 @@ spelled h i a b is ei ea eb =
     rw (le-ltb 254 a a_high) (
     rw (le-ltb b 1 b_low) (
     rw (le-ltb 254 b b_high) (
-    let ok : HeadView → Result HeadView HeadFault = λ q. Ok q in
+    let ok : HeadView → Result HeadView LabelFault = λ q. Ok q in
     ap ok (head_by_parts h _ _ _ m_is n_is id_is)))))))
 
 -- Words that begin with the words of a head have that head.
@@ -60,6 +58,29 @@ at_head h (w ∷ i ∷ a ∷ b ∷ rest) is e =
     let at : (k : ℕ) → get_or (w ∷ i ∷ a ∷ b ∷ []) k 0 ≡ get_or (head_words h) k 0 =
     λ k. ap (λ (x : List ℕ). get_or x k 0) e in
     rw (eq-eqb w 233 (at 0)) (spelled h i a b is (at 1) (at 2) (at 3))
+
+-- the faults of heads
+abbrev IsOfHead : Result HeadView LabelFault → Type 0
+IsOfHead (Err (Border wrong)) = ⊥
+IsOfHead (Err (Block block)) = ⊥
+IsOfHead (Err (Content fault)) = ⊥
+IsOfHead (Err Memory) = ⊥
+IsOfHead read = Unit {0}
+
+of_head : (words : List ℕ) → IsOfHead (head_at words)
+unfolding head_at
+of_head (w ∷ i ∷ a ∷ b ∷ rest) = grind arith
+of_head _ = tt
+
+-- what is read as a head is of a head
+refused_head : (words : List ℕ) (fault : LabelFault) → head_at words ≡ Err fault → IsOfHead (Err fault)
+refused_head words fault e = subst IsOfHead e (of_head words)
+
+-- the fault of a head is that of the page
+pub bad_head : (words : List ℕ) (fault : LabelFault) → head_at words ≡ Err fault → ReadsPage words (Err fault)
+bad_head words (Content fault) e = absurd (refused_head words (Content fault) e)
+bad_head words Memory e = absurd (refused_head words Memory e)
+bad_head words fault e = e
 
 -- ---- a label of the size of a grid near it
 
@@ -104,16 +125,12 @@ page_by_parts p q a b c d =
     ∙ ap (λ (x : List ℕ). let v : PageView = record { id = q.id; m = q.m; n = q.n; bytes = x } in v) d
 
 -- the head that was read, or any
-abbrev head_or : HeadView → Result HeadView HeadFault → HeadView
+abbrev head_or : HeadView → Result HeadView LabelFault → HeadView
 head_or h (Ok q) = q
 head_or h (Err fault) = h
 
-abbrev IsOkHead : Result HeadView HeadFault → Type 0
-IsOkHead (Ok q) = Unit {0}
-IsOkHead (Err fault) = ⊥
-
-not_both : (r : Result HeadView HeadFault) (h : HeadView) (fault : HeadFault) → r ≡ Ok h → r ≡ Err fault → ⊥
-not_both r h fault a b = subst IsOkHead (sym a ∙ b) tt
+not_both : (r : Result HeadView LabelFault) (h : HeadView) (fault : LabelFault) → r ≡ Ok h → r ≡ Err fault → ⊥
+not_both r h fault a b = grind arith
 
 -- Data words that are read as a page are read as no other.
 one_page : (words : List ℕ) (one other : PageView) → IsPageOf words one → IsPageOf words other → one ≡ other
@@ -139,36 +156,12 @@ data_there : (grid : GridView) (symbol : CorrectedView) → symbol.size ≡ grid
     data_of symbol.size symbol.words ≡ data_of grid.size symbol.words
 data_there grid symbol size = ap (λ (s : Size). data_of s symbol.words) size
 
--- ---- the three ends of an opening
-
--- No symbol is near the grid, or its finder patterns are bad, or memory was refused.
-pub no_symbol : {A : Type 0} (grid : GridView) (fault : SymbolFault) → CorrectsGrid grid (Err fault) →
-    GivesNear grid (Err fault)
-    → LabelOpens {A = A} grid (Err (symbol_fault fault))
-no_symbol {A} grid fault corrects give =
-    record {
-      opens = opens fault corrects;
-      near = λ label page carries near.
-          let near_words = gives grid label page (Err fault) give carries near in
-          nothing page near_words.0.words fault near_words.1;
-      short = tt;
-    }
-  where
-    opens : (f : SymbolFault) → CorrectsGrid grid (Err f) → Opens {A = A} grid (Err (symbol_fault f))
-    opens (symbol_faults.Border wrong) h = h
-    opens (symbol_faults.Block block) h = h
-    opens symbol_faults.Memory h = h
-
-    nothing : (page : PageView) (words : List ℕ) (f : SymbolFault) → CorrectsNear words (Err f) →
-        OpensNear {A = A} page (Err (symbol_fault f))
-    nothing page words (symbol_faults.Border wrong) h = tt
-    nothing page words (symbol_faults.Block block) h = h
-    nothing page words symbol_faults.Memory h = tt
+-- ---- how an opening ends
 
 -- The symbol has no page.
-pub no_page : {A : Type 0} (grid : GridView) (symbol : CorrectedView) (fault : PageFault) → IsCorrectedAs grid symbol →
+pub no_page : {A : Type 0} (grid : GridView) (symbol : CorrectedView) (fault : LabelFault) → IsCorrectedAs grid symbol →
     GivesNear grid (Ok symbol)
-    → ReadsPage (data_of symbol.size symbol.words) (Err fault) → LabelOpens {A = A} grid (Err (page_fault fault))
+    → ReadsPage (data_of symbol.size symbol.words) (Err fault) → LabelOpens {A = A} grid (Err fault)
 no_page {A} grid symbol fault is give reads = record {
   opens = opens fault (subst (λ (d : List ℕ). ReadsPage d (Err fault)) (data_there grid symbol is.same_size) reads);
   near = λ label page carries near.
@@ -177,28 +170,18 @@ no_page {A} grid symbol fault is give reads = record {
   short = tt;
 }
   where
-    opens : (f : PageFault) → ReadsPage (data_of grid.size symbol.words) (Err f) →
-        Opens {A = A} grid (Err (page_fault f))
-    opens (page_faults.Head head_faults.NotAppended) h = (symbol.words, is.read, h)
-    opens (page_faults.Head (head_faults.Sequence word)) h = (symbol.words, is.read, h)
-    opens (page_faults.Head head_faults.FileId) h = (symbol.words, is.read, h)
-    opens (page_faults.Content f) h = (symbol.words, is.read, h)
-    opens page_faults.Memory h = is.read.frame
+    opens : (f : LabelFault) → ReadsPage (data_of grid.size symbol.words) (Err f) → Opens {A = A} grid (Err f)
+    opens (Border wrong) h = absurd (refused_head _ _ h)
+    opens (Block block) h = absurd (refused_head _ _ h)
+    opens Memory h = is.read.frame
+    opens f h = (symbol.words, is.read, h)
 
-    headless : (words : List ℕ) (page : PageView) (f : HeadFault) → IsPageOf words page → head_at words ≡ Err f → ⊥
-    headless words page f p h = not_both (head_at words) (head_of page) f p.head h
-
-    nothing : (page : PageView) (f : PageFault) → IsPageOf (data_of symbol.size symbol.words) page →
-        ReadsPage (data_of symbol.size symbol.words) (Err f)
-        → OpensNear {A = A} page (Err (page_fault f))
-    nothing page (page_faults.Head head_faults.NotAppended) p h =
-        headless (data_of symbol.size symbol.words) page head_faults.NotAppended p h
-    nothing page (page_faults.Head (head_faults.Sequence word)) p h = headless (data_of symbol.size symbol.words) page
-        (head_faults.Sequence word) p h
-    nothing page (page_faults.Head head_faults.FileId) p h =
-        headless (data_of symbol.size symbol.words) page head_faults.FileId p h
-    nothing page (page_faults.Content f) p h = let stuck = h.stuck in stuck.unread page.bytes p.reads.reads
-    nothing page page_faults.Memory p h = tt
+    nothing : (page : PageView) (f : LabelFault) → IsPageOf (data_of symbol.size symbol.words) page →
+        ReadsPage (data_of symbol.size symbol.words) (Err f) → OpensNear {A = A} page (Err f)
+    nothing page (Border wrong) p h = tt
+    nothing page (Content f) p h = let stuck = h.stuck in stuck.unread page.bytes p.reads.reads
+    nothing page Memory p h = tt
+    nothing page f p h = not_both (head_at (data_of symbol.size symbol.words)) (head_of page) f p.head h
 
 -- The symbol has a page.
 pub one_page_opens : {A : Type 0} (grid : GridView) (symbol : CorrectedView) (opened : Opened A) →

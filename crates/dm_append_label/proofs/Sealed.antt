@@ -8,14 +8,6 @@ use Rattle.dm_symbol.specs.Correction.{DrawsSymbol, data_of, grid_of_words}
 use Rattle.dm_append_label.specs.Labels.{PageView, HeadView, head_of, Carries, Seals}
 use Rattle.dm_append_label.specs.inner.ReadHeads.{IsDataOf}
 
--- the head of a page, by its parts
-pub same_head : (page : PageView) (m n id : ℕ) → m ≡ page.m → n ≡ page.n → id ≡ page.id
-    → let h : HeadView = record { m = m; n = n; id = id } in h ≡ head_of page
-same_head page m n id a b c =
-    ap (λ (x : ℕ). let h : HeadView = record { m = x; n = n; id = id } in h) a
-    ∙ ap (λ (x : ℕ). let h : HeadView = record { m = page.m; n = x; id = id } in h) b
-    ∙ ap (λ (x : ℕ). let h : HeadView = record { m = page.m; n = page.n; id = x } in h) c
-
 -- The grid drawn of a page's data words is the page's label.
 pub sealed : (size : Size) (scheme : Scheme) (page : PageView) (words : List ℕ) (grid : GridView) →
     IsDataOf size scheme page words

@@ -1,7 +1,7 @@
 -- Pages, and the labels that carry them: file identifications and heads (ISO/IEC 16022:2006, 5.6), and parts.
 use Rattle.std.specs.Prelude.{ℕ, ◌+◌, ◌/◌, ◌%◌, ◌≤◌, List, [], ◌∷◌, ◌-◌, ◌*◌, ◌<◌, Bool, Result, Ok, Err, ◌||◌, nat_lt, ◌==◌, if◌then◌else◌, ◌≡◌, ◌⊎◌, take, drop, length, slice_range}
 use Rattle.std.specs.List.{concat}
-use Rattle.dm_append_label.specs.declared.fault.HeadFault.{HeadFault}
+use Rattle.dm_append_label.specs.declared.fault.LabelFault.{LabelFault}
 use Rattle.dm_size.specs.declared.size.Size.{Size}
 use Rattle.dm_size.specs.Sizes.{data_words}
 use Rattle.dm_check_blocks.specs.Blocks.{IsSymbol}
@@ -10,7 +10,7 @@ use Rattle.dm_encodation.specs.Written.{filled, need_of, IsGreatestPrefix}
 use Rattle.dm_encodation.specs.Grammar.{ReadsOnly}
 use Rattle.dm_finder_frame.specs.Frame.{GridView}
 use Rattle.dm_symbol.specs.Correction.{DrawsSymbol, data_of, grid_of_words}
-use Rattle.dm_append_label.specs.declared.fault.HeadFault.TheVariants as head_faults
+use Rattle.dm_append_label.specs.declared.fault.LabelFault.TheVariants as faults
 
 -- the two words of an identification number
 abbrev pub id_words : ℕ → List ℕ
@@ -58,18 +58,18 @@ is_no_id_word word = nat_lt word 1 || nat_lt 254 word
 
 -- The head that a sequence indicator and two words spell, or the first fault: an indicator of more than 16 labels or of
 -- a label after the last, and words that no identification has.
-abbrev pub head_from : ℕ → ℕ → ℕ → Result HeadView HeadFault
+abbrev pub head_from : ℕ → ℕ → ℕ → Result HeadView LabelFault
 head_from indicator a b =
     let m = indicator / 16 + 1 in
     let n = 17 - indicator % 16 in
-    if nat_lt 16 n || nat_lt n m then Err (head_faults.Sequence indicator) else
-    if is_no_id_word a || is_no_id_word b then Err head_faults.FileId else
+    if nat_lt 16 n || nat_lt n m then Err (faults.Sequence indicator) else
+    if is_no_id_word a || is_no_id_word b then Err faults.FileId else
     Ok (record { m = m; n = n; id = (a - 1) * 254 + (b - 1) })
 
 -- the head that data words begin with, or its first fault
-unfoldable pub head_at : List ℕ → Result HeadView HeadFault
-head_at (word ∷ indicator ∷ a ∷ b ∷ rest) = if word == 233 then head_from indicator a b else Err head_faults.NotAppended
-head_at _ = Err head_faults.NotAppended
+unfoldable pub head_at : List ℕ → Result HeadView LabelFault
+head_at (word ∷ indicator ∷ a ∷ b ∷ rest) = if word == 233 then head_from indicator a b else Err faults.NotAppended
+head_at _ = Err faults.NotAppended
 
 -- The grid carries the page: it is that of a symbol whose data words are the page's head and then words that read as
 -- its bytes, and as no others.

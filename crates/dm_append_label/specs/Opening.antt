@@ -9,16 +9,11 @@ use Rattle.dm_finder_frame.specs.Frame.{wrong_frame_modules, GridView, HasGoodFr
 use Rattle.dm_symbol.specs.Correction.{HasBadBlock, IsReadAs, IsNear, data_of, words_of_grid}
 use Rattle.dm_append_label.specs.Labels.{PageView, HeadView, head_of, head_at, Carries}
 use Rattle.dm_append_label.specs.declared.opening.TheConstants.{MOST_PAGE_BYTES}
-use Rattle.dm_append_label.specs.declared.fault.HeadFault.{HeadFault}
-use Rattle.dm_append_label.specs.declared.fault.PageFault.{PageFault}
 use Rattle.dm_append_label.specs.declared.fault.LabelFault.{LabelFault}
 use Rattle.dm_append_label.specs.declared.opening.Opened.{Opened}
 use Rattle.dm_symbol.specs.declared.fault.SymbolFault.{SymbolFault}
 use Rattle.dm_encodation.specs.Faults.{decode_fault_name}
 use Rattle.dm_append_label.specs.declared.fault.LabelFault.TheVariants.{Border, Block, NotAppended, Sequence, FileId, Content, Memory}
-use Rattle.dm_append_label.specs.declared.fault.HeadFault.TheVariants as head_faults
-use Rattle.dm_append_label.specs.declared.fault.PageFault.TheVariants as page_faults
-use Rattle.dm_append_label.specs.declared.fault.LabelFault.TheVariants as faults
 use Rattle.dm_symbol.specs.declared.fault.SymbolFault.TheVariants as symbol_faults
 
 -- ---- data words
@@ -35,13 +30,14 @@ pub record HasTextFault (words : List ℕ) (fault : DecodeFault) : Type 0 where
   pub stuck : StuckOnly 5 (drop 4 words) fault
 
 -- what data words are read as: the page of a label, or the first fault that applies
-abbrev pub ReadsPage : List ℕ → Result PageView PageFault → Type 0
+abbrev pub ReadsPage : List ℕ → Result PageView LabelFault → Type 0
 ReadsPage words (Ok page) = IsPageOf words page
-ReadsPage words (Err (page_faults.Head fault)) = head_at words ≡ Err fault
-ReadsPage words (Err (page_faults.Content fault)) = HasTextFault words fault
+ReadsPage words (Err (Content fault)) = HasTextFault words fault
 -- memory is asked for once all else is found right
-ReadsPage words (Err page_faults.Memory) =
+ReadsPage words (Err Memory) =
     (head : HeadView) × (head_at words ≡ Ok head) × (bytes : List ℕ) × ReadsOnly 5 (drop 4 words) bytes
+-- of the other faults a head has but three
+ReadsPage words (Err fault) = head_at words ≡ Err fault
 
 -- ---- grids
 
@@ -54,7 +50,7 @@ pub record OpensAs (grid : GridView) (page : PageView) (corrected wrong : ℕ) :
   pub wrong_is : wrong ≡ wrong_frame_modules grid
 
 -- the grid is read as words whose head has this fault
-abbrev pub HasBadHead : GridView → HeadFault → Type 0
+abbrev pub HasBadHead : GridView → LabelFault → Type 0
 HasBadHead grid fault = (words : List ℕ) × IsReadAs grid words × (head_at (data_of grid.size words) ≡ Err fault)
 
 -- the grid is read as words whose text has this fault
@@ -63,24 +59,18 @@ HasBadText grid fault = (words : List ℕ) × IsReadAs grid words × HasTextFaul
 
 abbrev pub Opens : {A : Type 0} → GridView → Result (Opened A) LabelFault → Type 0
 Opens grid (Ok opened) = OpensAs grid opened.page opened.corrected opened.wrong
-Opens grid (Err (faults.Border wrong)) = HasBadFrame grid wrong
-Opens grid (Err (faults.Block block)) = HasBadBlock grid block
-Opens grid (Err faults.NotAppended) = HasBadHead grid head_faults.NotAppended
-Opens grid (Err (faults.Sequence word)) = HasBadHead grid (head_faults.Sequence word)
-Opens grid (Err faults.FileId) = HasBadHead grid head_faults.FileId
-Opens grid (Err (faults.Content fault)) = HasBadText grid fault
-Opens grid (Err faults.Memory) = HasGoodFrame grid
+Opens grid (Err (Border wrong)) = HasBadFrame grid wrong
+Opens grid (Err (Block block)) = HasBadBlock grid block
+Opens grid (Err (Content fault)) = HasBadText grid fault
+Opens grid (Err Memory) = HasGoodFrame grid
+Opens grid (Err fault) = HasBadHead grid fault
 
 -- A grid near the label of a page opens as that page, or it is refused for its finder patterns or for lack of memory.
 abbrev pub OpensNear : {A : Type 0} → PageView → Result (Opened A) LabelFault → Type 0
 OpensNear page (Ok opened) = opened.page ≡ page
-OpensNear page (Err (faults.Border wrong)) = Unit {0}
-OpensNear page (Err (faults.Block block)) = ⊥
-OpensNear page (Err faults.NotAppended) = ⊥
-OpensNear page (Err (faults.Sequence word)) = ⊥
-OpensNear page (Err faults.FileId) = ⊥
-OpensNear page (Err (faults.Content fault)) = ⊥
-OpensNear page (Err faults.Memory) = Unit {0}
+OpensNear page (Err (Border wrong)) = Unit {0}
+OpensNear page (Err Memory) = Unit {0}
+OpensNear page (Err fault) = ⊥
 
 -- All that is known of what a grid is opened as: exactly what it is, that a grid near a label is that label's page, and
 -- that no page has more bytes than the greatest symbol holds.
@@ -89,21 +79,11 @@ pub record LabelOpens {A : Type 0} (grid : GridView) (result : Result (Opened A)
   pub near : (label : GridView) (page : PageView) → Carries page label → IsNear grid label → OpensNear page result
   pub short : IfOk result (λ opened. length opened.page.bytes ≤ MOST_PAGE_BYTES)
 
--- which fault of a label a fault of its symbol or of its page is
+-- which fault of a label a fault of its symbol is
 abbrev pub symbol_fault : SymbolFault → LabelFault
-symbol_fault (symbol_faults.Border wrong) = faults.Border wrong
-symbol_fault (symbol_faults.Block block) = faults.Block block
-symbol_fault symbol_faults.Memory = faults.Memory
-
-abbrev pub head_fault : HeadFault → LabelFault
-head_fault head_faults.NotAppended = faults.NotAppended
-head_fault (head_faults.Sequence word) = faults.Sequence word
-head_fault head_faults.FileId = faults.FileId
-
-abbrev pub page_fault : PageFault → LabelFault
-page_fault (page_faults.Head fault) = head_fault fault
-page_fault (page_faults.Content fault) = faults.Content fault
-page_fault page_faults.Memory = faults.Memory
+symbol_fault (symbol_faults.Border wrong) = Border wrong
+symbol_fault (symbol_faults.Block block) = Block block
+symbol_fault symbol_faults.Memory = Memory
 
 -- the names of the faults of labels, as they are printed: each is that of its innermost fault
 abbrev pub label_fault_name : LabelFault → List ℕ

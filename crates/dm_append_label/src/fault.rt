@@ -1,8 +1,7 @@
 //! Why a label isn't made or opened.
 
 ghost use Rattle.std.specs.Prelude.{◌≡◌};
-ghost use Rattle.dm_append_label.specs.Opening.{page_fault, symbol_fault};
-ghost use Rattle.dm_append_label.specs.declared.fault.PageFault.TheVariants as page_faults;
+ghost use Rattle.dm_append_label.specs.Opening.{symbol_fault};
 ghost use Rattle.dm_append_label.specs.declared.fault.SealFault.TheVariants as seal_faults;
 
 use dm_encodation::DecodeFault;
@@ -17,34 +16,6 @@ pub enum SealFault {
     #[error("the page does not fit a label of this size")]
     TooLong,
     /// The allocator refused its memory.
-    #[error("out of memory")]
-    Memory,
-}
-
-/// Why data words do not begin with the head of a label: the first of these, in this order, that applies.
-#[derive(Clone, Copy, Debug, PartialEq, Eq, Error)]
-pub enum HeadFault {
-    /// There is no head: the first word is not that of Structured Append.
-    #[error("the symbol is not a label")]
-    NotAppended,
-    /// The sequence indicator is that of no label 1 to n of 2 to 16.
-    #[error("the sequence indicator {word} is invalid")]
-    Sequence { word: u8 },
-    /// One of the identification's words is 0 or 255.
-    #[error("the file identification is invalid")]
-    FileId,
-}
-
-/// Why data words are not those of a page: the first of these, in this order, that applies.
-#[derive(Clone, Copy, Debug, PartialEq, Eq, Error)]
-pub enum PageFault {
-    /// The head has this fault.
-    #[error("{0}")]
-    Head(HeadFault),
-    /// The text after the head has this fault, which is never `Memory`.
-    #[error("{0}")]
-    Content(DecodeFault),
-    /// Memory for the bytes was refused. It is asked for after all else.
     #[error("out of memory")]
     Memory,
 }
@@ -102,14 +73,6 @@ impl From<AllocError> for SealFault {
     }
 }
 
-impl From<HeadFault> for PageFault {
-    ghost from_gives = { λ given fault. fault ≡ page_faults.Head given };
-
-    fn from(fault: HeadFault) -> Self {
-        PageFault::Head(fault)
-    }
-}
-
 impl From<SymbolFault> for LabelFault {
     ghost from_gives = { λ given fault. fault ≡ symbol_fault given };
 
@@ -118,20 +81,6 @@ impl From<SymbolFault> for LabelFault {
             SymbolFault::Border { wrong } => LabelFault::Border { wrong },
             SymbolFault::Block { block } => LabelFault::Block { block },
             SymbolFault::Memory => LabelFault::Memory,
-        }
-    }
-}
-
-impl From<PageFault> for LabelFault {
-    ghost from_gives = { λ given fault. fault ≡ page_fault given };
-
-    fn from(fault: PageFault) -> Self {
-        match fault {
-            PageFault::Head(HeadFault::NotAppended) => LabelFault::NotAppended,
-            PageFault::Head(HeadFault::Sequence { word }) => LabelFault::Sequence { word },
-            PageFault::Head(HeadFault::FileId) => LabelFault::FileId,
-            PageFault::Content(fault) => LabelFault::Content(fault),
-            PageFault::Memory => LabelFault::Memory,
         }
     }
 }

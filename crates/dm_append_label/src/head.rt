@@ -4,7 +4,7 @@ ghost use Rattle.std.specs.Prelude.{◌≡◌, ◌≤◌, ◌<◌, length, IfOk}
 ghost use Rattle.dm_append_label.specs.Labels.{IsHead, head_at, head_from, head_words};
 ghost use Rattle.dm_append_label.specs.inner.ReadHeads.{ReadsHead, view_of};
 
-use crate::fault::HeadFault;
+use crate::fault::LabelFault;
 use crate::file_id::FileId;
 
 /// The words of a head.
@@ -35,27 +35,27 @@ pub(crate) fn words_of_head(head: Head) -> [u8; HEAD_WORDS]
 }
 
 // The head that a sequence indicator and the words of an identification spell.
-fn head_of_words(indicator: u8, first: u8, second: u8) -> Result<Head, HeadFault>
+fn head_of_words(indicator: u8, first: u8, second: u8) -> Result<Head, LabelFault>
     ensures { ReadsHead (head_from indicator first second) result }
 {
     let (m, n) = (indicator / 16 + 1, 17 - indicator % 16);
     if n > 16 || m > n {
-        return Err(HeadFault::Sequence { word: indicator });
+        return Err(LabelFault::Sequence { word: indicator });
     }
     let Some(id) = FileId::of_words(first, second) else {
-        return Err(HeadFault::FileId);
+        return Err(LabelFault::FileId);
     };
     Ok(Head { m, n, id })
 }
 
 /// The head that data words begin with, or its first fault.
 #[tactic(auto, unfolding(crate::specs::Labels::head_at))]
-pub(crate) fn read_head(words: &[u8]) -> Result<Head, HeadFault>
+pub(crate) fn read_head(words: &[u8]) -> Result<Head, LabelFault>
     ensures head { ReadsHead (head_at words.now) result }
     ensures long { IfOk result (λ _. 4 ≤ length words.now) }
 {
     match words {
         [APPENDED, indicator, first, second, ..] => head_of_words(*indicator, *first, *second),
-        _ => Err(HeadFault::NotAppended),
+        _ => Err(LabelFault::NotAppended),
     }
 }

@@ -21,7 +21,7 @@ mod sealing;
 
 pub use cutting::{MOST_LABELS, TooLong, cut};
 pub use dm_symbol::still_near;
-pub use fault::{HeadFault, LabelFault, PageFault, SealFault};
+pub use fault::{LabelFault, SealFault};
 pub use file_id::FileId;
 pub use opening::{MOST_PAGE_BYTES, Opened, open_label, open_label_with, page_of};
 pub use page::Page;

@@ -4,7 +4,7 @@ ghost use Rattle.std.specs.Prelude.{◌≡◌, ◌≤◌, length, IfOk, Some};
 ghost use Rattle.dm_symbol.specs.Correction.{data_of};
 ghost use Rattle.dm_append_label.specs.Opening.{LabelOpens, Opens, ReadsPage};
 
-use crate::fault::{LabelFault, PageFault};
+use crate::fault::LabelFault;
 use crate::head::{HEAD_WORDS, read_head};
 use crate::page::Page;
 use dm_encodation::{DecodeFault, decode};
@@ -30,8 +30,8 @@ pub struct Opened<A: Allocator = Global> {
 /// (ISO/IEC 16022:2006, 5.6).
 ///
 /// # Errors
-/// The first fault that applies, in the order of `PageFault`. `Memory` comes after all else.
-pub fn page_of<A: Allocator + Copy>(alloc: A, symbol: &Corrected<A>) -> Result<Page<A>, PageFault>
+/// The first fault that applies, in the order of `LabelFault`, from `NotAppended` on. `Memory` comes after all else.
+pub fn page_of<A: Allocator + Copy>(alloc: A, symbol: &Corrected<A>) -> Result<Page<A>, LabelFault>
     ensures page { ReadsPage (data_of symbol.now.size symbol.now.words) result }
     ensures short { IfOk result (λ page. length page.bytes ≤ MOST_PAGE_BYTES) }
 {
@@ -39,8 +39,8 @@ pub fn page_of<A: Allocator + Copy>(alloc: A, symbol: &Corrected<A>) -> Result<P
     let head = read_head(data)?;
     let bytes = match decode(alloc, data, HEAD_WORDS) {
         Ok(bytes) => bytes,
-        Err(DecodeFault::Memory) => return Err(PageFault::Memory),
-        Err(fault) => return Err(PageFault::Content(fault)),
+        Err(DecodeFault::Memory) => return Err(LabelFault::Memory),
+        Err(fault) => return Err(LabelFault::Content(fault)),
     };
     let Some(page) = Page::new(head.id, head.m, head.n, bytes) else {
         unreachable!()

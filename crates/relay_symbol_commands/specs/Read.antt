@@ -15,10 +15,9 @@ use Rattle.dm_encodation.specs.declared.fault.DecodeFault.TheVariants as text_fa
 use Rattle.dm_finder_frame.specs.Frame.{wrong_frame_modules, GridView}
 use Rattle.dm_symbol.specs.Correction.{CorrectsGrid, IsReadAs, data_of, words_of_grid}
 use Rattle.dm_symbol.specs.declared.fault.SymbolFault.{SymbolFault}
-use Rattle.dm_append_label.specs.Opening.{page_fault, symbol_fault, OpensAs, ReadsPage}
-use Rattle.dm_append_label.specs.declared.fault.HeadFault.TheVariants as head_faults
-use Rattle.dm_append_label.specs.declared.fault.PageFault.{PageFault}
-use Rattle.dm_append_label.specs.declared.fault.PageFault.TheVariants as page_faults
+use Rattle.dm_append_label.specs.Opening.{symbol_fault, OpensAs, ReadsPage}
+use Rattle.dm_append_label.specs.declared.fault.LabelFault.{LabelFault}
+use Rattle.dm_append_label.specs.declared.fault.LabelFault.TheVariants.{NotAppended}
 use Rattle.dm_pbm_io.specs.Image.{HasShape, IsGridInside, Picture}
 use Rattle.relay_shared.specs.EachImage.{ImageCommand, Said, TellsImages, progress_at, refusal_of}
 use Rattle.relay_shared.specs.Command.{LeavesErrors, StreamsView}
@@ -47,7 +46,7 @@ symbol_line modules corrected wrong bytes = codes "symbol " ++ (decimal modules 
 -- the grid is read as these words, and they begin with no head of a label
 pub record HasNoHead (grid : GridView) (words : List ℕ) : Type 0 where
   pub read : IsReadAs grid words
-  pub no_head : head_at (data_of grid.size words) ≡ Err head_faults.NotAppended
+  pub no_head : head_at (data_of grid.size words) ≡ Err NotAppended
 
 -- The line of a grid: that of the label that it opens as, or, where its symbol is no label, that of the symbol.
 pub data HasLine (grid : GridView) : List ℕ → Type 0 where
@@ -60,8 +59,8 @@ pub data HasLine (grid : GridView) : List ℕ → Type 0 where
 -- and no text; or memory was refused.
 pub data RefusesGrid (grid : GridView) : ReadRefusal → Type 0 where
   symbol : (fault : SymbolFault) → CorrectsGrid grid (Err fault) → RefusesGrid grid (Label (symbol_fault fault))
-  page : (words : List ℕ) (fault : PageFault) → IsReadAs grid words → fault ≢ page_faults.Head head_faults.NotAppended
-      → ReadsPage (data_of grid.size words) (Err fault) → RefusesGrid grid (Label (page_fault fault))
+  page : (words : List ℕ) (fault : LabelFault) → IsReadAs grid words → fault ≢ NotAppended
+      → ReadsPage (data_of grid.size words) (Err fault) → RefusesGrid grid (Label fault)
   text : (words : List ℕ) (fault : DecodeFault) → HasNoHead grid words
       → (fault ≢ text_faults.Memory → StuckOnly 1 (data_of grid.size words) fault) → RefusesGrid grid (Text fault)
   memory : RefusesGrid grid Memory

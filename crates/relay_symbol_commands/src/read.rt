@@ -1,17 +1,15 @@
 //! `relay read`: what the symbols in images carry.
 
-ghost use Rattle.std.specs.Prelude.{◌≡◌, ◌++◌, string_bytes, IfOk, OnOk, ◌≢◌, true, false, MatchResult, ◌⊎◌};
+ghost use Rattle.std.specs.Prelude.{◌≡◌, ◌++◌, string_bytes, IfOk, OnOk, false, MatchResult, ◌⊎◌};
 ghost use Rattle.std.proofs.Common.{refl, ◌∙◌};
 ghost use Rattle.relay_shared.specs.Lines.{hexadecimal};
 ghost use Rattle.relay_symbol_commands.specs.Read.{label_line, line_end, HasLine, HasNoHead, PrintsPicture, RefusesGrid, RefusesPicture, EndsRead, read_images};
-ghost use Rattle.dm_append_label.specs.declared.fault.HeadFault.TheVariants as head_faults;
-ghost use Rattle.dm_append_label.specs.declared.fault.PageFault.TheVariants as page_faults;
 ghost use Rattle.dm_finder_frame.specs.Frame.{GridView};
 ghost use Rattle.dm_pbm_io.specs.Image.{picture};
 ghost use Rattle.dm_symbol.specs.Correction.{IsCorrectedAs};
 
 use crate::refusal::ReadRefusal;
-use dm_append_label::{HeadFault, LabelFault, Page, PageFault, page_of};
+use dm_append_label::{LabelFault, Page, page_of};
 use dm_encodation::decode;
 use dm_finder_frame::Grid;
 use dm_pbm_io::{Image, ShapeFault, grid_of};
@@ -87,13 +85,6 @@ fn line_of_no_label<A: Allocator + Copy>(
     Ok(line)
 }
 
-fn is_no_label(fault: PageFault) -> bool
-    ensures yes { result ≡ true → fault ≡ page_faults.Head head_faults.NotAppended }
-    ensures no { result ≡ false → fault ≢ page_faults.Head head_faults.NotAppended }
-{
-    matches!(fault, PageFault::Head(HeadFault::NotAppended))
-}
-
 // The line of a grid: that of a label first.
 fn line_of_grid<A: Allocator + Copy>(
     alloc: A,
@@ -108,8 +99,8 @@ fn line_of_grid<A: Allocator + Copy>(
     };
     match page_of(alloc, &symbol) {
         Ok(page) => Ok(line_of_label(alloc, &page, &symbol)?),
-        Err(fault) if is_no_label(fault) => line_of_no_label(alloc, &symbol),
-        Err(fault) => Err(ReadRefusal::Label(LabelFault::from(fault))),
+        Err(LabelFault::NotAppended) => line_of_no_label(alloc, &symbol),
+        Err(fault) => Err(ReadRefusal::Label(fault)),
     }
 }
 

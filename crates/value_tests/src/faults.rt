@@ -1,6 +1,6 @@
 //! The texts of faults.
 
-use dm_append_label::{HeadFault, LabelFault, PageFault, SealFault, cut};
+use dm_append_label::{LabelFault, SealFault, cut};
 use dm_corrector::{BlockFault, Uncorrectable};
 use dm_encodation::{DecodeFault, EncodeFault, Scheme};
 use dm_finder_frame::{FrameFault, GridFault};
@@ -39,8 +39,6 @@ const OF_LABELS: &str = "\
 block 7 has more wrong words than can be corrected
 the symbol is not a label, the sequence indicator 32 is invalid, the file identification is invalid
 what begins at position 3 is cut off, out of memory
-the symbol is not a label, the sequence indicator 32 is invalid, the file identification is invalid
-the symbol is not a label, what begins at position 3 is cut off, out of memory
 the page does not fit a label of this size, out of memory
 the document does not fit sixteen labels of this size";
 
@@ -51,13 +49,11 @@ fn faults_of_labels_say_what_is_wrong(rt: HostRuntime) -> Result<(), Fail> {
         return Err("a label of side 10".into());
     };
     let texts = format!(in rt.alloc();
-        "{}\n{}\n{}, {}, {}\n{}, {}\n{}, {}, {}\n{}, {}, {}\n{}, {}\n{}",
+        "{}\n{}\n{}, {}, {}\n{}, {}\n{}, {}\n{}",
         LabelFault::Border { wrong: 6 }, LabelFault::Block { block: 7 }, LabelFault::NotAppended,
         LabelFault::Sequence { word: 32 }, LabelFault::FileId,
-        LabelFault::Content(DecodeFault::Cut { at: 3 }), LabelFault::Memory, HeadFault::NotAppended,
-        HeadFault::Sequence { word: 32 }, HeadFault::FileId,
-        PageFault::Head(HeadFault::NotAppended), PageFault::Content(DecodeFault::Cut { at: 3 }),
-        PageFault::Memory, SealFault::TooLong, SealFault::Memory, too_long,
+        LabelFault::Content(DecodeFault::Cut { at: 3 }), LabelFault::Memory,
+        SealFault::TooLong, SealFault::Memory, too_long,
     )?;
     assert!(rt; texts.as_str() == OF_LABELS);
     Ok(())

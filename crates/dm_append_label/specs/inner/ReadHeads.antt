@@ -1,7 +1,7 @@
 -- A head as the code has it, what reading one answers, and the data words of a page's label.
 use Rattle.std.specs.Prelude.{◌≡◌, Result, Ok, Err, ℕ, List, length, take, drop}
 use Rattle.dm_append_label.specs.Labels.{HeadView, IsHead, head_of, head_words, PageView}
-use Rattle.dm_append_label.specs.declared.fault.HeadFault.{HeadFault}
+use Rattle.dm_append_label.specs.declared.fault.LabelFault.{LabelFault}
 use Rattle.dm_append_label.specs.declared.head.Head.{Head}
 use Rattle.dm_size.specs.declared.size.Size.{Size}
 use Rattle.dm_size.specs.Sizes.{data_words}
@@ -14,7 +14,7 @@ abbrev pub view_of : Head → HeadView
 view_of h = record { m = h.m; n = h.n; id = h.id }
 
 -- The answer is what was to be read: the head, which is sound, or the fault.
-abbrev pub ReadsHead : Result HeadView HeadFault → Result Head HeadFault → Type 0
+abbrev pub ReadsHead : Result HeadView LabelFault → Result Head LabelFault → Type 0
 ReadsHead read (Ok h) = (read ≡ Ok (view_of h)) × IsHead (view_of h)
 ReadsHead read (Err fault) = read ≡ Err fault
 

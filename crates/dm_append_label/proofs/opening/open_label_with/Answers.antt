@@ -1,21 +1,13 @@
-use Rattle.std.proofs.Common.{◌≡◌, ◌∙◌, Err, Result, ap, subst, sym}
 use Rattle.std.proofs.lemmas.Result.{err_from_is_err_and}
-use Rattle.dm_append_label.specs.Opening.{LabelOpens, page_fault}
-use Rattle.dm_append_label.specs.declared.fault.LabelFault.{LabelFault}
-use Rattle.dm_append_label.specs.declared.opening.Opened.{Opened}
 use Rattle.dm_append_label.proofs.Near.{no_page, one_page_opens}
 use Rattle.dm_append_label.proofs.opening.open_label_with.Goals as goal
 
 pub returns-in_err-page-clause-opens : goal.returns-in_err-page-clause-opens
 returns-in_err-page-clause-opens g c =
-    let grid = c.args.grid.now in
-    let fault = c.in_err-page.field-0.0 in
-    let answered = err_from_is_err_and c.from_residual-in_err-page.result c.from_residual-in_err-page.ensures.1 in
-    let is : c.from_residual-in_err-page.result ≡ Err (page_fault fault) = answered.1 ∙
-    ap (λ (f : LabelFault). Err f) answered.2 in
-    subst (λ (x : Result (Opened g.row.A.Denot) LabelFault). LabelOpens {A = g.row.A.Denot} grid x) (sym is)
-    (no_page grid c.in_ok-symbol.symbol fault c.in_ok-symbol.ensures.corrects c.in_ok-symbol.ensures.near
-    c.in_err-page.ensures.page)
+    let last = c.from_residual-in_err-page in
+    let p = err_from_is_err_and last.result last.ensures.1 in
+    rw (p.1, p.2) (no_page c.args.grid.now c.in_ok-symbol.symbol c.in_err-page.field-0.0 c.in_ok-symbol.ensures.corrects
+    c.in_ok-symbol.ensures.near c.in_err-page.ensures.page)
 
 pub returns-clause-opens : goal.returns-clause-opens
 returns-clause-opens g c =

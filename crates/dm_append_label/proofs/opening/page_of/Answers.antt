@@ -1,8 +1,18 @@
 use Rattle.std.proofs.Common.{◌∙◌, List, ℕ, ap, drop, subst, sym, rules}
+use Rattle.std.proofs.lemmas.Result.{err_from_is_err_and}
 use Rattle.dm_encodation.specs.Grammar.{ReadsOnly, StuckOnly}
+use Rattle.dm_symbol.specs.Correction.{data_of}
 use Rattle.dm_append_label.specs.Labels.{head_at}
 use Rattle.dm_append_label.specs.inner.ReadHeads.{view_of}
+use Rattle.dm_append_label.proofs.Near.{bad_head}
 use Rattle.dm_append_label.proofs.opening.page_of.Goals as goal
+
+pub returns-in_err-head-clause-page : goal.returns-in_err-head-clause-page
+returns-in_err-head-clause-page g c =
+    let p = err_from_is_err_and c.from_residual.result c.from_residual.ensures.1 in
+    let symbol = c.args.symbol.now in
+    rw (p.1, p.2) (bad_head (data_of symbol.size symbol.words) c.in_err-head.field-0.0
+    (ap head_at (sym c.data-data.ensures.data) ∙ c.in_err-head.ensures.head))
 
 pub returns-in-Err-Memory-clause-page : goal.returns-in-Err-Memory-clause-page
 returns-in-Err-Memory-clause-page g c =

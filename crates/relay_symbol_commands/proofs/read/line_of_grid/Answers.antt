@@ -1,4 +1,4 @@
-use Rattle.std.proofs.Common.{Err, subst}
+use Rattle.std.proofs.Common.{Err, rules, subst}
 use Rattle.std.proofs.lemmas.Result.{err_from_is_err_and}
 use Rattle.dm_size.specs.declared.size.Size.{Size}
 use Rattle.dm_symbol.specs.Correction.{data_of}
@@ -32,5 +32,5 @@ returns g c =
     let s = c.in-Ok.symbol in
     let is = c.in-Ok.ensures.corrects in
     let fault = c.in-Err-page_of.fault in
-    rw c.from-in-Err-2.ensures (page s.words fault is.read (c.is_no_label.ensures.no c.if-is_no_label.false)
-    (subst (λ (size : Size). ReadsPage (data_of size s.words) (Err fault)) is.same_size c.in-Err-page_of.ensures.page))
+    page s.words fault is.read (search rules)
+    (subst (λ (size : Size). ReadsPage (data_of size s.words) (Err fault)) is.same_size c.in-Err-page_of.ensures.page)
