@@ -165,12 +165,8 @@ fn keep<S: StoreSet, A: Allocator + Copy>(
     ensures err { OnErr result (documents.new ≡ documents.old) }
     ensures replaced { SavesKey (S.state set.old) id (file id document) result (S.state set.new) }
 {
-    let Ok(bytes) = write_file(alloc, id, &document) else {
-        return Err(ReplaceFault::Memory);
-    };
-    let Ok(before) = documents.insert(id, document) else {
-        return Err(ReplaceFault::Memory);
-    };
+    let bytes = write_file(alloc, id, &document)?;
+    let before = documents.insert(id, document)?;
     match set.replace(id, &bytes) {
         Ok(()) => Ok(()),
         Err(fault) => match before {

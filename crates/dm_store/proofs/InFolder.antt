@@ -1,6 +1,6 @@
 -- What a call on one key's file does to the set in the folder.
 use Rattle.std.proofs.Common.{◌≡◌, ◌≢◌, ◌<◌, ◌^◌, ◌∙◌, inl, inr, ⊎_elim, ℕ, List, Bool, true, false, Option, Some, None, Result, Ok, Err, refl, sym, ap}
-use Rattle.std.specs.Prelude.{IsTrue, IsErr, IsErrOf, IfOk, take, if◌then◌else◌, ◌+◌}
+use Rattle.std.specs.Prelude.{IsTrue, IsErr, IsErrOf, IfOk, take, if◌then◌else◌, ◌+◌, option_map}
 use Rattle.std.specs.FinMap.{insert, remove}
 use Rattle.std.specs.FinMap as map
 use Rattle.std.proofs.lemmas.Bool.{cases_eq}
@@ -9,7 +9,7 @@ use Rattle.dm_store.specs.declared.store.ReplaceFault.{ReplaceFault}
 use Rattle.dm_store.specs.declared.store.ReplaceFault.TheVariants as replacing
 use Rattle.dm_store.specs.declared.set.RemoveFault.{RemoveFault}
 use Rattle.dm_store.specs.declared.set.RemoveFault.TheVariants as removing
-use Rattle.dm_store.specs.Saved.{ListsKeys, LoadsKey, SavesKey, RemovesKey, outcome_of_remove, Saves}
+use Rattle.dm_store.specs.Saved.{Gives, ListsKeys, LoadsKey, Settles, SavesKey, RemovesKey, outcome_of_remove, Saves}
 use Rattle.dm_store.specs.Disk.{DiskState, Content, Keeps, KeepsAll, Reads, SavesFile, RemovesFile, draft_of, contents_in, key_path, found_in, set_in}
 use Rattle.dm_store.proofs.Held.{held_at, found_is, held_same, held_kept, held_replaced, held_removed}
 use Rattle.dm_store.proofs.Names.{names_apart, draft_apart}
@@ -44,16 +44,28 @@ module _ (old new : DiskState) (folder : List ℕ) (honesty : new.is_honest ≡ 
     set_kept kept = alike (held_same (found_in old folder) (found_in new folder) (2 ^ 16)
         (λ key lt. found_same key (λ _. (kept (key_path folder key)).seen)))
 
+    pub set_gives : {V W : Type 0} (seen : V → W) (wanted : W) (answer : Result V LoadFault) → KeepsAll old new
+        → (IsTrue old.is_honest → IfOk answer (λ given. seen given ≡ wanted))
+        → Gives seen (set_in old folder) wanted answer (set_in new folder)
+    set_gives seen wanted answer kept gives =
+        record { same = set_kept kept; saved = gives; device = λ _. refl; memory = λ _. refl }
+
+    pub set_lists : {V : Type 0} (keys : V → List ℕ) (limit : ℕ) (answer : Result V LoadFault) → KeepsAll old new
+        → (IsTrue old.is_honest
+        → IfOk answer (λ listed. keys listed ≡ take (limit + 1) (map.keys (contents_in old folder))))
+        → ListsKeys keys (set_in old folder) limit answer (set_in new folder)
+    set_lists keys limit answer kept lists = set_gives keys _ answer kept lists
+
+    pub set_settles : (answer : Result (Unit {0}) LoadFault) → KeepsAll old new
+        → Settles (set_in old folder) answer (set_in new folder)
+    set_settles (Ok done) kept = set_gives (λ given. given) tt (Ok done) kept (λ _. refl)
+    set_settles (Err fault) kept = set_gives (λ given. given) tt (Err fault) kept (λ _. tt)
+
     pub set_loads : {V : Type 0} (bytes : V → List ℕ) (key limit : ℕ) (answer : Result (Option V) LoadFault) →
         key < 2 ^ 16 → KeepsAll old new → (IsTrue old.is_honest → Reads bytes old (key_path folder key) limit answer) →
         LoadsKey bytes (set_in old folder) key limit answer (set_in new folder)
-    set_loads bytes key limit answer lt kept reads = record {
-      same = set_kept kept;
-      saved = λ honest.
-          rw (held_at (found_in old folder) (2 ^ 16) key lt, found_is old folder key honest) (reads honest);
-      device = λ _. refl;
-      memory = λ _. refl;
-    }
+    set_loads bytes key limit answer lt kept reads = set_gives (option_map bytes) _ answer kept (λ honest.
+        rw (held_at (found_in old folder) (2 ^ 16) key lt, found_is old folder key honest) (reads honest))
 
     -- the keys whose files are as they were
     abbrev Others : ℕ → Type 0
@@ -177,13 +189,6 @@ module _ (old new : DiskState) (folder : List ℕ) (honesty : new.is_honest ≡ 
       absent_done = λ _ err. (device err, refl);
       memory = λ _. refl;
     }
-
-    pub set_lists : {V : Type 0} (keys : V → List ℕ) (limit : ℕ) (answer : Result V LoadFault) → KeepsAll old new
-        → (IsTrue old.is_honest
-        → IfOk answer (λ listed. keys listed ≡ take (limit + 1) (map.keys (contents_in old folder))))
-        → ListsKeys keys (set_in old folder) limit answer (set_in new folder)
-    set_lists keys limit answer kept lists =
-        record { same = set_kept kept; saved = lists; device = λ _. refl; memory = λ _. refl }
 
     pub replace_keeps : (key : ℕ) (bytes : List ℕ) {F : Type 0} (answer : Result (Unit {0}) F) → key < 2 ^ 16
         → (IsTrue old.is_honest

@@ -129,17 +129,3 @@ removes_on old new name inner answer oks errs removes = record {
   };
   lasting = λ ok. removes.lasting (oks ok);
 }
-
--- nothing was removed
-pub removes_not : {F : Type 0} (old : DiskState) (name : List ℕ) (answer : Result (Unit {0}) F) → IsErr answer →
-    RemovesFile old name answer old
-removes_not old name answer err = record {
-  removes = record {
-    others = λ other apart. keeps_same;
-    done = λ ok. absurd (not_both answer err ok);
-    failed = λ _. inl refl;
-    synced = ⊎_elim (λ ok. absurd (not_both answer err ok)) (λ on. on);
-    left = λ content leaves. inl leaves;
-  };
-  lasting = λ ok. absurd (not_both answer err ok);
-}

@@ -17,7 +17,7 @@ pub record Fused (S : Type 0) : Type 0 where
 abbrev pub with_open_plans : {X : Type 0} → SavedIn X → SavedIn X
 with_open_plans saved = record saved { load_plan = LoadsOpen; save_plan = SavesOpen }
 
--- What a fuse does with a load, or with a call for the keys, from how many calls still pass.
+-- What a fuse does with a load, a call for the keys or a settle, from how many calls still pass.
 abbrev pub turn_of_load : Option ℕ → Turn
 turn_of_load (Some (suc _)) = Passes
 turn_of_load (Some zero) = Stopped

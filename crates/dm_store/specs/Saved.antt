@@ -122,6 +122,10 @@ abbrev pub LoadsKey : {V : Type 0} → (V → List ℕ) → SavedSet → ℕ →
 LoadsKey bytes old key limit answer new =
     Gives (option_map bytes) old (option_map (take (limit + 1)) (map.get old.content key)) answer new
 
+-- The set before and after what was loaded is settled, and the answer: it may fail where a load may.
+abbrev pub Settles : SavedSet → Result (Unit {0}) LoadFault → SavedSet → Type 0
+Settles old answer new = Gives (λ done. done) old tt answer new
+
 -- the set before and after a save of one key's bytes, and its answer
 abbrev pub SavesKey : SavedSet → ℕ → List ℕ → Result (Unit {0}) ReplaceFault → SavedSet → Type 0
 SavesKey old key bytes answer new = Saves old (map.insert old.content key bytes) (outcome_of answer) new

@@ -3,7 +3,7 @@
 ghost use Rattle.std.specs.Prelude.{◌≡◌, ℕ, List, IsTrue, IsErrOf};
 
 use crate::store::LoadFault;
-use std::alloc::Allocator;
+use std::alloc::{AllocError, Allocator};
 use thiserror::Error;
 
 /// Why a call of a disk was not done.
@@ -15,6 +15,25 @@ pub enum DiskFault {
     /// There was no memory for the call, and nothing was changed.
     #[error("out of memory")]
     Memory,
+}
+
+impl From<AllocError> for DiskFault {
+    ghost use Rattle.dm_store.specs.declared.disk.DiskFault.TheVariants.{Memory};
+
+    ghost from_gives = { λ _ fault. fault ≡ Memory };
+
+    fn from(_: AllocError) -> Self {
+        DiskFault::Memory
+    }
+}
+
+impl From<DiskFault> for LoadFault {
+    fn from(fault: DiskFault) -> Self {
+        match fault {
+            DiskFault::Device => LoadFault::Device,
+            DiskFault::Memory => LoadFault::Memory,
+        }
+    }
 }
 
 /// The calls of a file system that a save needs. Each may fail. Once the machine has stopped, within a call or between

@@ -1,39 +1,16 @@
 //! A set of stores in a folder of a disk, with a file for each key.
 
-ghost use Rattle.std.specs.Prelude.{◌≡◌, ◌<◌, ◌≢◌, ◌^◌, ◌+◌, take, ℕ, Err, IsErr, IfOk, IsOk, IsErrOf, IsSome, IsTrue, true, false};
-ghost use Rattle.dm_store.specs.Disk.{Keeps, KeepsAll, Reads, SavesFile, RemovesFile, IsSettled, draft_of, contents_in, key_path};
-ghost use Rattle.std.specs.FinMap as map;
+ghost use Rattle.std.specs.Prelude.{◌≡◌, ◌<◌, ◌≢◌, ◌^◌, ℕ, Err, IsErr, IsOk, IsErrOf, IsTrue};
+ghost use Rattle.dm_store.specs.Disk.{Keeps, KeepsAll, SavesFile, RemovesFile, IsSettled, draft_of, key_path};
 
-use crate::disk::{Disk, DiskFault, Folders};
-use crate::file_store::{load_settled, remove_file, replace_file};
+use crate::disk::{Disk, Folders};
+use crate::file_store::{remove_file, replace_file};
 use crate::filed::Filed;
 use crate::files::new_path_of;
 use crate::key_files::path_of;
 use crate::set::{RemoveFault, StoreSet};
 use crate::store::{LoadFault, ReplaceFault};
 use std::alloc::Allocator;
-
-// The keys that have a file in a folder, whose entries are on the disk then.
-fn settled_keys<D: Folders>(
-    disk: &mut D,
-    folder: &str,
-    limit: usize,
-) -> Result<Vec<u16, D::Memory>, LoadFault>
-    ensures honesty { (D.state disk.new).is_honest ≡ (D.state disk.old).is_honest }
-    ensures kept { KeepsAll (D.state disk.old) (D.state disk.new) }
-    ensures lists { IsTrue (D.state disk.old).is_honest → IfOk result (λ keys.
-        keys.items ≡ take (limit + 1) (map.keys (contents_in (D.state disk.old) folder.now))) }
-    ensures settles { IsTrue (D.state disk.old).is_honest → IsOk result → (key : ℕ) → key < 2 ^ 16
-        → (D.state disk.old).is_synced (key_path folder.now key)
-        → IsSettled (D.state disk.new) (key_path folder.now key) }
-{
-    let keys = disk.keys(folder, limit)?;
-    match disk.settle_folder(folder) {
-        Ok(()) => Ok(keys),
-        Err(DiskFault::Device) => Err(LoadFault::Device),
-        Err(DiskFault::Memory) => Err(LoadFault::Memory),
-    }
-}
 
 // Puts the bytes into the file of a key, in a folder that is there then.
 fn replace_key<D: Folders, A: Allocator + Copy>(
@@ -49,12 +26,8 @@ fn replace_key<D: Folders, A: Allocator + Copy>(
         → SavesFile (D.state disk.old) (key_path folder.now key) (draft_of (key_path folder.now key)) bytes.now result
         (D.state disk.new) }
 {
-    let Ok(path) = path_of(alloc, folder, key) else {
-        return Err(ReplaceFault::Memory);
-    };
-    let Ok(new_path) = new_path_of(alloc, path.as_str()) else {
-        return Err(ReplaceFault::Memory);
-    };
+    let path = path_of(alloc, folder, key)?;
+    let new_path = new_path_of(alloc, path.as_str())?;
     if disk.make_folder(folder).is_err() {
         return Err(ReplaceFault::Device);
     }
@@ -82,33 +55,9 @@ fn remove_key<D: Disk, A: Allocator + Copy>(
     }
 }
 
-// The bytes in the file of a key.
-fn load_key<D: Disk, A: Allocator + Copy>(
-    alloc: A,
-    disk: &mut D,
-    folder: &str,
-    key: u16,
-    limit: usize,
-) -> Result<Option<Vec<u8, D::Memory>>, LoadFault>
-    ensures honesty { (D.state disk.new).is_honest ≡ (D.state disk.old).is_honest }
-    ensures kept { KeepsAll (D.state disk.old) (D.state disk.new) }
-    ensures reads { IsTrue (D.state disk.old).is_honest
-        → Reads (λ bytes. bytes.items) (D.state disk.old) (key_path folder.now key) limit result }
-    ensures settles { IsTrue (D.state disk.old).is_honest
-        → (D.state disk.old).is_synced (key_path folder.now key)
-        → IfOk result (λ loaded. IsSome loaded → IsSettled (D.state disk.new) (key_path folder.now key)) }
-{
-    let Ok(path) = path_of(alloc, folder, key) else {
-        return Err(LoadFault::Memory);
-    };
-    load_settled(disk, path.as_str(), limit)
-}
-
 impl<D: Folders, A: Allocator + Copy> StoreSet for Filed<D, A> {
-    ghost use Rattle.dm_store.specs.Saved.{ListsKeys, LoadsKey, SavesKey, RemovesKey, MayLackMemory};
+    ghost use Rattle.dm_store.specs.Saved.{ListsKeys, LoadsKey, Settles, SavesKey, RemovesKey, MayLackMemory};
     ghost use Rattle.dm_store.specs.Disk.{set_in};
-    ghost use Rattle.std.specs.Prelude.{Some, None};
-    ghost use Rattle.std.specs.FinMap as map;
 
     type Memory = D::Memory;
 
@@ -120,12 +69,8 @@ impl<D: Folders, A: Allocator + Copy> StoreSet for Filed<D, A> {
             (set_in (D.state self.new.disk) self.new.path) }
         ensures folder { self.new.path ≡ self.old.path }
         ensures kept { KeepsAll (D.state self.old.disk) (D.state self.new.disk) }
-        // No stop takes back a file of the folder, if its bytes are on the disk, as those of a save are.
-        ensures settles { IsTrue (D.state self.old.disk).is_honest → IsOk result → (key : ℕ) → key < 2 ^ 16
-            → (D.state self.old.disk).is_synced (key_path self.old.path key)
-            → IsSettled (D.state self.new.disk) (key_path self.new.path key) }
     {
-        settled_keys(&mut self.disk, self.path.as_str(), limit)
+        self.disk.keys(self.path.as_str(), limit)
     }
 
     fn load(&mut self, key: u16, limit: usize) -> Result<Option<Vec<u8, D::Memory>>, LoadFault>
@@ -134,13 +79,24 @@ impl<D: Folders, A: Allocator + Copy> StoreSet for Filed<D, A> {
             (set_in (D.state self.new.disk) self.new.path) }
         ensures folder { self.new.path ≡ self.old.path }
         ensures kept { KeepsAll (D.state self.old.disk) (D.state self.new.disk) }
-        // No stop takes back what is loaded, if the file's bytes are on the disk, as those of a save are.
-        ensures settles { IsTrue (D.state self.old.disk).is_honest
-            → (D.state self.old.disk).is_synced (key_path self.old.path key)
-            → IfOk result (λ loaded.
-            IsSome loaded → IsSettled (D.state self.new.disk) (key_path self.new.path key)) }
     {
-        load_key(self.alloc, &mut self.disk, self.path.as_str(), key, limit)
+        let path = path_of(self.alloc, self.path.as_str(), key)?;
+        self.disk.read(path.as_str(), limit)
+    }
+
+    fn settle(&mut self) -> Result<(), LoadFault>
+        ensures settles { Settles (set_in (D.state self.old.disk) self.old.path) result
+            (set_in (D.state self.new.disk) self.new.path) }
+        ensures folder { self.new.path ≡ self.old.path }
+        ensures kept { KeepsAll (D.state self.old.disk) (D.state self.new.disk) }
+        // No stop takes back a file of the folder, if its bytes are on the disk, as those of a save are.
+        ensures settled { IsTrue (D.state self.old.disk).is_honest → IsOk result → (key : ℕ) → key < 2 ^ 16
+            → (D.state self.old.disk).is_synced (key_path self.old.path key)
+            → IsSettled (D.state self.new.disk) (key_path self.new.path key) }
+    {
+        self.disk
+            .settle_folder(self.path.as_str())
+            .map_err(LoadFault::from)
     }
 
     fn replace(&mut self, key: u16, bytes: &[u8]) -> Result<(), ReplaceFault>

@@ -1,7 +1,7 @@
 //! A store in a file of a disk.
 
 ghost use Rattle.std.specs.Prelude.{◌≡◌, ◌≢◌, ℕ, List, Some, IfOk, IsErrOf, IsSome, IsTrue};
-ghost use Rattle.dm_store.specs.Disk.{KeepsAll, Reads, SavesFile, RemovesFile, IsSettled, draft_of};
+ghost use Rattle.dm_store.specs.Disk.{KeepsAll, SavesFile, RemovesFile, IsSettled, draft_of};
 
 use crate::disk::{Disk, DiskFault};
 use crate::filed::Filed;
@@ -56,30 +56,6 @@ pub(crate) fn remove_file<D: Disk>(disk: &mut D, path: &str) -> Result<(), DiskF
     disk.sync_entry(path)
 }
 
-// The first `limit + 1` bytes of the file at `path`, whose entry is on the disk then.
-pub(crate) fn load_settled<D: Disk>(
-    disk: &mut D,
-    path: &str,
-    limit: usize,
-) -> Result<Option<Vec<u8, D::Memory>>, LoadFault>
-    ensures honesty { (D.state disk.new).is_honest ≡ (D.state disk.old).is_honest }
-    ensures kept { KeepsAll (D.state disk.old) (D.state disk.new) }
-    ensures reads { IsTrue (D.state disk.old).is_honest
-        → Reads (λ bytes. bytes.items) (D.state disk.old) path.now limit result }
-    ensures settles { IsTrue (D.state disk.old).is_honest
-        → (D.state disk.old).is_synced path.now
-        → IfOk result (λ loaded. IsSome loaded → IsSettled (D.state disk.new) path.now) }
-{
-    match disk.read(path, limit)? {
-        None => Ok(None),
-        Some(bytes) => match disk.settle_entry(path) {
-            Ok(()) => Ok(Some(bytes)),
-            Err(DiskFault::Device) => Err(LoadFault::Device),
-            Err(DiskFault::Memory) => Err(LoadFault::Memory),
-        },
-    }
-}
-
 impl<D: Disk, A: Allocator + Copy> Store for Filed<D, A> {
     ghost use Rattle.dm_store.specs.Saved.{Loads, Replaces, MayLackMemory, SavesOpen, HeldAfterFault};
     ghost use Rattle.dm_store.specs.Disk.{IsSettled, Content, saved_under};
@@ -99,7 +75,11 @@ impl<D: Disk, A: Allocator + Copy> Store for Filed<D, A> {
             → (D.state self.old.disk).is_synced self.old.path
             → IfOk result (λ loaded. IsSome loaded → IsSettled (D.state self.new.disk) self.new.path) }
     {
-        load_settled(&mut self.disk, self.path.as_str(), limit)
+        let Some(bytes) = self.disk.read(self.path.as_str(), limit)? else {
+            return Ok(None);
+        };
+        self.disk.settle_entry(self.path.as_str())?;
+        Ok(Some(bytes))
     }
 
     fn replace(&mut self, bytes: &[u8]) -> Result<(), ReplaceFault>
@@ -119,9 +99,7 @@ impl<D: Disk, A: Allocator + Copy> Store for Filed<D, A> {
             → (content : Content) → (D.state self.new.disk).may_leave self.old.path content
             → HeldAfterFault SavesOpen ((D.state self.old.disk).seen self.old.path) (Some bytes.now) content }
     {
-        let Ok(new_path) = new_path_of(self.alloc, self.path.as_str()) else {
-            return Err(ReplaceFault::Memory);
-        };
+        let new_path = new_path_of(self.alloc, self.path.as_str())?;
         replace_file(&mut self.disk, self.path.as_str(), new_path.as_str(), bytes)
     }
 }

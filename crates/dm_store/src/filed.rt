@@ -21,9 +21,9 @@ use std::marker::Model;
 /// **A set.** The file of a key has the key as its name, in four lower-case hexadecimal digits, and is loaded and
 /// replaced as that of a store. Files of other names are not looked at. A folder that isn't there has no keys, and the
 /// first `replace` makes it (but not the folders that it lies in). Each `replace` brings the folder's own entry to the
-/// disk first, and each `remove` that of the key, also if no file has it; `keys` brings those of all keys there. A
-/// `remove` that lacks memory for the path of the key's file is a device fault, since it can't say whether that file is
-/// there.
+/// disk first, and each `remove` that of the key, also if no file has it. Only `settle` brings those of all keys there:
+/// what `keys` and `load` gave before it, no stop takes back. A `remove` that lacks memory for the path of the key's
+/// file is a device fault, since it can't say whether that file is there.
 #[derive(Drop)]
 pub struct Filed<D: Disk, A: Allocator + Copy = Global> {
     pub(crate) alloc: A,

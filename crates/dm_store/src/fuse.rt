@@ -154,7 +154,7 @@ impl<S: Store> Store for Fuse<S> {
 }
 
 impl<S: StoreSet> StoreSet for Fuse<S> {
-    ghost use Rattle.dm_store.specs.Saved.{MayLackMemory, ListsKeys, LoadsKey, SavesKey, RemovesKey};
+    ghost use Rattle.dm_store.specs.Saved.{MayLackMemory, ListsKeys, LoadsKey, Settles, SavesKey, RemovesKey};
     ghost use Rattle.dm_store.specs.Fused.{with_open_plans, Goes};
 
     type Memory = S::Memory;
@@ -185,6 +185,20 @@ impl<S: StoreSet> StoreSet for Fuse<S> {
     {
         match self.take_load() {
             Turn::Passes => self.inner.load(key, limit),
+            Turn::Made | Turn::Stopped => Err(LoadFault::Device),
+        }
+    }
+
+    fn settle(&mut self) -> Result<(), LoadFault>
+        ensures settles { Settles (with_open_plans (S.state self.old.inner)) result
+            (with_open_plans (S.state self.new.inner)) }
+        ensures goes { Goes (turn_of_load self.old.left) LoadFault.Device
+            (λ answer inner. Settles (S.state self.old.inner) answer (S.state inner))
+            self.old.inner result self.new.inner }
+        ensures counts { self.new ≡ record self.old { inner = self.new.inner; left = after_call self.old.left } }
+    {
+        match self.take_load() {
+            Turn::Passes => self.inner.settle(),
             Turn::Made | Turn::Stopped => Err(LoadFault::Device),
         }
     }

@@ -19,9 +19,9 @@ fn digit_of(byte: u8) -> Option<u16>
     }
 }
 
-// The key whose file has this name.
+/// The key whose file has this name.
 #[tactic(auto, unfolding(crate::specs::Disk::key_name))]
-pub(crate) fn key_of(name: &[u8]) -> Option<u16>
+pub fn key_of(name: &[u8]) -> Option<u16>
     ensures named { IfSome result (λ key. name.now ≡ key_name key) }
     ensures found { (key : ℕ) → key < 2 ^ 16 → name.now ≡ key_name key → result ≡ Some key }
 {
@@ -47,13 +47,12 @@ fn glyph_of(digit: u16) -> char
     })
 }
 
-// The path of a key's file.
+/// The path of a key's file in a folder.
+///
+/// # Errors
+/// Where the allocator refuses its memory.
 #[tactic(auto, using(std::proofs::lemmas::Str::encode_ascii), unfolding(crate::specs::Disk::key_name))]
-pub(crate) fn path_of<A: Allocator>(
-    alloc: A,
-    folder: &str,
-    key: u16,
-) -> Result<String<A>, AllocError>
+pub fn path_of<A: Allocator>(alloc: A, folder: &str, key: u16) -> Result<String<A>, AllocError>
     ensures { IfOk result (λ path. string_bytes path ≡ key_path folder.now key) }
 {
     let mut path = format!(in alloc; "{folder}/")?;

@@ -41,6 +41,7 @@ mod store;
 pub use disk::{Disk, DiskFault, Folders};
 pub use filed::{FileSet, FileStore, Filed};
 pub use fuse::{Fuse, FuseSet, FuseStore, Kept};
+pub use key_files::{key_of, path_of};
 pub use key_map::KeyMap;
 pub use mem_set::{MemSet, SavedBytes};
 pub use mem_store::{MemStore, NextSave};

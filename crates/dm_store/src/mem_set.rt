@@ -7,7 +7,7 @@ use crate::key_map::KeyMap;
 use crate::mem_store::{NextSave, copy_of};
 use crate::set::{RemoveFault, StoreSet};
 use crate::store::{LoadFault, ReplaceFault};
-use std::alloc::{AllocError, Allocator, Global};
+use std::alloc::{Allocator, Global};
 use std::marker::Model;
 use std::mem;
 
@@ -84,7 +84,7 @@ impl<A: Allocator + Copy> MemSet<A> {
         self.next_save = next;
     }
 
-    /// Sets whether loads, of keys and of bytes, answer a device fault, until it is set anew.
+    /// Sets whether loads, of keys and of bytes, and settles answer a device fault, until it is set anew.
     pub fn set_load(&mut self, fails: bool)
         ensures { self.new ≡ record self.old { load_plan = load_plan_of fails } }
     {
@@ -103,7 +103,7 @@ impl<A: Allocator + Copy> MemSet<A> {
 }
 
 impl<A: Allocator + Copy> StoreSet for MemSet<A> {
-    ghost use Rattle.dm_store.specs.Saved.{LoadsOpen, ListsKeys, LoadsKey, RemovesKey};
+    ghost use Rattle.dm_store.specs.Saved.{LoadsOpen, ListsKeys, LoadsKey, Settles, RemovesKey};
     ghost use Rattle.std.specs.Prelude.{◌≢◌, Err};
 
     type Memory = A;
@@ -117,10 +117,8 @@ impl<A: Allocator + Copy> StoreSet for MemSet<A> {
         if self.fails_loads {
             return Err(LoadFault::Device);
         }
-        match self.held.first_keys(self.alloc, limit.saturating_add(1)) {
-            Ok(keys) => Ok(keys),
-            Err(AllocError) => Err(LoadFault::Memory),
-        }
+        let keys = self.held.first_keys(self.alloc, limit.saturating_add(1))?;
+        Ok(keys)
     }
 
     fn load(&mut self, key: u16, limit: usize) -> Result<Option<Vec<u8, A>>, LoadFault>
@@ -135,21 +133,26 @@ impl<A: Allocator + Copy> StoreSet for MemSet<A> {
         let Some(saved) = self.held.get(key) else {
             return Ok(None);
         };
-        match copy_of(self.alloc, saved.as_slice(), limit) {
-            Ok(copy) => Ok(Some(copy)),
-            Err(AllocError) => Err(LoadFault::Memory),
+        Ok(Some(copy_of(self.alloc, saved.as_slice(), limit)?))
+    }
+
+    fn settle(&mut self) -> Result<(), LoadFault>
+        ensures settles { Settles self.old result self.new }
+        ensures device { IsErrOf result LoadFault.Device ↔ (self.old.load_plan ≡ LoadsOpen) }
+        // It takes no memory.
+        ensures memory { result ≢ Err LoadFault.Memory }
+    {
+        if self.fails_loads {
+            return Err(LoadFault::Device);
         }
+        Ok(())
     }
 
     fn replace(&mut self, key: u16, bytes: &[u8]) -> Result<(), ReplaceFault> {
-        let Ok(copy) = Vec::from_slice(self.alloc, bytes) else {
-            return Err(ReplaceFault::Memory);
-        };
+        let copy = Vec::from_slice(self.alloc, bytes)?;
         if self.next_save != NextSave::FaultOld {
             let saved = SavedBytes::new(copy);
-            if self.held.insert(key, saved).is_err() {
-                return Err(ReplaceFault::Memory);
-            }
+            self.held.insert(key, saved)?;
         }
         match mem::replace(&mut self.next_save, NextSave::Fine) {
             NextSave::Fine => Ok(()),

@@ -127,16 +127,11 @@ impl<A: Allocator + Copy> Store for MemStore<A> {
         let Some(bytes) = &self.held else {
             return Ok(None);
         };
-        match copy_of(self.alloc, bytes.as_slice(), limit) {
-            Ok(copy) => Ok(Some(copy)),
-            Err(AllocError) => Err(LoadFault::Memory),
-        }
+        Ok(Some(copy_of(self.alloc, bytes.as_slice(), limit)?))
     }
 
     fn replace(&mut self, bytes: &[u8]) -> Result<(), ReplaceFault> {
-        let Ok(copy) = Vec::from_slice(self.alloc, bytes) else {
-            return Err(ReplaceFault::Memory);
-        };
+        let copy = Vec::from_slice(self.alloc, bytes)?;
         if self.next_save != NextSave::FaultOld {
             self.held = Some(copy);
         }

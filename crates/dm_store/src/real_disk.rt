@@ -5,7 +5,7 @@ use crate::disk::{Disk, DiskFault, Folders};
 use crate::files::{create_anew, load_fault_of, load_file, name_new, sync_folder, sync_folder_of};
 use crate::key_files::key_of;
 use crate::store::LoadFault;
-use std::alloc::{AllocError, Allocator, Global};
+use std::alloc::{Allocator, Global};
 use std::fs::{OpenFile, read_dir};
 use std::io::{ErrorKind, Write};
 use std::rt::Files;
@@ -143,10 +143,7 @@ impl<R: Files, A: Allocator + Copy> Disk for RealDisk<'_, R, A> {
     }
 
     fn write(&mut self, name: &str, bytes: &[u8]) -> Result<(), DiskFault> {
-        let kept = match String::from_str(self.alloc, name) {
-            Ok(kept) => kept,
-            Err(AllocError) => return Err(DiskFault::Memory),
-        };
+        let kept = String::from_str(self.alloc, name)?;
         self.written = None;
         match write_file(self.runtime, name, bytes) {
             Ok(file) => {
@@ -208,9 +205,7 @@ impl<R: Files + Alloc + Clone + Drop, A: Allocator + Copy> Folders for RealDisk<
 
     fn settle_folder(&mut self, folder: &str) -> Result<(), DiskFault> {
         self.written = None;
-        match format!(in self.alloc; "{folder}/") {
-            Ok(path) => done(settled(sync_folder(self.runtime, path.as_str()))),
-            Err(AllocError) => Err(DiskFault::Memory),
-        }
+        let path = format!(in self.alloc; "{folder}/")?;
+        done(settled(sync_folder(self.runtime, path.as_str())))
     }
 }

@@ -19,7 +19,7 @@ pub enum RemoveFault {
 
 /// A place for one list of bytes under each key.
 pub trait StoreSet: Drop {
-    ghost use Rattle.dm_store.specs.Saved.{MayLackMemory, SavedSet, ListsKeys, LoadsKey, SavesKey, RemovesKey};
+    ghost use Rattle.dm_store.specs.Saved.{MayLackMemory, SavedSet, ListsKeys, LoadsKey, Settles, SavesKey, RemovesKey};
 
     /// What the keys and the bytes that a load gives are allocated in.
     type Memory: Allocator;
@@ -34,6 +34,11 @@ pub trait StoreSet: Drop {
     /// The bytes saved under a key, or their first `limit + 1` where they are longer, or `None` where nothing is saved.
     fn load(&mut self, key: u16, limit: usize) -> Result<Option<Vec<u8, Self::Memory>>, LoadFault>
         ensures loads { LoadsKey (λ bytes. bytes.items) (state self.old) key limit result (state self.new) };
+
+    /// Settles what the calls before have found, the keys and the bytes: no stop of the machine takes it back then.
+    /// Whoever answers by loads calls it once, after all of them.
+    fn settle(&mut self) -> Result<(), LoadFault>
+        ensures settles { Settles (state self.old) result (state self.new) };
 
     /// Puts the bytes in place of those saved under a key, if any.
     fn replace(&mut self, key: u16, bytes: &[u8]) -> Result<(), ReplaceFault>

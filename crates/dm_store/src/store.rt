@@ -2,7 +2,7 @@
 
 ghost use Rattle.std.specs.Prelude.{◌≡◌};
 
-use std::alloc::Allocator;
+use std::alloc::{AllocError, Allocator};
 use thiserror::Error;
 
 /// Why a load gave nothing.
@@ -16,6 +16,16 @@ pub enum LoadFault {
     Memory,
 }
 
+impl From<AllocError> for LoadFault {
+    ghost use Rattle.dm_store.specs.declared.store.LoadFault.TheVariants.{Memory};
+
+    ghost from_gives = { λ _ fault. fault ≡ Memory };
+
+    fn from(_: AllocError) -> Self {
+        LoadFault::Memory
+    }
+}
+
 /// Why a replace failed.
 #[derive(Clone, Copy, Debug, PartialEq, Eq, Error)]
 pub enum ReplaceFault {
@@ -25,6 +35,16 @@ pub enum ReplaceFault {
     /// There was no memory for the call, and the old bytes are held.
     #[error("out of memory")]
     Memory,
+}
+
+impl From<AllocError> for ReplaceFault {
+    ghost use Rattle.dm_store.specs.declared.store.ReplaceFault.TheVariants.{Memory};
+
+    ghost from_gives = { λ _ fault. fault ≡ Memory };
+
+    fn from(_: AllocError) -> Self {
+        ReplaceFault::Memory
+    }
 }
 
 /// A place for one list of bytes.

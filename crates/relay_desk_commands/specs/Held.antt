@@ -1,8 +1,7 @@
 -- What `held` prints: what the files of a desk hold, file by file, without a desk. It changes no file.
-use Rattle.std.specs.Prelude.{◌≡◌, ◌≤◌, ◌⊎◌, ◌||◌, ◌++◌, ◌+◌, ℕ, Bool, true, List, [], if◌then◌else◌}
-use Rattle.std.specs.Prelude.{Option, Some, None, Result, Ok, Err, is_err, IsOk, IsTrue, IsSomeAnd}
+use Rattle.std.specs.Prelude.{◌≡◌, ◌≤◌, ◌⊎◌, ◌||◌, ◌++◌, ◌+◌, ℕ, Bool, true, List, [], if◌then◌else◌, Option, Some, None, Result, Ok, Err, is_err, IsOk, IsTrue, IsSomeAnd}
 use Rattle.std.specs.FinMap as map
-use Rattle.dm_store.specs.Saved.{Saved, ListsKeys, LoadsOpen, SavedSet}
+use Rattle.dm_store.specs.Saved.{Saved, ListsKeys, LoadsOpen, SavedSet, Settles}
 use Rattle.dm_store.specs.declared.store.LoadFault.{LoadFault}
 use Rattle.dm_assembly_desk.specs.Documents.{Documents, Pages, summary}
 use Rattle.dm_assembly_desk.specs.Faults.{ask_fault_name, desk_fault_name, load_fault, move_fault_name}
@@ -14,7 +13,7 @@ use Rattle.dm_assembly_desk.specs.declared.fault.MoveFault.TheVariants as moves
 use Rattle.dm_assembly_desk.specs.declared.reply.Held.{Held}
 use Rattle.relay_streams.specs.Streams.{refused_line, AppendsPart, OutputView}
 use Rattle.relay_desk_commands.specs.Lines.{held_line, unsound_joint_line, unsound_line}
-use Rattle.relay_shared.specs.Command.{OnlyOutput, RefusesOnOutput, Tells}
+use Rattle.relay_shared.specs.Command.{OnlyOutput, RefusesOnOutput, Tells, TellsRefusal}
 use Rattle.relay_desk_commands.specs.Desks.{EndsOnId, OnDesk}
 
 -- ---- what is seen
@@ -91,11 +90,17 @@ pub data TellsHeld (set : SavedSet) (joint : SeenJoint) (old : OutputView) (stat
       → new.has_failed ≡ true → AppendsPart old.contents new.contents text → status ≡ 1
       → TellsHeld set joint old status new None
 
+-- and what was seen was settled; or it could not be, though all was well, and that was refused
+abbrev pub TellsSettled : SavedSet → SeenJoint → OutputView → ℕ → OutputView → Option ℕ → Type 0
+TellsSettled set joint old status new id = TellsHeld set joint old status new id
+    ⊎ ((mid : OutputView) × (why : LoadFault) × TellsHeld set joint old 0 mid id × Settles set (Err why) set
+    × TellsRefusal (move_fault_name (load_fault why)) mid status new)
+
 -- how `held` ends for an identification, or for all: it changes no file, and no other stream
 pub record EndsHeldOf (id : Option ℕ) (old : OnDesk) (status : ℕ) (new : OnDesk) : Type 0 where
   pub joint : SeenJoint
   pub sees : SeesJoint old.files.joint joint
-  pub told : TellsHeld old.files.set joint old.streams.output status new.streams.output id
+  pub told : TellsSettled old.files.set joint old.streams.output status new.streams.output id
   pub only : OnlyOutput old.streams new.streams
   pub same : new.files ≡ old.files
 

@@ -8,7 +8,7 @@ ghost use Rattle.dm_assembly_desk.specs.Opening.{IsFirstFrom};
 ghost use Rattle.relay_streams.specs.Streams.{OutputView};
 ghost use Rattle.relay_shared.specs.Command.{Puts};
 ghost use Rattle.relay_desk_commands.specs.Desks.{desk_at};
-ghost use Rattle.relay_desk_commands.specs.Held.{EndsHeld, SeenJoint, SeesJoint, SeesNumber, TellsHeld, documents_in, joint_line, seen_line};
+ghost use Rattle.relay_desk_commands.specs.Held.{EndsHeld, SeenJoint, SeesJoint, SeesNumber, TellsHeld, TellsSettled, documents_in, joint_line, seen_line};
 
 use crate::desk_opening::id_of;
 use crate::lines::{put_held, put_unsound, put_unsound_joint};
@@ -176,13 +176,31 @@ fn tell<T: StoreSet, W: Write>(
     }
 }
 
+// Settles what was seen, once after all files. If that fails, and all else was well, the last line is a refusal.
+fn settle_seen<T: StoreSet, W: Write>(set: &mut T, output: &mut Output<W>, status: u8) -> u8
+    ensures same { T.state set.new ≡ T.state set.old }
+    ensures tells { (joint : SeenJoint) (id : Option ℕ) (before : OutputView)
+        → TellsHeld (T.state set.old) joint before status output.old id
+        → TellsSettled (T.state set.old) joint before result output.new id }
+{
+    let settled = set.settle();
+    if status != 0 {
+        return status;
+    }
+    match settled {
+        Ok(()) => status,
+        Err(fault) => refuse(output, MoveFault::from(fault).name()),
+    }
+}
+
 /// Prints a line for each document of which a page is held, by rising identification: `IIII N complete`, or
 /// `IIII N lacks 3 7 12`, its identification, how many pages it has, and which of them are missing. With the text of an
 /// identification, as for `deliver`, it prints that line alone, or `refused NotHeld`.
 ///
 /// In the place of a file that can't be read stands `file NAME FAULT`, and the others are listed all the same; for the
-/// file of an older version that line is the first, and its name is `joint`. The exit status is then 1. No desk is
-/// opened, nothing is saved or moved, and one document is in memory at a time.
+/// file of an older version that line is the first, and its name is `joint`. The exit status is then 1. A last line is a
+/// refusal if a stop of the machine may take back what was seen. No desk is opened, nothing is saved or moved, and one
+/// document is in memory at a time.
 pub fn held_command<S: Store, T: StoreSet, R: Read, W: Write, E: Write>(
     store: S,
     set: T,
@@ -207,5 +225,6 @@ pub fn held_command<S: Store, T: StoreSet, R: Read, W: Write, E: Write>(
     let loaded = store.load(MOST_JOINT_FILE_BYTES);
     let joint = joint_in(&loaded);
     let status = tell(&mut set, &mut streams.output, &joint, id);
+    let status = settle_seen(&mut set, &mut streams.output, status);
     EndedDesk { status, store, set }
 }

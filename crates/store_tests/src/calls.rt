@@ -16,6 +16,7 @@ pub enum Call {
     LoadKey(usize),
     ReplaceKey,
     RemoveKey,
+    Settle,
     // The keys under a limit, and those that are wanted.
     Keys(usize, &'static [u16]),
 }
@@ -23,7 +24,7 @@ pub enum Call {
 impl Call {
     // Whether it saves nothing.
     pub fn is_load(self) -> bool {
-        matches!(self, Call::Load(_) | Call::LoadKey(_) | Call::Keys(_, _))
+        !matches!(self, Call::Replace | Call::ReplaceKey | Call::RemoveKey)
     }
 
     // What is answered if memory is refused after that many growths, the first of which is the folder's own path. A
@@ -113,6 +114,7 @@ fn of_set<A: Allocator + Copy>(
             Err(RemoveFault::Device) => "Device",
             Err(RemoveFault::Memory) => "Memory",
         },
+        Call::Settle => listed(set.settle().map(|()| Vec::new(memory)), &[]),
         Call::Keys(limit, wanted) => listed(set.keys(limit), wanted),
         _ => replaced(StoreSet::replace(&mut set, 1, b"three")),
     }

@@ -23,8 +23,10 @@ type Case = (Call, Text, Text, Text, Steps, usize);
 #[rattlefmt::skip]
 const CASES: &[Case] = &[
     (Call::Load(9), "one", "one", "one", Steps::Load, 9),
-    (Call::LoadKey(9), "one", "one", "one", Steps::Load, 9),
+    (Call::LoadKey(9), "one", "one", "one", Steps::LoadKey, 9),
     (Call::Keys(9, &[1]), "one", "one", "done", Steps::Keys, 9),
+    (Call::Settle, "one", "one", "done", Steps::Settle, 9),
+    (Call::Settle, "nothing", "nothing", "done", Steps::Any, 9),
     (Call::Load(usize::MAX), "one", "one", "one", Steps::Any, 9),
     (Call::Load(2), "one", "one", "one", Steps::Any, 9),
     (Call::Load(1), "one", "one", "on", Steps::Any, 9),

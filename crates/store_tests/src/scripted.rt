@@ -16,9 +16,10 @@ const MOST_BYTES: usize = 2;
 #[derive(Clone, Copy, PartialEq, Eq)]
 pub enum Steps {
     Any,
-    // A load sees what is there before it opens it and after. It takes two bytes at a time, and then none. Then it
-    // syncs the folder.
+    // A load sees what is there before it opens it and after. It takes two bytes at a time, and then none. Then a
+    // store syncs the folder; a set does that in a call of its own.
     Load,
+    LoadKey,
     LoadNothing,
     // The new bytes go to a file beside, two at a time. It is synced, and takes the name; then the folder is synced.
     Replace,
@@ -27,8 +28,9 @@ pub enum Steps {
     Remove,
     // If neither the file nor its folder is there, the folder above is synced.
     RemoveNothing,
-    // The names are taken until there are none. Then the folder is synced.
+    // The names are taken until there are none.
     Keys,
+    Settle,
 }
 
 impl Steps {
@@ -38,6 +40,7 @@ impl Steps {
             Steps::Load => {
                 "look pages/0001, open pages/0001, look, read, read, read, open above/pages/, sync"
             }
+            Steps::LoadKey => "look pages/0001, open pages/0001, look, read, read, read",
             Steps::LoadNothing => "look pages/0001",
             Steps::Replace => {
                 "open pages/0001.new, write, write, write, sync, rename pages/0001.new, \
@@ -49,7 +52,8 @@ impl Steps {
             }
             Steps::Remove => "remove pages/0001, open above/pages/, sync",
             Steps::RemoveNothing => "remove pages/0001, open above/pages/, open above/, sync",
-            Steps::Keys => "list above/pages/, names, names, open above/pages/, sync",
+            Steps::Keys => "list above/pages/, names, names",
+            Steps::Settle => "open above/pages/, sync",
         }
     }
 }

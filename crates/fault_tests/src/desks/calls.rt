@@ -56,8 +56,8 @@ const ROWS: &[Row] = &[
 // The rows that save, in order.
 const SAVES: [usize; 5] = [0, 1, 5, 6, 7];
 
-// The device calls of opening: the keys, and a load of one file.
-const OPENING: u32 = 2;
+// The device calls of opening: the keys, a load of one file, and the settle of what was found.
+const OPENING: u32 = 3;
 
 // More growths than all calls together ask for, and more device calls than they make.
 const MANY: u32 = 3000;
@@ -270,7 +270,8 @@ fn each_growth_is_refused(rt: HostRuntime) {
     assert!(rt; forget == 0 && new > 0, "a forget takes no memory");
 }
 
-// Memory for what is held is asked for last: a damaged file is named first.
+// Memory for what is held is asked for last, and a set is settled after all loads: a damaged file is named first, also
+// over a set that stops right after its load.
 #[test]
 fn damage_is_named_where_memory_is_refused(rt: HostRuntime) {
     for passes in 0..=MANY {
@@ -279,7 +280,7 @@ fn damage_is_named_where_memory_is_refused(rt: HostRuntime) {
         let mut set = MemSet::new(rt.alloc());
         assert!(rt; set.replace(0, WHOLE).is_ok() && set.replace(9, b"DMPG\x02").is_ok());
         let memory = Refusing::new(rt.alloc(), u64::from(passes));
-        let name = match Desk::open(&memory, set, 4) {
+        let name = match Desk::open(&memory, FuseSet::new(set, 3, Kept::Old), 4) {
             Ok(_) => "opened",
             Err(refused) => refused.fault.name(),
         };

@@ -14,10 +14,10 @@ type FusedStore<'a> = FuseStore<MemStore<&'a Memory>>;
 
 type FusedSet<'a> = FuseSet<MemSet<&'a Memory>>;
 
-// The device calls of the old store, a load and a save, and of the set, the keys and two saves.
+// The device calls of the old store, a load and a save, and of the set, the keys, their settle and two saves.
 const OLD_CALLS: u32 = 2;
 
-const SET_CALLS: u32 = 3;
+const SET_CALLS: u32 = 4;
 
 // More growths than a move asks for, and more device calls than it makes.
 const MANY: u32 = 1000;

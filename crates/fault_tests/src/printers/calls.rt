@@ -117,6 +117,7 @@ fn created<'a>(
         Err(refused) => refused,
     };
     assert!(rt; !is_saved || refused.fault == CreateFault::Device);
+    assert!(rt; refused.store.spent() == (refused.fault == CreateFault::Device));
     let store = refused.store.into_inner();
     assert!(rt; store.content() == is_saved.then_some(CREATED));
     match Printer::create(memory, FuseStore::new(store, MANY, Kept::Old), 0, RANGE) {

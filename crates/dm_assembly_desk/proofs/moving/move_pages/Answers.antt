@@ -1,5 +1,4 @@
-use Rattle.std.proofs.Common.{arith}
-use Rattle.std.proofs.Common.{◌≡◌, ◌∙◌, ◌+◌, List, ℕ, take, Some, Result, Ok, Err, ap, sym, subst, refl}
+use Rattle.std.proofs.Common.{arith, ◌≡◌, ◌∙◌, ◌+◌, List, ℕ, take, Some, Result, Ok, Err, ap, sym, subst, refl}
 use Rattle.std.specs.Prelude.{IsTrue, option_map}
 use Rattle.std.specs.FinMap.{keys as map_keys, entries as map_entries}
 use Rattle.std.proofs.lemmas.Result.{err_from_is_err_and}
@@ -66,6 +65,20 @@ returns-in_err-keys g c =
     (λ e. c.in_err-keys.ensures.lists.device (ap Err e))
     (λ e. c.in_err-keys.ensures.lists.memory (ap Err e))) c.load.ensures.loads.same c.keys.ensures.lists.same)
 
+pub returns-in_err-settle : goal.returns-in_err-settle
+returns-in_err-settle g c =
+    let loaded : IsTrue (g.O.Store.state c.args.old.now).is_honest →
+    Some c.deref.result.now ≡ option_map (take (42636295 + 1)) (g.O.Store.state c.args.old.now).content =
+    λ honest. ap (λ (bs : List ℕ). Some bs) c.deref.ensures.value ∙
+    (rw c.in-Some.is at (c.in_ok-bytes.ensures.loads.saved honest)) in
+    let settles = rw c.keys.ensures.lists.same at c.in_err-settle.ensures.settles in
+    let answered = err_from_is_err_and c.from_residual-in_err-settle.result c.from_residual-in_err-settle.ensures.1 in
+    ends_so c.from_residual-in_err-settle.result answered.0 _ answered.1 answered.2
+    (early (no_keys (g.O.Store.state c.args.old.now) (g.S.StoreSet.state c.args.set.now) c.deref.result.now loaded
+    c.in_ok-count.count c.in_ok-count.entries.now c.in_ok-count.ensures.found c.if-count-eq0.false
+    c.in_err-settle.field-0.0 (λ e. settles.device (ap Err e)) (λ e. settles.memory (ap Err e)))
+    c.load.ensures.loads.same (c.settle.ensures.settles.same ∙ c.keys.ensures.lists.same))
+
 pub returns-in_err-written : goal.returns-in_err-written
 returns-in_err-written g c =
     let old : Saved = g.O.Store.state c.args.old.now in
@@ -81,7 +94,7 @@ returns-in_err-written g c =
     let reads = c.in_ok-count.ensures.found in
     let written : WritesAll set (lacking ks (map_entries reads.held)) (Err c.in_err-written.field-0.0) after =
     subst (λ (s : SavedSet). WritesAll s (lacking ks (map_entries reads.held)) (Err c.in_err-written.field-0.0) after)
-    c.keys.ensures.lists.same (c.in_err-written.ensures (map_entries reads.held) reads.read) in
+    (c.settle.ensures.settles.same ∙ c.keys.ensures.lists.same) (c.in_err-written.ensures (map_entries reads.held) reads.read) in
     let answered = err_from_is_err_and c.from_residual-in_err-written.result c.from_residual-in_err-written.ensures.1 in
     ends_so c.from_residual-in_err-written.result answered.0 _ answered.1 answered.2
     (as_it_was c.load.ensures.loads.same
@@ -103,7 +116,7 @@ returns-in_err-replace g c =
     let reads = c.in_ok-count.ensures.found in
     let written : WritesAll set (lacking ks (map_entries reads.held)) (Ok c.in_ok-written.written) after =
     subst (λ (s : SavedSet). WritesAll s (lacking ks (map_entries reads.held)) (Ok c.in_ok-written.written) after)
-    c.keys.ensures.lists.same (c.in_ok-written.ensures (map_entries reads.held) reads.read) in
+    (c.settle.ensures.settles.same ∙ c.keys.ensures.lists.same) (c.in_ok-written.ensures (map_entries reads.held) reads.read) in
     let last : Saved = g.O.Store.state c.replace.new.self in
     let replaced : Replaces old no_documents (Err c.in_err-replace.field-0.0) last =
     subst (λ (s : Saved). Replaces s no_documents (Err c.in_err-replace.field-0.0) last) c.load.ensures.loads.same
@@ -130,7 +143,7 @@ returns g c =
     let reads = c.in_ok-count.ensures.found in
     let written : WritesAll set (lacking ks (map_entries reads.held)) (Ok c.in_ok-written.written) after =
     subst (λ (s : SavedSet). WritesAll s (lacking ks (map_entries reads.held)) (Ok c.in_ok-written.written) after)
-    c.keys.ensures.lists.same (c.in_ok-written.ensures (map_entries reads.held) reads.read) in
+    (c.settle.ensures.settles.same ∙ c.keys.ensures.lists.same) (c.in_ok-written.ensures (map_entries reads.held) reads.read) in
     let last : Saved = g.O.Store.state c.replace.new.self in
     let replaced : Replaces old no_documents (Ok tt) last =
     subst (λ (s : Saved). Replaces s no_documents (Ok tt) last) c.load.ensures.loads.same

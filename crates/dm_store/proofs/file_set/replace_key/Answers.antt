@@ -16,9 +16,9 @@ returns-clause-refused g c = λ is each.
 
 pub returns-clause-saves : goal.returns-clause-saves
 returns-clause-saves g c = λ honest.
-    let path = c.as_str-2.ensures.value ∙ c.in-Ok.ensures in
-    let draft = c.as_str-3.ensures.value ∙ c.in-Ok-new_path_of.ensures
-    ∙ ap draft_of (c.as_str.ensures.value ∙ c.in-Ok.ensures) in
+    let path = c.as_str-2.ensures.value ∙ c.in_ok-path.ensures in
+    let draft = c.as_str-3.ensures.value ∙ c.in_ok-new_path.ensures
+    ∙ ap draft_of (c.as_str.ensures.value ∙ c.in_ok-path.ensures) in
     saves_on _ _ _ _ _ _ c.replace_file.result c.replace_file.result (λ ok. ok) (λ err. err)
     (draft_apart c.args.folder.now c.args.key c.args.key) (λ other _. c.make_folder.ensures.kept other)
     (rw (path, draft) at (c.replace_file.ensures.saves (subst IsTrue (sym c.make_folder.ensures.honesty) honest)))

@@ -10,8 +10,9 @@ returns-in-None-id_of g c = rw (c.in-Some.is, ← c.streams.view_is)
 pub returns : goal.returns
 returns g c =
     let sees = c.joint_in-joint.ensures _ _ c.load-loaded.ensures.loads in
-    let tells = c.tell-status.ensures.tells in
-    rw (c.load-loaded.ensures.loads.same, c.tell-status.ensures.same, ← c.streams.view_is) (elim c.match-text.branch [
+    let settled = rw c.tell-status.ensures.same at c.settle_seen-status.ensures.tells in
+    let tells = settled _ _ _ c.tell-status.ensures.tells in
+    rw (c.load-loaded.ensures.loads.same, c.settle_seen-status.ensures.same, c.tell-status.ensures.same, ← c.streams.view_is) (elim c.match-text.branch [
       | in-None w ↦ rw w.in-None.is
           record { joint = _; sees = sees; told = rw w.id-is at tells; only = refl; same = refl }
       | in-Some+in-Some-id_of w ↦ rw w.in-Some.is (of_id w.in-Some-id_of.id w.in-Some-id_of.ensures

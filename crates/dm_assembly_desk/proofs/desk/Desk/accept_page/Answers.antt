@@ -1,5 +1,4 @@
-use Rattle.std.proofs.Common.{rules}
-use Rattle.std.proofs.Common.{◌≡◌, ◌∙◌, ℕ, ◌-◌, ◌<◌, ◌≤◌, map, take, Some, None, Ok, Err, ap, sym, subst, arith, replicate}
+use Rattle.std.proofs.Common.{rules, ◌≡◌, ◌∙◌, ℕ, ◌-◌, ◌<◌, ◌≤◌, map, take, Some, None, Ok, Err, ap, sym, subst, arith, replicate}
 use Rattle.std.specs.Prelude.{Result, slice_set}
 use Rattle.dm_append_label.specs.Labels.{PageView}
 use Rattle.dm_assembly_desk.specs.Documents.{Pages, lent_bytes, IsEntry, DeskView}

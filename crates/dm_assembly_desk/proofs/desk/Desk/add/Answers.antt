@@ -1,5 +1,4 @@
-use Rattle.std.proofs.Common.{arith}
-use Rattle.std.proofs.Common.{◌≡◌, ◌≢◌, ◌∙◌, ℕ, false, length, map, Result, Ok, Err, refl, ap, sym, subst, rules}
+use Rattle.std.proofs.Common.{arith, ◌≡◌, ◌≢◌, ◌∙◌, ℕ, false, length, map, Result, Ok, Err, refl, ap, sym, subst, rules}
 use Rattle.std.specs.FinMap.{insert}
 use Rattle.std.proofs.lemmas.List.{length-map}
 use Rattle.dm_store.specs.Saved.{Refused, outcome_of}

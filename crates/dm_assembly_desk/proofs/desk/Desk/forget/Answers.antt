@@ -1,5 +1,4 @@
-use Rattle.std.proofs.Common.{arith}
-use Rattle.std.proofs.Common.{◌≡◌, ℕ, true, Result, Ok, Err, refl, sym, subst, rules}
+use Rattle.std.proofs.Common.{arith, ◌≡◌, ℕ, true, Result, Ok, Err, refl, sym, subst, rules}
 use Rattle.std.specs.Prelude.{IsSome}
 use Rattle.std.specs.FinMap.{get, remove}
 use Rattle.dm_store.specs.Saved.{Refused, SavedSet, RemovesKey, outcome_of_remove}

@@ -1,5 +1,4 @@
-use Rattle.std.proofs.Common.{arith}
-use Rattle.std.proofs.Common.{◌≡◌, ◌∙◌, ◌<◌, ℕ, true, None, Ok, Err, refl, ap, sym, subst, rules}
+use Rattle.std.proofs.Common.{arith, ◌≡◌, ◌∙◌, ◌<◌, ℕ, true, None, Ok, Err, refl, ap, sym, subst, rules}
 use Rattle.std.specs.FinMap.{get, insert, len}
 use Rattle.dm_store.specs.Saved.{Done, Faulted, Refused, SavedSet, SavesKey}
 use Rattle.dm_store.specs.declared.store.ReplaceFault.TheVariants as replacing
