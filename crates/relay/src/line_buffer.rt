@@ -12,7 +12,7 @@ use std::io::{Error, ErrorKind, Write};
 /// mix. Once a write has failed nothing goes out any more, so what is told as not written never comes later.
 #[derive(Drop)]
 pub(crate) struct LineBuffer<W, A: Allocator = Global> {
-    writer: W,
+    pub(crate) writer: W,
     held: Vec<u8, A>,
     least: usize,
     /// Whether a write has failed.

@@ -68,7 +68,7 @@ fn disk_of<'a, R: AllocGlobal + Files>(rt: &'a R, named: Named) -> RealDisk<'a, 
 struct Work<'a, R, W> {
     rt: &'a R,
     command: Command<'a>,
-    // The file of the images that it is over, if one was named.
+    // The file of the images that it is over, if one was named and not yet noted.
     images: Option<&'a str>,
     output: LineBuffer<W>,
 }
@@ -113,10 +113,9 @@ impl<'a, R: AllocGlobal + Input + Eprint + Files<File = File> + Clone, W: Write>
     // Does the command over a store and a set, and lets its output out.
     fn do_over<S: Store, T: StoreSet, I: Read>(&mut self, store: S, set: T, reader: &mut I) -> u8 {
         let (rt, alloc) = (self.rt, self.rt.alloc());
-        let status = {
-            let mut streams = Streams::new(reader, &mut self.output, errors_of(rt, self.images));
-            do_command(alloc, store, set, &mut streams, self.command).status
-        };
+        let mut streams = Streams::new(reader, &mut self.output, errors_of(rt, self.images));
+        let status = do_command(alloc, store, set, &mut streams, self.command).status;
+        self.images = streams.errors.into_writer().writer.source;
         self.finish(status)
     }
 
@@ -184,7 +183,11 @@ impl<'a, R: AllocGlobal + Input + Eprint + Files<File = File> + Clone, W: Write>
             };
             self.do_on(file)?
         };
-        if status != 0 && !self.output.has_failed && matches!(self.command, Command::Read) {
+        if status != 0
+            && !self.output.has_failed
+            && matches!(self.command, Command::Read)
+            && let Some(images) = self.images
+        {
             note(self.rt, images, "has images that are refused");
         }
         Ok(status)

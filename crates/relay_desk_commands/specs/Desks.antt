@@ -1,8 +1,7 @@
 -- What `deliver`, `export`, `forget`, `import` and `scan` do to the files of a desk, and what they write. `scan` prints
 -- a line for each image, in order, up to the end of the input, a plain image, bytes that are no image, a save that
 -- failed, or the greatest number of images.
-use Rattle.std.specs.Prelude.{◌≡◌, ◌<◌, ℕ, List, [], ◌∷◌, ◌++◌, codes, Option, None, Some, IfSome, Result, Ok, Err, MatchResult, Bool, true, false}
-use Rattle.std.specs.Fmt.{decimal}
+use Rattle.std.specs.Prelude.{◌≡◌, ◌<◌, ℕ, List, [], Option, None, IfSome, Result, Ok, Err, MatchResult, Bool, true, false}
 use Rattle.std.specs.FinMap as map
 use Rattle.hex.specs.Hex.{decode_sized}
 use Rattle.dm_store.specs.Saved.{Saved, SavedSet}
@@ -17,13 +16,12 @@ use Rattle.dm_assembly_desk.specs.declared.fault.DeskFault.{DeskFault}
 use Rattle.dm_assembly_desk.specs.declared.fault.MoveFault.{MoveFault}
 use Rattle.relay_streams.specs.Streams.{input_fault_name, OutputView, ReadsFirst}
 use Rattle.relay_streams.specs.declared.fault.InputFault.{InputFault}
-use Rattle.relay_streams.specs.declared.fault.WriteFault.{WriteFault}
 use Rattle.relay_desk_commands.specs.declared.documents.Given.{Given}
 use Rattle.relay_desk_commands.specs.declared.documents.Given.TheVariants.{Document, File}
 use Rattle.relay_desk_commands.specs.declared.import.TheConstants.{IMPORT_BYTES}
-use Rattle.relay_shared.specs.Lines.{accepted_line, id_text, imported_line}
+use Rattle.relay_shared.specs.Lines.{accepted_line, imported_line}
 use Rattle.relay_desk_commands.specs.Lines.{forgotten_line}
-use Rattle.relay_shared.specs.Command.{HasInputFault, refusal_name, LeavesErrors, OnlyOutput, Puts, RefusesOnErrors, RefusesOnOutput, StreamsView, TellsAnswer, TellsBytes, TellsRefusal}
+use Rattle.relay_shared.specs.Command.{HasInputFault, refusal_name, LeavesErrors, OnlyOutput, RefusesOnErrors, RefusesOnOutput, StreamsView, TellsAnswer, TellsBytes, TellsRefusal}
 use Rattle.relay_shared.specs.declared.command.Refusal.TheVariants as refusals
 use Rattle.dm_finder_frame.specs.Frame.{GridView}
 use Rattle.dm_pbm_io.specs.FaultNames.{shape_fault_name}
@@ -35,7 +33,7 @@ use Rattle.dm_assembly_desk.specs.declared.reply.Accepted.{Accepted}
 use Rattle.dm_assembly_desk.specs.declared.reply.Imported.{Imported}
 use Rattle.dm_append_label.specs.declared.fault.LabelFault.TheVariants.{Border, Block}
 use Rattle.dm_assembly_desk.specs.declared.fault.ScanFault.TheVariants.{Label}
-use Rattle.relay_shared.specs.Cure.{EndsNote}
+use Rattle.relay_shared.specs.Cure.{EndsNote, NotesImage}
 use Rattle.relay_shared.specs.EachImage.{ImageCommand, Said, TellsImages, progress_at, refusal_of}
 
 -- ---- a desk's files
@@ -165,22 +163,10 @@ pub record AtDesk : Type 0 where
   pub desk : DeskView
   pub errors : OutputView
 
--- `relay: image`, its number, the identification of its label, if one is known, the name of its refusal, and the end
-abbrev pub image_note : ℕ → Option ℕ → List ℕ → List ℕ → List ℕ
-image_note number None name ending =
-    codes "relay: image " ++ (decimal number ++ (codes ": " ++ (name ++ (ending ++ 10 ∷ []))))
-image_note number (Some id) name ending = codes "relay: image " ++
-    (decimal number ++ (codes " (" ++ (id_text id ++ (codes "): " ++ (name ++ (ending ++ 10 ∷ []))))))
-
--- this was noted on the standard error, or it has failed, with a part of it
-abbrev pub Notes : ℕ → Option ℕ → List ℕ → List ℕ → OutputView → OutputView → Type 0
-Notes number id name ending old new =
-    (put : Result (Unit {0}) WriteFault) × Puts (image_note number id name ending) old put new
-
 -- the refusal of a picture was noted, and, if it is of the image itself, maybe a change after which the image is read
 abbrev pub NotesPicture : Bool → Picture → ℕ → Option ℕ → List ℕ → OutputView → OutputView → Type 0
 NotesPicture of_image p number id name old new =
-    (ending : List ℕ) × EndsNote of_image p ending × Notes number id name ending old new
+    (ending : List ℕ) × EndsNote of_image p ending × NotesImage number id name ending old new
 
 -- the refusal is of the image itself, and not of what its label says, nor of the desk
 abbrev pub is_of_image : ScanFault → Bool
@@ -220,7 +206,7 @@ scan_images A = record {
   State = AtDesk;
   Answers = λ number before p said after. ScansPicture A number p before said after;
   SeesUnread = λ number before name after.
-      (after.desk ≡ before.desk) × Notes number None name [] before.errors after.errors;
+      (after.desk ≡ before.desk) × NotesImage number None name [] before.errors after.errors;
   has_ended = λ at. at.desk.is_failed;
 }
 

@@ -4,7 +4,7 @@ ghost use Rattle.std.specs.Prelude.{◌≡◌, false, true, IfSome, MatchResult}
 ghost use Rattle.std.specs.Io.KnownBytes.{Appends};
 ghost use Rattle.dm_assembly_desk.specs.Documents.{KeepsPages, IsInOrder};
 ghost use Rattle.relay_streams.specs.Streams.{AppendsPart, refused_line};
-ghost use Rattle.relay_desk_commands.specs.Desks.{desk_at, EndsScan, IsIdOn, Notes, scan_images};
+ghost use Rattle.relay_desk_commands.specs.Desks.{desk_at, EndsScan, IsIdOn, scan_images};
 
 use crate::desk_opening::{OpenDesk, open_desk};
 use dm_append_label::LabelFault::{Block, Border};
@@ -13,10 +13,9 @@ use dm_assembly_desk::{Desk, ScanFault};
 use dm_finder_frame::Grid;
 use dm_pbm_io::{Image, ShapeFault, grid_of};
 use dm_store::{Store, StoreSet};
-use itoa::Buffer;
 use relay_shared::{
-    Answered, DONE, EndedDesk, OnImages, REFUSED, Streams, each_image, id_digits, note_ending,
-    put_accepted,
+    Answered, DONE, EndedDesk, OnImages, REFUSED, Streams, each_image, note_ending, put_accepted,
+    put_image_note,
 };
 use relay_streams::{Output, WriteFault};
 use std::alloc::Allocator;
@@ -30,29 +29,6 @@ fn id_of_label<A: Allocator + Copy>(alloc: A, grid: &Grid<A>) -> Option<FileId>
         Ok(opened) => Some(opened.page.id()),
         Err(_) => None,
     }
-}
-
-// Notes of which image a refusal is, and of which label. If the standard error fails, the scan goes on.
-fn put_note<E: Write>(
-    errors: &mut Output<E>,
-    number: u32,
-    id: Option<FileId>,
-    name: &str,
-    ending: &str,
-)
-    ensures { Notes number id name.now ending.now errors.old errors.new }
-{
-    let start: &[u8] = b"relay: image ";
-    let mut digits = Buffer::new();
-    let number = digits.format(number).as_bytes();
-    let (name, ending) = (name.as_bytes(), ending.as_bytes());
-    let _ = match id {
-        Some(id) => {
-            let id = id_digits(id);
-            errors.put_all(&[start, number, b" (", &id, b"): ", name, ending, b"\n"])
-        }
-        None => errors.put_all(&[start, number, b": ", name, ending, b"\n"]),
-    };
 }
 
 // Writes the line of a refusal, after which the scan may have ended.
@@ -98,7 +74,7 @@ impl<T: StoreSet, A: Allocator + Copy> OnImages<A> for Scanning<T, A> {
             Err(shape) => {
                 let name = shape.name();
                 let ending = note_ending(alloc, image, matches!(shape, ShapeFault::Shape));
-                put_note(errors, number, None, name, &ending);
+                put_image_note(errors, number, None, name, &ending);
                 return put_refused(output, name, false);
             }
         };
@@ -114,14 +90,14 @@ impl<T: StoreSet, A: Allocator + Copy> OnImages<A> for Scanning<T, A> {
                 let of_image = matches!(fault, ScanFault::Label(Border { .. }))
                     | matches!(fault, ScanFault::Label(Block { .. }));
                 let ending = note_ending(alloc, image, of_image);
-                put_note(errors, number, id, name, &ending);
+                put_image_note(errors, number, id, name, &ending);
                 put_refused(output, name, matches!(fault, ScanFault::Save))
             }
         }
     }
 
     fn see_unread<E: Write>(&mut self, errors: &mut Output<E>, number: u32, name: &str) {
-        put_note(errors, number, None, name, "");
+        put_image_note(errors, number, None, name, "");
     }
 
     ghost keeps_itself = { λ now errors. ((λ id m bytes held. held), (λ order. order)) };

@@ -1,5 +1,6 @@
--- How a refused image would be read if it were changed, and what a note says of that: this project's own rule.
-use Rattle.std.specs.Prelude.{◌≡◌, ◌⊎◌, ℕ, ◌+◌, ◌*◌, ◌-◌, ◌/◌, ◌%◌, ◌==◌, Bool, true, false, if◌then◌else◌, List, [], ◌∷◌, ◌++◌, codes, map, slice_index_or}
+-- What a note says of a refused image: which it is, why it was refused, and how it would be read if it were changed. What
+-- is tried, and what the note says, is this project's own rule.
+use Rattle.std.specs.Prelude.{◌≡◌, ◌⊎◌, ℕ, ◌+◌, ◌*◌, ◌-◌, ◌/◌, ◌%◌, ◌==◌, Bool, true, false, if◌then◌else◌, List, [], ◌∷◌, ◌++◌, codes, map, slice_index_or, None, Option, Some, Result}
 use Rattle.std.specs.Bool.{xor}
 use Rattle.std.specs.Fmt.{decimal}
 use Rattle.std.specs.List.{range_with_len}
@@ -7,6 +8,10 @@ use Rattle.dm_size.specs.Sizes as sizes
 use Rattle.dm_finder_frame.specs.Frame.{GridView}
 use Rattle.dm_pbm_io.specs.Image.{Picture}
 use Rattle.dm_symbol.specs.Correction.{CorrectedView, IsCorrectedAs}
+use Rattle.relay_streams.specs.Streams.{OutputView}
+use Rattle.relay_streams.specs.declared.fault.WriteFault.{WriteFault}
+use Rattle.relay_shared.specs.Command.{Puts}
+use Rattle.relay_shared.specs.Lines.{id_text}
 use Rattle.relay_shared.specs.declared.cure.Cure.{Cure}
 
 -- The place, in an image of this width, of the pixel that comes to row r and column c, of which `last` is the last: each
@@ -41,3 +46,20 @@ cure_text cure =
 abbrev pub EndsNote : Bool → Picture → List ℕ → Type 0
 EndsNote is_of_image p ending =
     (ending ≡ []) ⊎ ((is_of_image ≡ true) × (cure : Cure) × IsCure p cure × (ending ≡ cure_text cure))
+
+-- `relay: image`, its number, the identification of its label, if one is known, the name of its refusal, and the end
+abbrev pub image_note : ℕ → Option ℕ → List ℕ → List ℕ → List ℕ
+image_note number None name ending =
+    codes "relay: image " ++ (decimal number ++ (codes ": " ++ (name ++ (ending ++ 10 ∷ []))))
+image_note number (Some id) name ending = codes "relay: image " ++
+    (decimal number ++ (codes " (" ++ (id_text id ++ (codes "): " ++ (name ++ (ending ++ 10 ∷ []))))))
+
+-- this was noted on the standard error, or it has failed, with a part of it
+abbrev pub NotesImage : ℕ → Option ℕ → List ℕ → List ℕ → OutputView → OutputView → Type 0
+NotesImage number id name ending old new =
+    (put : Result (Unit {0}) WriteFault) × Puts (image_note number id name ending) old put new
+
+-- Nothing was noted of a refused picture, or, if the refusal is of the image itself, a change after which it is read.
+abbrev pub NotesChange : Bool → Picture → ℕ → List ℕ → OutputView → OutputView → Type 0
+NotesChange of_image p number name old new = (new ≡ old)
+    ⊎ ((of_image ≡ true) × (cure : Cure) × IsCure p cure × NotesImage number None name (cure_text cure) old new)

@@ -1,14 +1,20 @@
-//! How a refused image would be read, where another program has turned, mirrored, inverted or enlarged it.
+//! Notes of refused images: which it is, and how it would be read, where another program has turned, mirrored, inverted
+//! or enlarged it.
 
 ghost use Rattle.std.specs.Prelude.{◌≡◌, ◌<◌, ◌≤◌, IfOk, IfSome, string_bytes};
 ghost use Rattle.dm_pbm_io.specs.Image.{picture};
-ghost use Rattle.relay_shared.specs.Cure.{cure_text, EndsNote, IsCure, place_before};
+ghost use Rattle.relay_shared.specs.Cure.{cure_text, EndsNote, IsCure, NotesImage, place_before};
 
+use crate::lines::id_digits;
+use dm_append_label::FileId;
 use dm_finder_frame::Grid;
 use dm_pbm_io::Image;
 use dm_size::Size;
 use dm_symbol::{Corrected, correct_grid};
+use itoa::Buffer;
+use relay_streams::Output;
 use std::alloc::{AllocError, Allocator};
+use std::io::Write;
 
 // How an image is changed: reduced, mirrored, turned clockwise and inverted.
 #[derive(Clone, Copy)]
@@ -82,4 +88,28 @@ pub fn note_ending<A: Allocator + Copy>(alloc: A, image: &Image<A>, is_of_image:
         }
     }
     String::new(alloc)
+}
+
+/// Notes of which image a refusal is, from 1, and of which label, if one is known. If the standard error fails, nobody
+/// is told: the command goes on.
+pub fn put_image_note<E: Write>(
+    errors: &mut Output<E>,
+    number: u32,
+    id: Option<FileId>,
+    name: &str,
+    ending: &str,
+)
+    ensures { NotesImage number id name.now ending.now errors.old errors.new }
+{
+    let start: &[u8] = b"relay: image ";
+    let mut digits = Buffer::new();
+    let number = digits.format(number).as_bytes();
+    let (name, ending) = (name.as_bytes(), ending.as_bytes());
+    let _ = match id {
+        Some(id) => {
+            let id = id_digits(id);
+            errors.put_all(&[start, number, b" (", &id, b"): ", name, ending, b"\n"])
+        }
+        None => errors.put_all(&[start, number, b": ", name, ending, b"\n"]),
+    };
 }

@@ -2,7 +2,7 @@
 -- image, or the greatest number of images. What a symbol carries is the standard's (ISO/IEC 16022:2006, 5.2 and 5.6,
 -- Annexes A, E and F), how images follow one another Netpbm's, and where reading ends and what a line shows this
 -- project's own rule.
-use Rattle.std.specs.Prelude.{ℕ, List, [], ◌∷◌, ◌++◌, codes, ◌≡◌, ◌≢◌, false, Err}
+use Rattle.std.specs.Prelude.{ℕ, List, [], ◌∷◌, ◌++◌, codes, ◌≡◌, ◌≢◌, Bool, false, true, Err}
 use Rattle.std.specs.Fmt.{decimal}
 use Rattle.hex.specs.Hex.{encode_lower}
 use Rattle.dm_append_label.specs.Labels.{PageView, id_words, head_at}
@@ -17,10 +17,12 @@ use Rattle.dm_symbol.specs.Correction.{CorrectsGrid, IsReadAs, data_of, words_of
 use Rattle.dm_symbol.specs.declared.fault.SymbolFault.{SymbolFault}
 use Rattle.dm_append_label.specs.Opening.{symbol_fault, OpensAs, ReadsPage}
 use Rattle.dm_append_label.specs.declared.fault.LabelFault.{LabelFault}
-use Rattle.dm_append_label.specs.declared.fault.LabelFault.TheVariants.{NotAppended}
+use Rattle.dm_append_label.specs.declared.fault.LabelFault.TheVariants.{Block, Border, NotAppended}
 use Rattle.dm_pbm_io.specs.Image.{HasShape, IsGridInside, Picture}
 use Rattle.relay_shared.specs.EachImage.{ImageCommand, Said, TellsImages, progress_at, refusal_of}
-use Rattle.relay_shared.specs.Command.{LeavesErrors, StreamsView}
+use Rattle.relay_shared.specs.Command.{StreamsView}
+use Rattle.relay_shared.specs.Cure.{NotesChange}
+use Rattle.relay_streams.specs.Streams.{OutputView}
 use Rattle.relay_symbol_commands.specs.Refusals.{read_refusal_name}
 use Rattle.relay_symbol_commands.specs.declared.refusal.ReadRefusal.{ReadRefusal}
 use Rattle.relay_symbol_commands.specs.declared.refusal.ReadRefusal.TheVariants.{Shape, Label, Text, Memory}
@@ -74,27 +76,38 @@ pub data RefusesPicture (p : Picture) : ReadRefusal → Type 0 where
   grid : {refusal : ReadRefusal} (grid : GridView) → HasShape p → IsGridInside p grid → RefusesGrid grid refusal
       → RefusesPicture p refusal
 
--- what is said of a picture
-pub data PrintsPicture (p : Picture) : Said → Type 0 where
-  read : {line : List ℕ} (grid : GridView) → HasShape p → IsGridInside p grid → HasLine grid line →
-      PrintsPicture p (record { line = line; refused = false })
-  refused : (refusal : ReadRefusal) → RefusesPicture p refusal →
-      PrintsPicture p (refusal_of (read_refusal_name refusal))
+-- the line of a picture is that of its grid
+abbrev pub HasPictureLine : Picture → List ℕ → Type 0
+HasPictureLine p line = (grid : GridView) × HasShape p × IsGridInside p grid × HasLine grid line
+
+-- the refusal is of the image itself, and not of what its symbol says
+abbrev pub is_of_image : ReadRefusal → Bool
+is_of_image Shape = true
+is_of_image (Label (Border wrong)) = true
+is_of_image (Label (Block block)) = true
+is_of_image refusal = false
+
+-- what is said of a picture, and the standard error before and after it
+pub data PrintsPicture (number : ℕ) (p : Picture) (before : OutputView) : Said → OutputView → Type 0 where
+  read : {line : List ℕ} → HasPictureLine p line →
+      PrintsPicture number p before (record { line = line; refused = false }) before
+  refused : {after : OutputView} (refusal : ReadRefusal) → RefusesPicture p refusal
+      → NotesChange (is_of_image refusal) p number (read_refusal_name refusal) before after
+      → PrintsPicture number p before (refusal_of (read_refusal_name refusal)) after
 
 -- ---- the whole input
 
--- `read` as a command over images, which has no state
+-- `read` as a command over images, whose state is the standard error
 abbrev pub read_images : ImageCommand
 read_images = record {
-  State = Unit {0};
-  Answers = λ _ _ p said _. PrintsPicture p said;
-  SeesUnread = λ _ _ _ _. Unit {0};
+  State = OutputView;
+  Answers = λ number before p said after. PrintsPicture number p before said after;
+  SeesUnread = λ _ before _ after. after ≡ before;
   has_ended = λ _. false;
 }
 
 -- How `read` ends, from its streams to the exit status and the streams: the lines of its input were written, or the
--- output has failed at one of them. Nothing goes to the standard error.
+-- output has failed at one of them.
 abbrev pub EndsRead : StreamsView → ℕ → StreamsView → Type 0
-EndsRead old status new =
-    TellsImages read_images (progress_at tt old.input old.output) status (progress_at tt new.input new.output)
-    × LeavesErrors old new
+EndsRead old status new = TellsImages read_images (progress_at old.errors old.input old.output) status
+    (progress_at new.errors new.input new.output)

@@ -1,9 +1,10 @@
 //! `relay read`: what the symbols in images carry.
 
 ghost use Rattle.std.specs.Prelude.{◌≡◌, ◌++◌, string_bytes, IfOk, OnOk, false, MatchResult, ◌⊎◌};
-ghost use Rattle.std.proofs.Common.{refl, ◌∙◌};
+ghost use Rattle.relay_shared.specs.Cure.{NotesChange};
 ghost use Rattle.relay_shared.specs.Lines.{hexadecimal};
-ghost use Rattle.relay_symbol_commands.specs.Read.{label_line, line_end, HasLine, HasNoHead, PrintsPicture, RefusesGrid, RefusesPicture, EndsRead, read_images};
+ghost use Rattle.relay_symbol_commands.specs.Read.{label_line, line_end, HasLine, HasNoHead, HasPictureLine, RefusesGrid, RefusesPicture, EndsRead, is_of_image, read_images};
+ghost use Rattle.relay_symbol_commands.specs.Refusals.{read_refusal_name};
 ghost use Rattle.dm_finder_frame.specs.Frame.{GridView};
 ghost use Rattle.dm_pbm_io.specs.Image.{picture};
 ghost use Rattle.dm_symbol.specs.Correction.{IsCorrectedAs};
@@ -14,7 +15,9 @@ use dm_encodation::decode;
 use dm_finder_frame::Grid;
 use dm_pbm_io::{Image, ShapeFault, grid_of};
 use dm_symbol::{Corrected, SymbolReader};
-use relay_shared::{Answered, DONE, OnImages, REFUSED, Streams, each_image};
+use relay_shared::{
+    Answered, DONE, OnImages, REFUSED, Streams, each_image, note_ending, put_image_note,
+};
 use relay_streams::{Output, WriteFault};
 use std::alloc::{AllocError, Allocator};
 use std::fmt::Write as _;
@@ -111,14 +114,31 @@ fn line_of_image<A: Allocator + Copy>(
     image: &Image<A>,
 ) -> Result<String<A>, ReadRefusal>
     ensures { MatchResult result
-        (λ line. PrintsPicture (picture image.now) (record { line = string_bytes line; refused = false }))
-        (RefusesPicture (picture image.now)) }
+        (λ line. HasPictureLine (picture image.now) (string_bytes line)) (RefusesPicture (picture image.now)) }
 {
     match grid_of(alloc, image) {
         Ok(grid) => line_of_grid(alloc, reader, &grid),
         Err(ShapeFault::Shape) => Err(ReadRefusal::Shape),
         Err(ShapeFault::Memory) => Err(ReadRefusal::Memory),
     }
+}
+
+// Notes of a refused image after which change it would be read, if there is one.
+fn note_change<A: Allocator + Copy, E: Write>(
+    alloc: A,
+    errors: &mut Output<E>,
+    number: u32,
+    image: &Image<A>,
+    refusal: ReadRefusal,
+)
+    ensures { NotesChange (is_of_image refusal) (picture image.now) number (read_refusal_name refusal)
+        errors.old errors.new }
+{
+    let ending = note_ending(alloc, image, refusal.is_of_image());
+    if ending.is_empty() {
+        return;
+    }
+    put_image_note(errors, number, None, refusal.name(), &ending);
 }
 
 // Writes the line of each image.
@@ -130,16 +150,16 @@ struct Reading<A: Allocator + Copy> {
 impl<A: Allocator + Copy> OnImages<A> for Reading<A> {
     ghost command = { read_images };
 
-    ghost state = { λ _ _. tt };
+    ghost state = { λ _ errors. errors };
 
-    ghost keeps = { λ _ before _ after. after ≡ before };
+    ghost keeps = { λ _ _ _ _. Unit {0} };
 
     fn answer<W: Write, E: Write>(
         &mut self,
         alloc: A,
         output: &mut Output<W>,
-        _errors: &mut Output<E>,
-        _number: u32,
+        errors: &mut Output<E>,
+        number: u32,
         image: &Image<A>,
     ) -> Result<Answered, WriteFault> {
         match line_of_image(alloc, &mut self.reader, image) {
@@ -148,7 +168,9 @@ impl<A: Allocator + Copy> OnImages<A> for Reading<A> {
                 Ok(DONE)
             }
             Err(refusal) => {
-                output.put_refusal(refusal.name())?;
+                let name = refusal.name();
+                note_change(alloc, errors, number, image, refusal);
+                output.put_refusal(name)?;
                 Ok(REFUSED)
             }
         }
@@ -156,14 +178,15 @@ impl<A: Allocator + Copy> OnImages<A> for Reading<A> {
 
     fn see_unread<E: Write>(&mut self, _errors: &mut Output<E>, _number: u32, _name: &str) {}
 
-    ghost keeps_itself = { λ _ _. refl };
+    ghost keeps_itself = { λ _ _. tt };
 
-    ghost keeps_later = { λ _ _ _ _ _ _ earlier later. later ∙ earlier };
+    ghost keeps_later = { λ _ _ _ _ _ _ _ _. tt };
 }
 
 /// Reads images, one after another, and prints a line for each: what its symbol carries, as `label IIII m/n corrected C
 /// wrong W HEX` or `symbol SIDE corrected C wrong W HEX`, or `refused NAME`. A refused image doesn't end the command;
-/// bytes that are no image do, and so does a plain image. At most 65,536 images are read.
+/// bytes that are no image do, and so does a plain image. At most 65,536 images are read. An image that would be read if
+/// it were changed is named on the standard error, as `relay: image N: NAME`, and then what [`note_ending`] gives.
 pub fn read_command<A: Allocator + Copy, R: Read, W: Write, E: Write>(
     alloc: A,
     streams: &mut Streams<R, W, E>,

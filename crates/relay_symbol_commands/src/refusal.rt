@@ -2,10 +2,11 @@
 
 ghost use Rattle.std.specs.Prelude.{◌≡◌};
 ghost use Rattle.relay_symbol_commands.specs.Refusals.{read_refusal_name, symbol_refusal_name};
+ghost use Rattle.relay_symbol_commands.specs.Read.{is_of_image};
 ghost use Rattle.relay_symbol_commands.specs.declared.refusal.ReadRefusal.TheVariants as read_refusals;
 ghost use Rattle.relay_symbol_commands.specs.declared.refusal.SymbolRefusal.TheVariants as symbol_refusals;
 
-use dm_append_label::LabelFault;
+use dm_append_label::LabelFault::{self, Block, Border};
 use dm_encodation::{DecodeFault, EncodeFault};
 use dm_pbm_io::ShapeFault;
 use relay_shared::Refusal;
@@ -77,6 +78,17 @@ impl ReadRefusal {
             ReadRefusal::Label(fault) => fault.name(),
             ReadRefusal::Text(fault) => fault.name(),
             ReadRefusal::Memory => Refusal::Memory.name(),
+        }
+    }
+
+    // Whether it is of the image itself, and not of what its symbol says.
+    pub(crate) fn is_of_image(self) -> bool
+        ensures { result ≡ is_of_image self }
+    {
+        match self {
+            ReadRefusal::Shape => true,
+            ReadRefusal::Label(fault) => matches!(fault, Border { .. } | Block { .. }),
+            ReadRefusal::Text(_) | ReadRefusal::Memory => false,
         }
     }
 }

@@ -1,13 +1,12 @@
 use Rattle.std.proofs.Common.{refl}
 use Rattle.std.proofs.lemmas.Result.{MatchResult-weaker}
-use Rattle.relay_symbol_commands.specs.Read.PrintsPicture.{read}
 use Rattle.relay_symbol_commands.specs.Read.RefusesPicture.{shape, memory, grid}
 use Rattle.relay_symbol_commands.proofs.read.line_of_image.Goals as goal
 
 pub returns-in-Ok : goal.returns-in-Ok
 returns-in-Ok g c =
     let inside = c.in-Ok.ensures.grid in
-    MatchResult-weaker c.line_of_grid.result c.line_of_grid.ensures (λ line. read c.in-Ok.grid inside.0 inside.1)
+    MatchResult-weaker c.line_of_grid.result c.line_of_grid.ensures (λ line has. (c.in-Ok.grid, inside.0, inside.1, has))
     (λ refusal. grid c.in-Ok.grid inside.0 inside.1)
 
 pub returns-in-Err-Shape : goal.returns-in-Err-Shape

@@ -18,7 +18,7 @@ returns-in-Err-clause-answer g c =
       answers = no_grid shape (λ e. c.in-Err.ensures.shape (ap Err e), λ e. c.in-Err.ensures.memory (ap Err e)) (
         c.deref.result.now,
         ends_note may c.deref.ensures c.note_ending-ending.ensures,
-        rw c.name-name.ensures at c.put_note.ensures,
+        rw c.name-name.ensures at c.put_image_note.ensures,
       );
       told = rw (c.requires.running, ← c.name-name.ensures) c.put_refused.ensures;
     }
@@ -70,7 +70,7 @@ returns-clause-answer g c =
           c.id_of_label-id.ensures (
             c.deref-in-Err-accept.result.now,
             ends_note may c.deref-in-Err-accept.ensures c.note_ending-ending-in-Err-accept.ensures,
-            rw c.name-name-in-Err-accept.ensures at c.put_note-in-Err-accept.ensures,
+            rw c.name-name-in-Err-accept.ensures at c.put_image_note-in-Err-accept.ensures,
           );
       told = rw (c.name-name-in-Err-accept.ensures, last) at c.put_refused-in-Err-accept.ensures;
     }

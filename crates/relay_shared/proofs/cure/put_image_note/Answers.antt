@@ -1,5 +1,5 @@
 use Rattle.relay_shared.proofs.Writing.{puts}
-use Rattle.relay_desk_commands.proofs.scan.put_note.Goals as goal
+use Rattle.relay_shared.proofs.cure.put_image_note.Goals as goal
 
 pub returns-in-Some : goal.returns-in-Some
 returns-in-Some g c =
