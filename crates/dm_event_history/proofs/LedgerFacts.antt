@@ -1,6 +1,6 @@
 -- What prints, gives and takes that are saved do to the numbers of a ledger.
 use Rattle.std.proofs.Common.{◌≡◌, ◌<◌, ◌≤◌, ℕ, Bool, true, false, ◌==◌, ◌||◌, not, Option, Some, None, Result, Ok, Err, List, [], ◌∷◌, length, nat_le, nat_lt, if◌then◌else◌, refl, sym, ap, subst, ◌∙◌, arith}
-use Rattle.std.proofs.lemmas.Bool.{or_left}
+use Rattle.std.proofs.lemmas.Bool.{or_left, leb-true, and_parts}
 use Rattle.std.proofs.lemmas.Bool.Decides.{nat_tests}
 use Rattle.std.specs.Option.{option_map_or}
 use Rattle.std.specs.Prelude.{IfSome, IsSomeAnd, is_some}
@@ -21,9 +21,7 @@ use Rattle.dm_event_history.specs.Calls.{Saves, IsCut, PrintComes, PrintLeaves, 
 use Rattle.dm_event_history.specs.Relay.{Goods}
 use Rattle.dm_print_ledger.proofs.LedgerLaws.{ranges_are_numbers, first_is_least, givers_are_noted}
 use Rattle.dm_print_ledger.proofs.OutLaws.{covered_free, covers_from, takes_out}
-use Rattle.dm_print_ledger.proofs.InLaws.{meets_none}
-use Rattle.dm_print_ledger.proofs.InLaws.{HasFree, meets_free}
-use Rattle.std.proofs.lemmas.Bool.{leb-true, and_parts}
+use Rattle.dm_print_ledger.proofs.InLaws.{meets_none, HasFree, meets_free}
 use Rattle.dm_print_ledger.proofs.Rising.{rise_fact, sound_ranges, sound_givers}
 
 -- ---- chains of refusals

@@ -1,7 +1,6 @@
 -- Lists of pages that are joined: which pages are there, one by one, and where two lists disagree.
-use Rattle.std.proofs.Common.{◌≡◌, ◌≢◌, ℕ, zero, suc, ◌≤◌, ◌&&◌, List, [], ◌∷◌, ◌++◌, length, slice_get, ap, Bool, true, false, Option, Some, None, IsSome, refl, arith, inl, inr, sym, ◌∙◌}
+use Rattle.std.proofs.Common.{◌≡◌, ◌≢◌, ℕ, zero, suc, ◌≤◌, ◌&&◌, List, [], ◌∷◌, ◌++◌, length, slice_get, ap, Bool, true, false, Option, Some, None, IsSome, refl, arith, inl, inr, sym, ◌∙◌, map as mapped}
 use Rattle.std.specs.Prelude.{is_some}
-use Rattle.std.proofs.Common.{map as mapped}
 use Rattle.std.specs.List.{list_all, concat}
 use Rattle.std.proofs.lemmas.Slice.Eq.{bytes_eq-Decides}
 use Rattle.dm_assembly_desk.specs.Documents.{Pages, page, lacks, page_bytes, document_of, agrees_at, agree}

@@ -1,42 +1,33 @@
 -- What is said in place of what is said of a known run is no run, since nothing is open but memory.
-use Rattle.std.proofs.Common.{◌≡◌, inl, inr, List, [], ◌∷◌, ◌++◌, sym, subst}
+use Rattle.std.proofs.Common.{◌≡◌, inl, inr, List, [], ◌∷◌, ◌++◌, refl, sym, subst}
 use Rattle.dm_event_history.specs.declared.event.Event.{Event}
 use Rattle.dm_event_history.specs.declared.reply.Reply.{Reply}
 use Rattle.dm_event_history.specs.declared.event.Event.TheVariants.{Give, RestartPrinter, Take}
 use Rattle.dm_event_history.specs.declared.reply.Reply.TheVariants.{Down, Given, NoSuch, Printed, Restarted, Stopped, Taken, TakeRefused}
 use Rattle.dm_event_history.specs.declared.stop.Stop.TheVariants.{AfterLabels, InSave, None}
 use Rattle.dm_store.specs.declared.fuse.Kept.TheVariants.{Old}
-use Rattle.dm_event_history.specs.Worked.{first_ticket, range}
+use Rattle.dm_event_history.specs.Worked.{first_ticket, range, AreNone, one_printer, print, two_printers}
 use Rattle.dm_print_ledger.specs.declared.fault.TakeFault.TheVariants as take_fault
 use Rattle.dm_event_history.specs.Relay.{Relay}
 use Rattle.dm_event_history.specs.Steps.{Said, Tells, said}
 use Rattle.dm_event_history.specs.Told.{IsOfMemory}
-use Rattle.dm_event_history.specs.Worked.{AreNone, one_printer, print, two_printers}
 use Rattle.dm_event_history.proofs.OneStep.{only_memory}
 use Rattle.dm_event_history.proofs.WorkedRuns.{after_is, before_is, moved_is}
 
--- none of it tells that memory was refused
-abbrev AreOfNoMemory : {A : Type 0} → List (Said A) → Type 0
-AreOfNoMemory [] = Unit {0}
-AreOfNoMemory (one ∷ more) = (¬ IsOfMemory one.reply) × AreOfNoMemory more
-
 -- After the same was said, the same event is answered alike, memory aside.
 alike : {A : Type 0} (from : Relay) (earlier : List (Said A)) (event : Event A) (reply answer : Reply A)
-    (more others : List (Said A)) → AreOfNoMemory earlier → ¬ IsOfMemory reply → ¬ IsOfMemory answer →
+    (more others : List (Said A)) → ¬ IsOfMemory reply → ¬ IsOfMemory answer →
     Tells from (earlier ++ said event reply ∷ more) → Tells from (earlier ++ said event answer ∷ others) →
     reply ≡ answer
-alike {A} from [] event reply answer more others none mine its p q =
-    elim (only_memory A from p.0 q.0 event reply answer p.1 q.1) [
+alike {A} from [] event reply answer more others mine its p q =
+    elim (only_memory A from p.0 q.0 event reply answer p.1 q.1).0 [
       | inl same ↦ same.0
       | inr memory ↦ elim memory [ inl first ↦ absurd (mine first) | inr second ↦ absurd (its second) ]
     ]
-alike {A} from (one ∷ earlier) event reply answer more others none mine its p q =
-    elim (only_memory A from p.0 q.0 one.event one.reply one.reply p.1 q.1) [
-      | inl same ↦
-          alike p.0 earlier event reply answer more others none.1 mine its p.2
-          (subst (λ (r : Relay). Tells r (earlier ++ said event answer ∷ others)) (sym same.1) q.2)
-      | inr memory ↦ elim memory [ inl first ↦ absurd (none.0 first) | inr second ↦ absurd (none.0 second) ]
-    ]
+alike {A} from (one ∷ earlier) event reply answer more others mine its p q =
+    let same = (only_memory A from p.0 q.0 one.event one.reply one.reply p.1 q.1).1 refl in
+    alike p.0 earlier event reply answer more others mine its p.2
+    (subst (λ (r : Relay). Tells r (earlier ++ said event answer ∷ others)) (sym same) q.2)
 
 abbrev earlier_after : {A : Type 0} → List (Said A)
 earlier_after =
@@ -64,14 +55,14 @@ pub are_none : (A : Type 0) → AreNone A
 are_none A = record {
   not_used = λ told. (let same : ◌≡◌ {A = Reply A} (Printed 1 0 2) (Printed 0 0 2) =
       alike one_printer earlier_after (print 0 None) (Printed 1 0 2) (Printed 0 0 2) [] []
-      (none, (none, (none, tt))) none none (after_is A) told in
+      none none (after_is A) told in
       absurd (cc (same)));
   used = λ told. (let same : ◌≡◌ {A = Reply A} (Printed 0 0 2) (Printed 1 0 2) =
       alike one_printer earlier_before (print 0 None) (Printed 0 0 2) (Printed 1 0 2) [] []
-      (none, (none, (none, tt))) none none (before_is A) told in
+      none none (before_is A) told in
       absurd (cc (same)));
   taken = λ told. (let same : ◌≡◌ {A = Reply A} (TakeRefused take_fault.Old) Taken =
       alike two_printers earlier_taken (Take 1 0 None) (TakeRefused take_fault.Old) Taken later_moved []
-      (none, (none, tt)) none none (moved_is A) told in
+      none none (moved_is A) told in
       absurd (cc (same)));
 }

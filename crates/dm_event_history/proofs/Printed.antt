@@ -58,6 +58,7 @@ each_printed cut id k (part ∷ parts) (x ∷ xs) are within made zero label is 
       m_is = ap (λ (q : PageView). q.m) made.0.page_is;
       n_is = grind arith;
       part = grind arith;
+      size_is = made.0.grid_is.size_is ∙ ap (λ (c : CutDocument). c.size) (sym made.0.cut_is);
       carries = carries;
     })
 each_printed cut id k (part ∷ parts) (x ∷ xs) are within made (suc i) label is =

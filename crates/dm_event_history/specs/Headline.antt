@@ -72,13 +72,14 @@ IsHarmless relay event own = Unit {0}
 
 -- ---- labels as they were printed
 
--- the label is that of its part of the document that it is cut from
+-- the label is that of its part of the document that it is cut from, and has the side that its print was given
 pub record IsPrinted (label : Label) : Type 0 where
   pub are_parts : AreParts label.cut.size label.cut.scheme label.cut.bytes label.cut.parts
   pub place : ℕ
   pub m_is : label.page.m ≡ place + 1
   pub n_is : label.page.n ≡ length label.cut.parts
   pub part : slice_get label.cut.parts place ≡ Some label.page.bytes
+  pub size_is : label.grid.size ≡ label.cut.size
   pub carries : Carries label.page label.grid
 
 abbrev pub ArePrinted : List Label → Type 0

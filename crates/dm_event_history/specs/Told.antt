@@ -1,6 +1,6 @@
 -- When replies may be given, and what they tell: who is down, who has failed, why events are refused, and that only
 -- memory is open.
-use Rattle.std.specs.Prelude.{◌≡◌, ◌≢◌, ◌+◌, ◌==◌, ◌&&◌, ◌||◌, not, ℕ, Bool, true, false, if◌then◌else◌, Some, List, [], ◌∷◌, slice_get, ◌↔◌, ◌⊎◌, IsSomeAnd}
+use Rattle.std.specs.Prelude.{◌≡◌, ◌≢◌, ◌+◌, ◌==◌, ◌&&◌, ◌||◌, not, ℕ, Bool, true, false, if◌then◌else◌, None, Option, Some, option_map, ◌<◌, List, [], ◌∷◌, slice_get, ◌↔◌, ◌⊎◌, IsSomeAnd}
 use Rattle.std.specs.Option.{option_map_or}
 use Rattle.dm_size.specs.declared.size.Size.{Size}
 use Rattle.dm_encodation.specs.declared.scheme.Scheme.{Scheme}
@@ -9,7 +9,7 @@ use Rattle.dm_append_label.specs.Labels.{HasNoEnds}
 use Rattle.dm_append_label.specs.declared.fault.LabelFault.TheVariants.{Border}
 use Rattle.dm_store.specs.declared.fuse.Kept.{Kept}
 use Rattle.dm_print_ledger.specs.declared.range.Range.{Range}
-use Rattle.dm_print_ledger.specs.Ledger.{free_count, size_of, LedgerView, TicketView}
+use Rattle.dm_print_ledger.specs.Ledger.{free_count, last_taken, size_of, LedgerView, TicketView}
 use Rattle.dm_event_history.specs.declared.event.Event.{Event}
 use Rattle.dm_event_history.specs.declared.event.Event.TheVariants.{Print, Scan, Give, Take, RestartPrinter, RestartDesk}
 use Rattle.dm_event_history.specs.declared.reply.Reply.{Reply}
@@ -235,6 +235,55 @@ EachExhaustedIsSo A = (ranges : List Range) (rooms : List ℕ) (moment : Moment 
     (stock moment.before printer ≡ 0) × (size_of range + sum_saved gains earlier moment.before printer
     ≡ sum_saved loses earlier moment.before printer)
 
+-- ---- serials
+
+-- the ledger that a printer stores
+abbrev pub stored_at : Relay → ℕ → Option LedgerView
+stored_at relay printer = option_map (λ (actor : Actor LedgerView). stored_of actor) (slice_get relay.printers printer)
+
+-- the serial of its next ticket, and of the last that it took from a giver, by what it stores
+abbrev pub next_serial : Relay → ℕ → ℕ
+next_serial relay printer = option_map_or (λ (ledger : LedgerView). ledger.next_serial) (stored_at relay printer) 0
+
+abbrev pub last_from : Relay → ℕ → ℕ → Option ℕ
+last_from relay printer giver =
+    option_map_or (λ (ledger : LedgerView). last_taken ledger.givers giver) (stored_at relay printer) None
+
+-- one for a give, and the serial of the ticket that an event takes, if this is its giver
+abbrev pub gives : {A : Type 0} → Relay → Event A → ℕ
+gives before (Give printer receiver range stop) = 1
+gives before event = 0
+
+abbrev pub serial_from : {A : Type 0} → Relay → Event A → ℕ → Option ℕ
+serial_from before (Take printer number stop) giver = option_map_or
+    (λ (ticket : TicketView). if ticket.giver == giver then Some ticket.serial else None) (slice_get before.tickets number) None
+serial_from before event giver = None
+
+-- the serial of the newest ticket from a giver that a printer took by an event that saved
+abbrev pub newest_saved : {A : Type 0} → List (Moment A) → Relay → ℕ → ℕ → Option ℕ
+newest_saved [] end printer giver = None
+newest_saved (moment ∷ earlier) end printer giver =
+    let before = newest_saved earlier moment.before printer giver in
+    if has_saved moment end printer
+    then option_map_or (λ serial. Some serial) (serial_from moment.before moment.event giver) before else before
+
+-- A printer's next serial is the number of its gives that saved, and its givers are those of its takes that saved, each
+-- with the serial of the newest.
+pub record CountsTickets {A : Type 0} (h : List (Moment A)) (relay : Relay) (printer : ℕ) : Type 0 where
+  pub gave : next_serial relay printer ≡ sum_saved gives h relay printer
+  pub took : (giver : ℕ) → last_from relay printer giver ≡ newest_saved h relay printer giver
+
+abbrev pub EachRunCountsTickets : Type 0 → Type 0
+EachRunCountsTickets A = (ranges : List Range) (rooms : List ℕ) (h : List (Moment A)) (end : Relay) (printer : ℕ) →
+    IsRun (start ranges rooms) h end → CountsTickets h end printer
+
+-- and the newest has the greatest serial
+abbrev pub EachTakeIsLater : Type 0 → Type 0
+EachTakeIsLater A = (ranges : List Range) (rooms : List ℕ) (moment : Moment A) (earlier : List (Moment A)) (end : Relay)
+    (printer giver serial last : ℕ) → IsRun (start ranges rooms) (moment ∷ earlier) end →
+    has_saved moment end printer ≡ true → serial_from moment.before moment.event giver ≡ Some serial →
+    newest_saved earlier moment.before printer giver ≡ Some last → last < serial
+
 -- ---- what is open
 
 -- the reply tells that memory was refused
@@ -252,8 +301,9 @@ IsOfMemory (ExportRefused export_fault.Memory) = Unit {0}
 IsOfMemory (DeskRefused desk_fault.Memory) = Unit {0}
 IsOfMemory reply = ⊥
 
--- Nothing is open but memory: two steps from one relay by one event end alike, or one of them was refused memory.
+-- Nothing is open but memory: two steps from one relay by one event end alike, or one of them was refused memory. And a
+-- reply fixes the step: two of one reply end alike, whatever it is.
 abbrev pub NothingIsOpenButMemory : Type 0 → Type 0
 NothingIsOpenButMemory A = (old one other : Relay) (event : Event A) (reply answer : Reply A) →
     Step old event reply one → Step old event answer other →
-    ((reply ≡ answer) × (one ≡ other)) ⊎ (IsOfMemory reply ⊎ IsOfMemory answer)
+    (((reply ≡ answer) × (one ≡ other)) ⊎ (IsOfMemory reply ⊎ IsOfMemory answer)) × (reply ≡ answer → one ≡ other)

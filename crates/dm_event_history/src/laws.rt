@@ -2,7 +2,7 @@
 //! nothing, or call a law below.
 
 ghost use Rattle.dm_event_history.specs.Headline.{EachCleanDeskGives, EachStepKeepsClean, EachStepPrints, EachRunIsSound, EachRunIsTrue, EachRunKeepsNumbers, EachStepIsSound, EachStepKeepsNumbers};
-ghost use Rattle.dm_event_history.specs.Told.{EachExhaustedIsSo, EachFailedFailed, EachRunIsAsTold, EachRunTakesOnce, EachStepIsLegal, EachStepIsRefusedSo, NothingIsOpenButMemory};
+ghost use Rattle.dm_event_history.specs.Told.{EachExhaustedIsSo, EachFailedFailed, EachRunCountsTickets, EachRunIsAsTold, EachRunTakesOnce, EachStepIsLegal, EachTakeIsLater, EachStepIsRefusedSo, NothingIsOpenButMemory};
 ghost use Rattle.dm_event_history.specs.Safe.{EachFairDeskIsBetween, EachFairReplyIsSafe};
 ghost use Rattle.dm_event_history.specs.Worked.{AreNone, AreRuns};
 
@@ -10,7 +10,8 @@ use dm_size::Size;
 use dm_symbol::laws::grid_carries_its_words;
 use std::alloc::Allocator;
 
-/// Nothing is open but memory: two steps from one relay by one event end alike, or one of them was refused memory.
+/// Nothing is open but memory: two steps from one relay by one event end alike, or one of them was refused memory. And
+/// a reply fixes the step.
 pub fn only_memory<A: Allocator>()
     ensures { NothingIsOpenButMemory A }
 {}
@@ -69,7 +70,11 @@ pub fn reasons<A: Allocator>()
     ensures exhausted { EachExhaustedIsSo A }
 {}
 
-/// No ticket is taken twice, and no take is refused since a number of its ticket is free at its receiver.
+/// No ticket is taken twice, and no take is refused since a number of its ticket is free at its receiver. What a printer
+/// stores of tickets are those that it gave and took: its next serial is their number, and of each giver it has the
+/// greatest serial.
 pub fn tickets<A: Allocator>()
-    ensures { EachRunTakesOnce A }
+    ensures once { EachRunTakesOnce A }
+    ensures counted { EachRunCountsTickets A }
+    ensures later { EachTakeIsLater A }
 {}
