@@ -1,6 +1,6 @@
 -- What a command does, from the store and the set of the file that it names, and its streams, to the exit status, the
 -- store, the set and the streams: a line for each command. What a command does not need it leaves as it was.
-use Rattle.std.specs.Prelude.{◌≡◌, ℕ, ◌++◌, Bool, true, false, not, IsTrue, IsFalse, codes, string_bytes}
+use Rattle.std.specs.Prelude.{◌≡◌, ℕ, ◌++◌, List, [], Bool, true, false, not, IsTrue, IsFalse, codes, string_bytes}
 use Rattle.std.specs.Option.{option_copied}
 use Rattle.relay_command.specs.declared.command.Command.{Command}
 use Rattle.relay_command.specs.declared.command.Command.TheVariants.{Words, Draw, Read, Plan, Ticket, Ledger, Print, Give, Take, Left, Scan, Deliver, Forget, Export, Import, Held, Copy, World}
@@ -67,6 +67,22 @@ Does A (Import file capacity) old status new =
 Does A (Held file id) old status new = EndsHeld (option_copied id) old status new
 Does A (Copy file id page side scheme) old status new =
     EndsCopy (record { id = id; page = page; side = side; scheme = scheme }) old status new
+
+-- the path that a command names, or the empty one if it names none
+abbrev pub path_of : Command → List ℕ
+path_of (Ledger file number first last) = file.now
+path_of (Print file number labels scheme) = file.now
+path_of (Give file number to first last) = file.now
+path_of (Take file number ticket) = file.now
+path_of (Left file) = file.now
+path_of (Scan file capacity) = file.now
+path_of (Deliver file id) = file.now
+path_of (Forget file id) = file.now
+path_of (Export file id) = file.now
+path_of (Import file capacity) = file.now
+path_of (Held file id) = file.now
+path_of (Copy file id page side scheme) = file.now
+path_of other = []
 
 -- The draft of a file is beside it, and so is the file that is locked: beside a ledger, or beside a desk's folder.
 pub record IsPlaced (place : Place) : Type 0 where

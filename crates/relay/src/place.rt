@@ -1,7 +1,7 @@
 //! The files that a command names, and where they are.
 
-ghost use Rattle.std.specs.Prelude.{◌≡◌, IfOk, IfSome, IsTrue};
-ghost use Rattle.relay.specs.Commands.{IsPlaced};
+ghost use Rattle.std.specs.Prelude.{◌≡◌, [], IfOk, IfSome, IsTrue, MatchOption};
+ghost use Rattle.relay.specs.Commands.{IsPlaced, path_of};
 ghost use Rattle.relay.specs.declared.place.Access.TheVariants.{Makes};
 
 use dm_assembly_desk::MOST_CAPACITY;
@@ -48,7 +48,8 @@ fn gathering(capacity: u16) -> Access {
 
 /// The files that a command names, if it names any.
 pub(crate) fn named_by<'a>(command: Command<'a>) -> Option<Named<'a>>
-    ensures { IfSome result (λ named. named.access ≡ Makes → IsTrue named.is_desk) }
+    ensures path { MatchOption result (path_of command.entry ≡ []) (λ named. named.file.now ≡ path_of command.entry) }
+    ensures desk { IfSome result (λ named. named.access ≡ Makes → IsTrue named.is_desk) }
 {
     let (file, is_desk, access) = match command {
         Command::Words { .. }

@@ -27,11 +27,11 @@ use Rattle.relay_desk_runs.proofs.Scanning.{each_scan_keeps}
 use Rattle.relay_desk_runs.proofs.Importing.{each_forget_keeps, each_import_keeps}
 use Rattle.relay_desk_runs.proofs.Giving.{each_copy_is_printed, each_deliver_is_printed, each_export_is_printed}
 use Rattle.relay_desk_runs.proofs.Opened.{held_same}
-use Rattle.relay.specs.Commands.{Does}
+use Rattle.relay.specs.Commands.{Does, path_of}
 use Rattle.relay_program_runs.specs.Law.{At, DeliversPrinted, Ends, IsBlank, LetsOut, Prints, Ran, SomeRan, TakesPrinted, WritesPrinted, at_its_path, cut_short, exited, passed, passed_at, status_of, writes, writes_nothing}
-use Rattle.relay_program_runs.specs.Passed.{Passed, passed_by, path_of, text_of}
+use Rattle.relay_program_runs.specs.Passed.{Passed, passed_by, text_of}
 use Rattle.relay_program_runs.proofs.Effects.{no_documents}
-use Rattle.relay_program_runs.proofs.Lists.{before_or_now}
+use Rattle.relay_program_runs.proofs.Lists.{all_so, before_or_now}
 use Rattle.relay_program_runs.proofs.Printers.{OneMore, Stands, begun, holds, nothing_ran}
 
 -- ---- more labels
@@ -215,10 +215,6 @@ module _ (A : Type 0) (IsAmong : List ℕ → Type 0) where
     copied = λ grid s. absurd (nothing_ran _ s);
   }
 
-  all_are : {X : Type 0} (P Q : X → Type 0) (xs : List X) → ((x : X) → P x → Q x) → AllByRecursion P xs → AllByRecursion Q xs
-  all_are P Q [] each all = tt
-  all_are P Q (x ∷ xs) each all = (each x all.0, all_are P Q xs each all.1)
-
   if_so : {X : Type 0} (P Q : X → Type 0) (o : Option X) → ((x : X) → P x → Q x) → IfSome o P → IfSome o Q
   if_so P Q None each so = tt
   if_so P Q (Some x) each so = each x so
@@ -260,7 +256,7 @@ module _ (A : Type 0) (IsAmong : List ℕ → Type 0) where
             set = c.sets place (at_its_path ran ran.before.files) found among;
             joint = no_documents c.stands.relay ran.before.files.joint _ (holds A ranges earlier site c.stands ran place found);
           })
-          (all_are _ _ (passed ran).scanned near (takes.scans among))
+          (all_so _ _ (passed ran).scanned near (takes.scans among))
           (if_so _ _ (passed ran).imported c.exported (takes.imports among))
 
       -- ---- what is delivered

@@ -14,14 +14,16 @@ use Rattle.dm_assembly_desk.specs.declared.limits.TheConstants.{MOST_CAPACITY}
 use Rattle.dm_event_history.specs.Relay.{Actor, Relay, stored_of}
 use Rattle.relay_command.specs.declared.command.Command.{Command}
 use Rattle.relay_command.specs.declared.command.Command.TheVariants.{Words, Draw, Read, Plan, Ticket, Ledger, Print, Give, Take, Left, Scan, Deliver, Forget, Export, Import, Held, Copy, World}
+use Rattle.relay_printer_commands.specs.Print.{images_of}
 use Rattle.relay_printer_commands.specs.Printers.{ledger_at}
+use Rattle.relay_streams.specs.Streams.{AppendsPart}
 use Rattle.relay_desk_commands.specs.Desks.{DeskFiles, OnDesk}
 use Rattle.relay_runs.specs.Runs.{Follows, Keeps}
 use Rattle.relay_runs.proofs.EachGive.{give_follows}
 use Rattle.relay_runs.proofs.EachPrint.{print_follows}
 use Rattle.relay_runs.proofs.EachTake.{take_follows}
 use Rattle.relay_runs.proofs.Ledgers.{give_idle, is_made, made_same, print_idle, shown_same, take_idle}
-use Rattle.relay_runs.proofs.PrintTold.{IsOut, print_out}
+use Rattle.relay_runs.proofs.PrintTold.{print_out}
 use Rattle.relay_desk_runs.specs.Printed.{HasNoDocuments}
 use Rattle.relay_desk_runs.proofs.Opened.{at_desk_joint, copy_joint, held_same, import_joint, on_id_joint}
 use Rattle.relay.specs.Commands.{Does}
@@ -157,7 +159,8 @@ module _ (A : Type 0) (relay : Relay) (before after : OnDesk) (status : ℕ) whe
 
 module _ (A : Type 0) (before after : OnDesk) (status : ℕ) where
   pub out_of : (command : Command) (does : Does A command before status after) (job : JobView) →
-      (passed_by A command before status after does).printed ≡ Some job → IsOut before.streams after.streams job
+      (passed_by A command before status after does).printed ≡ Some job →
+      AppendsPart before.streams.output.contents after.streams.output.contents (images_of job.labels)
   out_of (Print file number labels scheme) does job is =
       print_out (ledger_at before.files.joint before.streams) (ledger_at after.files.joint after.streams) status does.0.0
       job is

@@ -5,5 +5,7 @@ pub mod Printers
 pub mod Desks
 pub mod Walk
 pub mod Images
+pub mod Steps
 pub mod WorkedFacts
-pub mod TenCommands
+pub mod WorkedCommands
+pub mod ShortLists

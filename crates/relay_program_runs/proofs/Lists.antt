@@ -1,8 +1,13 @@
 -- Lists of commands, and what is so of some of them.
 use Rattle.std.proofs.Common.{◌≡◌, ◌⊎◌, ◌++◌, inl, inr, ℕ, zero, suc, List, [], ◌∷◌, Some, slice_get, refl, sym, ap, subst, ◌∙◌, length, append-nil, append_assoc}
+use Rattle.std.specs.List.{AllByRecursion}
 use Rattle.dm_event_history.proofs.Gotten.{get_more, in_either}
 use Rattle.relay_program_runs.specs.Law.{Ran, SomeRan, all_made}
 use Rattle.relay_program_runs.specs.Passed.{Made, made_by}
+
+pub all_so : {X : Type 0} (P Q : X → Type 0) (xs : List X) → ((x : X) → P x → Q x) → AllByRecursion P xs → AllByRecursion Q xs
+all_so P Q [] each all = tt
+all_so P Q (x ∷ xs) each all = (each x all.0, all_so P Q xs each all.1)
 
 -- what stands right after a list
 pub at_length : {X : Type 0} (xs : List X) (x : X) → slice_get (xs ++ x ∷ []) (length xs) ≡ Some x
@@ -26,21 +31,14 @@ module _ {A : Type 0} (P : Ran A → Type 0) (earlier : List (Ran A)) (ran : Ran
     | inr new ↦ inr (subst P (sym (only_one ran s.1 new.0 new.2)) s.3)
   ]
 
-pub mapped : {A : Type 0} (P Q : Ran A → Type 0) (rans : List (Ran A)) → ((ran : Ran A) → P ran → Q ran) →
-    SomeRan P rans → SomeRan Q rans
-mapped P Q rans each s = (s.0, s.1, s.2, each s.1 s.3)
-
-pub made_more : {A : Type 0} (earlier : List (Ran A)) (ran : Ran A) →
-    all_made (earlier ++ ran ∷ []) ≡ all_made earlier ++ made_by ran.command ran.before ran.after
-made_more [] ran = append-nil (made_by ran.command ran.before ran.after)
-made_more (one ∷ earlier) ran =
-    ap (λ (ms : List Made). made_by one.command one.before one.after ++ ms) (made_more earlier ran)
-    ∙ sym (append_assoc (made_by one.command one.before one.after) (all_made earlier)
-    (made_by ran.command ran.before ran.after))
-
 pub made_all : {A : Type 0} (earlier later : List (Ran A)) →
     all_made (earlier ++ later) ≡ all_made earlier ++ all_made later
 made_all [] later = refl
 made_all (one ∷ earlier) later =
     ap (λ (ms : List Made). made_by one.command one.before one.after ++ ms) (made_all earlier later)
     ∙ sym (append_assoc (made_by one.command one.before one.after) (all_made earlier) (all_made later))
+
+pub made_more : {A : Type 0} (earlier : List (Ran A)) (ran : Ran A) →
+    all_made (earlier ++ ran ∷ []) ≡ all_made earlier ++ made_by ran.command ran.before ran.after
+made_more earlier ran = made_all earlier (ran ∷ [])
+    ∙ ap (λ (ms : List Made). all_made earlier ++ ms) (append-nil (made_by ran.command ran.before ran.after))

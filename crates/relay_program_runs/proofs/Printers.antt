@@ -3,14 +3,15 @@ use Rattle.std.proofs.Common.{◌≡◌, ◌⊎◌, ◌+◌, ◌≤◌, ◌++◌
 use Rattle.std.specs.Prelude.{◌==◌, IfSome, IsSomeAnd}
 use Rattle.std.proofs.lemmas.List.{append-nil, length-set}
 use Rattle.dm_finder_frame.specs.Frame.{GridView}
+use Rattle.dm_append_label.specs.Labels.{Carries, PageView}
 use Rattle.dm_store.specs.Saved.{Saved}
 use Rattle.dm_print_ledger.specs.declared.range.Range.{Range}
 use Rattle.dm_print_ledger.specs.Creating.{opening}
 use Rattle.dm_print_ledger.specs.Ledger.{JobView, TicketView}
 use Rattle.dm_print_ledger.proofs.LedgerLaws.{opening_sound}
-use Rattle.dm_event_history.specs.Relay.{Label, Move, Relay, Running, Used, fresh_from, start}
+use Rattle.dm_event_history.specs.Relay.{CutDocument, Label, Move, Relay, Running, Used, fresh_from, start}
 use Rattle.dm_event_history.specs.Steps.{IsRun, Moment}
-use Rattle.dm_event_history.specs.Headline.{AreDisjoint, IsSound, gone, one_if}
+use Rattle.dm_event_history.specs.Headline.{AreDisjoint, ArePrinted, IsSound, gone, one_if}
 use Rattle.dm_event_history.proofs.Deciding.{same_or_other}
 use Rattle.dm_event_history.proofs.Gotten.{get_more, in_either, set_at}
 use Rattle.dm_event_history.proofs.Headline.{each_run_is_sound}
@@ -20,8 +21,9 @@ use Rattle.relay_command.specs.declared.command.Command.{Command}
 use Rattle.relay_desk_commands.specs.Desks.{OnDesk}
 use Rattle.relay_runs.specs.Runs.{Follows, IsOfJob, Keeps, grids_in, grids_of, listed}
 use Rattle.relay_runs.proofs.Places.{set_there}
-use Rattle.relay_runs.proofs.PrintTold.{IsOut}
-use Rattle.relay_program_runs.specs.Law.{At, Ends, IsBlank, IsFirstOfItsId, Prints, Ran, SomeRan, all_made, at_its_path, cut_short, exited, passed, passed_at}
+use Rattle.relay_printer_commands.specs.Print.{images_of}
+use Rattle.relay_streams.specs.Streams.{AppendsPart}
+use Rattle.relay_program_runs.specs.Law.{At, Ends, IsBlank, IsFirstOfItsId, IsOnePart, Prints, Ran, SomeRan, all_made, at_its_path, cut_short, exited, passed, passed_at}
 use Rattle.relay_program_runs.specs.Passed.{Made, made_by}
 use Rattle.relay_program_runs.proofs.Effects.{Effect, HoldsSo, Taken, effect, follows, idle, makes, out_of, unmade}
 use Rattle.relay_program_runs.proofs.Lists.{at_length, before_or_now, made_more, one_before, one_now}
@@ -325,12 +327,9 @@ module _ (A : Type 0) (ranges : List Range) (earlier : List (Ran A)) (site : Lis
   module _ (disjoint : AreDisjoint ranges) (number : ℕ) (is_number : its_number.0 ≡ Some number)
       (f : Follows A s.relay number ran.before.streams.input ran.after.files.joint (passed ran).printed (passed ran).given)
       (out : (job : JobView) → (passed ran).printed ≡ Some job →
-      IsOut ran.before.streams ran.after.streams job) where
+      AppendsPart ran.before.streams.output.contents ran.after.streams.output.contents (images_of job.labels)) where
     whole : IsRun (start ranges []) (f.moments ++ s.moments) f.after
     whole = runs_on (start ranges []) s.moments s.relay f.moments f.after s.run f.runs.run
-
-    sound_before : IsSound s.relay
-    sound_before = (each_run_is_sound A ranges [] s.moments s.relay disjoint s.run).0
 
     sound_after : IsSound f.after
     sound_after = (each_run_is_sound A ranges [] (f.moments ++ s.moments) f.after disjoint whole).0
@@ -373,22 +372,54 @@ module _ (A : Type 0) (ranges : List Range) (earlier : List (Ran A)) (site : Lis
     still_elsewhere p saved (Some other) isnt is (actor, there, keeps) =
         (actor, other_printer other (away p other isnt is) ∙ there, keeps)
 
+    labels_are : f.after.labels ≡ s.relay.labels ++ f.goods.labels
+    labels_are = ap (λ (r : Relay). r.labels) f.runs.after_is
+
+    there_after : (i : ℕ) (label : Label) → slice_get f.goods.labels i ≡ Some label →
+        (n : ℕ) × (slice_get f.after.labels n ≡ Some label)
+    there_after i label there = let a = after_some s.relay.labels f.goods.labels i label there in
+        (a.0, subst (λ (ls : List Label). slice_get ls a.0 ≡ Some label) (sym labels_are) a.1)
+
     label_new : (i : ℕ) (label : Label) → slice_get f.goods.labels i ≡ Some label → Prints label.page.id label.cut.bytes ran
     label_new i label there =
         let its : IsOfJob ran.before.streams.input (passed ran).printed label = f.printed i label there in
-        let o = out its.it its.job_is in
+        let at = there_after i label there in
         record {
           rest = its.rest;
           read = its.read;
           job = its.it;
           job_is = its.job_is;
           id_is = sym its.id_is;
-          labels = λ k grid at. let c = o.labels k grid at in (c.0, c.1, c.2 ∙ sym its.id_is);
-          written = o.written;
+          size = label.cut.size;
+          scheme = label.cut.scheme;
+          parts = label.cut.parts;
+          are_parts = (are_printed at.0 label at.1).are_parts;
+          labels = λ k grid has. each_page k grid its at (grid_there its.it.labels f.goods.labels (f.labels ∙ ap grids_in its.job_is) k grid has);
+          written = out its.it its.job_is;
         }
+      where
+        are_printed : ArePrinted f.after.labels
+        are_printed = (each_run_is_sound A ranges [] (f.moments ++ s.moments) f.after disjoint whole).1
 
-    labels_are : f.after.labels ≡ s.relay.labels ++ f.goods.labels
-    labels_are = ap (λ (r : Relay). r.labels) f.runs.after_is
+        -- a label of the job carries a part of the document, since labels of one identification are cut from one
+        each_page : (k : ℕ) (grid : GridView) (its : IsOfJob ran.before.streams.input (passed ran).printed label)
+            (at : (n : ℕ) × (slice_get f.after.labels n ≡ Some label))
+            (has : (own : Label) × (slice_get f.goods.labels k ≡ Some own) × (own.grid ≡ grid)) →
+            (page : PageView) × Carries page grid × (page.id ≡ label.page.id) × IsOnePart label.cut.parts page
+        each_page k grid its at (own, own_there, grid_is) =
+            let of : IsOfJob ran.before.streams.input (passed ran).printed own = f.printed k own own_there in
+            let same_job : Some of.it ≡ Some its.it = sym of.job_is ∙ its.job_is in
+            let job : of.it ≡ its.it = cc (same_job) in
+            let id : own.page.id ≡ label.page.id = of.id_is ∙ ap (λ (j : JobView). j.id) job ∙ sym its.id_is in
+            let here = there_after k own own_there in
+            let one = are_printed here.0 own here.1 in
+            let cut = sound_after.one_document here.0 at.0 own label here.1 at.1 id in (
+              own.page,
+              subst (Carries own.page) grid_is one.carries,
+              id,
+              subst (λ (c : CutDocument). IsOnePart c.parts own.page) cut
+                  (record { place = one.place; m_is = one.m_is; n_is = one.n_is; part = one.part }),
+            )
 
     tickets_are : f.after.tickets ≡ s.relay.tickets ++ f.goods.tickets
     tickets_are = ap (λ (r : Relay). r.tickets) f.runs.after_is
@@ -407,8 +438,7 @@ module _ (A : Type 0) (ranges : List Range) (earlier : List (Ran A)) (site : Lis
         let j = some_as _ (passed ran).printed has in
         let same : grids_of f.goods.labels ≡ j.0.labels = f.labels ∙ ap grids_in j.1 in
         let g = grid_there j.0.labels f.goods.labels same j.2.0 grid j.2.1 in
-        let a = after_some s.relay.labels f.goods.labels j.2.0 g.0 g.1 in
-        (a.0, g.0, subst (λ (ls : List Label). slice_get ls a.0 ≡ Some g.0) (sym labels_are) a.1, g.2)
+        let a = there_after j.2.0 g.0 g.1 in (a.0, g.0, a.1, g.2)
 
     called : Stands A ranges now next
     called = record {
@@ -473,7 +503,8 @@ effect_at A relay command before after (cut_short status does) o holds left =
     effect A relay before after status command does o holds left
 
 out_at : (A : Type 0) (command : Command) (before after : OnDesk) (ends : Ends A command before after) (job : JobView) →
-    (passed_at ends).printed ≡ Some job → IsOut before.streams after.streams job
+    (passed_at ends).printed ≡ Some job →
+    AppendsPart before.streams.output.contents after.streams.output.contents (images_of job.labels)
 out_at A command before after (exited status does) job is = out_of A before after status command does job is
 out_at A command before after (cut_short status does) job is = out_of A before after status command does job is
 

@@ -77,10 +77,10 @@ module _ (A : Type 0) (made : List Made) (apart : AllPairs AreApart made) where
       )
 
 pub no_id_is_printed_twice : (A : Type 0) → NoIdIsPrintedTwice A
-no_id_is_printed_twice A site rans is_new runs apart takes =
-    each_first A (all_made rans) apart rans [] site (begun A (ranges_of (all_made rans)) site is_new.blank) refl runs takes
+no_id_is_printed_twice A site rans asks = each_first A (all_made rans) asks.apart rans [] site
+    (begun A (ranges_of (all_made rans)) site asks.is_new.blank) refl asks.runs asks.tickets
 
 pub what_is_delivered_was_printed : (A : Type 0) → WhatIsDeliveredWasPrinted A
-what_is_delivered_was_printed A among site rans is_new runs apart takes brings =
-    each_delivers A (all_made rans) apart (λ path. IsTrue (among path)) rans [] site
-    (clean_begun A (λ path. IsTrue (among path)) (ranges_of (all_made rans)) site is_new.blank) refl runs takes brings
+what_is_delivered_was_printed A among site rans asks brings =
+    each_delivers A (all_made rans) asks.apart (λ path. IsTrue (among path)) rans [] site
+    (clean_begun A (λ path. IsTrue (among path)) (ranges_of (all_made rans)) site asks.is_new.blank) refl asks.runs asks.tickets brings

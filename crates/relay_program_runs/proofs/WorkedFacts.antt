@@ -1,6 +1,7 @@
 -- What commands that ended well did, over streams whose bytes are known.
-use Rattle.std.proofs.Common.{◌≡◌, ◌⊎◌, ◌≤◌, ◌+◌, ◌++◌, inl, inr, ℕ, zero, suc, Bool, true, false, List, [], ◌∷◌, None, Option, Some, Result, Ok, Err, length, slice_get, take, refl, sym, ap, subst, ◌∙◌, append_assoc, arith}
+use Rattle.std.proofs.Common.{◌≡◌, ◌⊎◌, ◌≤◌, ◌+◌, ◌++◌, inl, inr, ℕ, Bool, true, false, List, [], ◌∷◌, None, Option, Some, Result, Ok, Err, length, slice_get, take, refl, sym, ap, subst, ◌∙◌, append_assoc, arith}
 use Rattle.std.specs.Prelude.{IfSome, IsTrue, MatchBool}
+use Rattle.std.specs.Borrow.{Bor}
 use Rattle.std.specs.List.{AllByRecursion}
 use Rattle.std.specs.Io.KnownBytes.{Appends}
 use Rattle.std.proofs.lemmas.List.{take_all}
@@ -13,35 +14,46 @@ use Rattle.relay_desk_commands.specs.declared.import.TheConstants.{IMPORT_BYTES}
 use Rattle.dm_size.specs.declared.size.Size.{Size}
 use Rattle.dm_size.specs.declared.size.Size.TheVariants.{Side12}
 use Rattle.dm_encodation.specs.declared.scheme.Scheme.{Scheme}
+use Rattle.dm_encodation.specs.declared.scheme.Scheme.TheVariants.{Ascii}
 use Rattle.dm_finder_frame.specs.Frame.{GridView, IsWholeGrid}
 use Rattle.dm_finder_frame.proofs.FramedGrids.{grid_is_whole}
 use Rattle.dm_store.specs.Saved.{Saved}
-use Rattle.dm_print_ledger.specs.Creating.{Creates, SavesFirst, opening}
+use Rattle.dm_print_ledger.proofs.LedgerLaws.{opening_sound}
+use Rattle.dm_print_ledger.specs.Creating.{SavesFirst, opening}
 use Rattle.dm_print_ledger.specs.declared.fault.CreateFault.{CreateFault}
 use Rattle.dm_print_ledger.specs.declared.fault.CreateFault.TheVariants as create_fault
 use Rattle.dm_print_ledger.specs.declared.range.Range.{Range}
-use Rattle.dm_print_ledger.specs.Ledger.{JobView, LedgerView, PrinterView, TicketView, is_range, ledger_bytes, ticket_bytes}
-use Rattle.dm_print_ledger.specs.Verdicts.{AreLabels, IsMade}
-use Rattle.relay_command.specs.declared.command.Labels.{Labels}
+use Rattle.dm_print_ledger.specs.declared.fault.TakeFault.TheVariants as take_fault
+use Rattle.dm_print_ledger.specs.Ledger.{JobView, LedgerView, PrinterView, TicketView, givers_with, is_range, ledger_bytes, running}
+use Rattle.dm_print_ledger.specs.Verdicts.{AreLabels, Carries, IsJobOf, IsMade, Takes, giver_of, least, take_verdict, ticket_of, union_of}
+use Rattle.dm_event_history.specs.Relay.{Running}
+use Rattle.relay_command.specs.declared.command.Command.TheVariants.{Export, Give, Ledger, Print, Take}
 use Rattle.relay_command.specs.declared.command.Labels.TheVariants.{OfSide}
-use Rattle.relay_streams.specs.Streams.{OutputView}
-use Rattle.relay_shared.specs.Command.{StreamsView, TellsRefusal}
-use Rattle.relay_printer_commands.specs.Lines.{ticket_line}
+use Rattle.relay_shared.specs.Command.{StreamsView}
+use Rattle.relay_printer_commands.specs.Tickets.{IsTextOf}
 use Rattle.relay_printer_commands.proofs.Sizes.{same_size}
 use Rattle.relay_printer_commands.specs.Print.{EndsPrint, PrintsLabels, images_of}
 use Rattle.relay_printer_commands.specs.Print.EndsPrint.{no_side, not_read, too_long, read as was_read}
 use Rattle.relay_printer_commands.specs.Print.PrintsDocument.{opened as print_opened, not_opened as print_not_opened}
 use Rattle.relay_printer_commands.specs.Print.PrintsLabels.{no_line, all, lost}
-use Rattle.relay_printer_commands.specs.Printers.{EndsGive, EndsLedger, OnLedger}
+use Rattle.relay_printer_commands.specs.Printers.{EndsGive, EndsLedger, EndsTake, OnLedger, ledger_at}
 use Rattle.relay_printer_commands.specs.Printers.EndsGive.{opened as give_opened, not_opened as give_not_opened}
 use Rattle.relay_printer_commands.specs.Printers.EndsLedger.{created, refused as not_created}
-use Rattle.relay_desk_commands.specs.Desks.{EndsExport, EndsImport, OnDesk}
+use Rattle.relay_printer_commands.specs.Printers.EndsTake.{no_ticket, not_opened as take_not_opened, opened as take_opened}
+use Rattle.relay_desk_commands.specs.Desks.{DeskFiles, EndsExport, EndsImport, OnDesk}
 use Rattle.relay_desk_commands.specs.Desks.EndsAtDesk.{no_desk, opened}
 use Rattle.relay_desk_commands.specs.Desks.EndsOnId.{no_id, of_id}
 use Rattle.relay_desk_commands.specs.Desks.EndsImport.{not_read, read}
-use Rattle.relay_runs.specs.Answered.{job_ended, ticket_given}
+use Rattle.relay_runs.proofs.Files.{opened as open_as}
+use Rattle.relay_runs.proofs.TicketTexts.{text_once}
+use Rattle.relay_runs.specs.Answered.{job_ended, ticket_given, ticket_taken}
+use Rattle.relay_runs.specs.Runs.{Keeps}
 use Rattle.relay_desk_runs.specs.Answered.{file_exported, file_imported, if_imported}
+use Rattle.relay_program_runs.specs.Law.{passed}
+use Rattle.relay_program_runs.specs.Passed.{Made, made_where}
+use Rattle.relay_program_runs.specs.Worked.{IsDone, files_of, given, no_files, reading}
 use Rattle.relay_program_runs.proofs.Images.{Is12}
+use Rattle.relay_program_runs.proofs.Steps.{PrintsId, ran}
 
 -- a refusal has the status 1
 abbrev IsOne : ℕ → Type 0
@@ -62,16 +74,55 @@ all_out (Some xs) (Some ys) out text none some appends =
 
 -- ---- `ledger`
 
-pub made_well : (number : ℕ) (range : Range) (old new : OnLedger) → IsTrue old.saved.is_honest →
-    EndsLedger number range old 0 new → (bytes : List ℕ) × (new.saved.content ≡ Some bytes)
-made_well number range old new honest (not_created fault creates told) = absurd (refused_one told.0)
-made_well number range old new honest (created printer creates told) = by_range (is_range range) creates.saves
+-- the files of a ledger of which nothing was used
+abbrev pub fresh : ℕ → Range → DeskFiles
+fresh number range = files_of (record no_files.joint { content = Some (ledger_bytes (opening number range)) }) no_files.set
+
+abbrev pub range_of : ℕ → ℕ → Range
+range_of first last = record { first = first; last = last }
+
+made_well : (number : ℕ) (range : Range) (streams : StreamsView) (new : OnLedger) →
+    EndsLedger number range (ledger_at no_files.joint streams) 0 new →
+    IsTrue (is_range range) × (new.saved ≡ (fresh number range).joint)
+made_well number range streams new (not_created fault creates told) = absurd (refused_one told.0)
+made_well number range streams new (created printer creates told) = by_range (is_range range) refl creates.saves
   where
-    by_range : (b : Bool) → MatchBool b (SavesFirst {X = PrinterView} old.saved (opening number range) (Ok printer) new.saved)
-        ((◌≡◌ {A = Result PrinterView CreateFault} (Ok printer) (Err create_fault.Range)) × (new.saved ≡ old.saved)) →
-        (bytes : List ℕ) × (new.saved.content ≡ Some bytes)
-    by_range true saves = (ledger_bytes (opening number range), saves.1.done refl honest)
-    by_range false no_range = absurd (let is = no_range.0 in cc (is))
+    by_range : (b : Bool) → is_range range ≡ b →
+        MatchBool b (SavesFirst {X = PrinterView} no_files.joint (opening number range) (Ok printer) new.saved)
+        ((◌≡◌ {A = Result PrinterView CreateFault} (Ok printer) (Err create_fault.Range)) × (new.saved ≡ no_files.joint)) →
+        IsTrue (is_range range) × (new.saved ≡ (fresh number range).joint)
+    by_range true is saves = (
+      is,
+      λ i. record {
+        content = saves.1.done refl refl i;
+        is_honest = saves.1.same_honesty i;
+        may_lack_memory = saves.1.same_memory i;
+        load_plan = saves.1.same_load_plan i;
+        save_plan = saves.1.follows i;
+      },
+    )
+    by_range false is no_range = absurd (let same = no_range.0 in cc (same))
+
+module _ {A : Type 0} {f : Bor (List ℕ)} {number first last : ℕ} {y : DeskFiles} {input o : List ℕ}
+    (r : IsDone A (Ledger f number first last) no_files input 0 y o) where
+  well : IsTrue (is_range (range_of first last)) × (r.after.files.joint ≡ (fresh number (range_of first last)).joint)
+  well = made_well number (range_of first last) (reading input) (ledger_at r.after.files.joint r.after.streams) r.does.0
+
+  made : r.after.files ≡ fresh number (range_of first last)
+  made = λ i. record { joint = well.1 i; set = r.does.1 i }
+
+  pub left_fresh : y ≡ fresh number (range_of first last)
+  left_fresh = sym r.files_are ∙ made
+
+  pub keeps_fresh : Keeps y.joint (Running (opening number (range_of first last)))
+  keeps_fresh = subst (λ (d : DeskFiles). Keeps d.joint (Running (opening number (range_of first last)))) (sym left_fresh)
+      (record { honest = refl; sound = opening_sound number (range_of first last) well.0; content = refl })
+
+  abbrev pub its_made : Made
+  its_made = record { number = number; range = range_of first last }
+
+  pub one_made : made_where None r.after.files.joint.content its_made ≡ its_made ∷ []
+  one_made = ap (λ (d : DeskFiles). made_where None d.joint.content its_made) made
 
 -- ---- `print`
 
@@ -107,19 +158,19 @@ labels_12 A every size scheme id n m (part ∷ parts) before (grid ∷ labels) s
     at_end [] x ys = refl
     at_end (z ∷ xs) x ys = at_end xs x ys
 
--- a print that ended well has a job, and its labels are all that was written
-pub record PrintedWell (A : Type 0) (job : Option JobView) (out : List ℕ) : Type 0 where
+-- a print that ended well has a job, of the least identification that was free, and its labels are all that was written
+pub record PrintedWell (A : Type 0) (saved : Saved) (job : Option JobView) (out : List ℕ) : Type 0 where
   pub it : JobView
   pub job_is : job ≡ Some it
+  pub id_is : (ledger : LedgerView) → Keeps saved (Running ledger) → it.id ≡ least ledger.free
   pub written : out ≡ images_of it.labels
   pub labels : AllByRecursion (Is12 A (IsIn it.labels)) it.labels
 
-made_12 : (A : Type 0) (ledger : LedgerView) (size : Size) (scheme : Scheme) (document : List ℕ) (cutting : Option (List ℕ))
-    (job : JobView) → size ≡ Side12 → IsMade ledger size scheme document cutting job →
-    AllByRecursion (Is12 A (IsIn job.labels)) job.labels
-made_12 A ledger size scheme document None job is made = absurd made
-made_12 A ledger size scheme document (Some ends) job is made =
-    labels_12 A job.labels size scheme _ _ 1 _ [] job.labels refl is made.labels
+made_job : (ledger : LedgerView) (size : Size) (scheme : Scheme) (document : List ℕ) (cutting : Option (List ℕ))
+    (job : JobView) → IsMade ledger size scheme document cutting job →
+    (parts : List (List ℕ)) × IsJobOf size scheme (least ledger.free) parts job
+made_job ledger size scheme document None job made = absurd made
+made_job ledger size scheme document (Some ends) job made = (_, made)
 
 images_out : (labels : List GridView) (line : List ℕ) (old new : StreamsView) →
     PrintsLabels labels line old 0 new → Appends old.output.contents new.output.contents (images_of labels)
@@ -131,41 +182,116 @@ is_12 : (size : Size) → side size ≡ 12 → side size ≡ side Side12
 unfolding row
 is_12 size is = is
 
-pub print_well : (A : Type 0) (number : ℕ) (scheme : Scheme) (old new : OnLedger) (out : List ℕ) →
-    old.streams.output.contents ≡ Some [] → new.streams.output.contents ≡ Some out →
-    (ends : EndsPrint number (OfSide 12) scheme old 0 new) → PrintedWell A (job_ended ends) out
-print_well A number scheme old new out none some (no_side side same told) = absurd (refused_one told.0)
-print_well A number scheme old new out none some (not_read fault rest side failed same told) =
-    absurd (refused_one told.0)
-print_well A number scheme old new out none some (too_long document rest side is_read long same told) =
-    absurd (refused_one told.0)
-print_well A number scheme old new out none some
-    (was_read size document rest is_read chosen (print_not_opened fault opens same told)) =
-    absurd (refused_one told.0)
-print_well A number scheme old new out none some
-    (was_read size document rest is_read chosen (print_opened before after (Err fault) opens prints same told)) =
-    absurd (refused_one told.0)
-print_well A number scheme old new out none some
-    (was_read size document rest is_read chosen (print_opened before after (Ok job) opens prints same told)) = record {
-      it = job;
-      job_is = refl;
-      written = all_out old.streams.output.contents new.streams.output.contents out (images_of job.labels) none some
-          (images_out job.labels _ (record old.streams { input = rest }) new.streams told.0);
-      labels = made_12 A before.ledger size scheme document prints.cutting job (same_size size Side12 (is_12 size chosen.suits)) prints.made;
-    }
+pub print_done : {A : Type 0} {f : Bor (List ℕ)} {number : ℕ} {x y : DeskFiles} {input o : List ℕ}
+    (r : IsDone A (Print f number (OfSide 12) Ascii) x input 0 y o) → PrintedWell A x.joint (passed (ran r)).printed o
+print_done {A} {number = number} {x} {input = input} {o} r =
+    by_ends (ledger_at r.after.files.joint r.after.streams) r.output_is r.does.0.0
+  where
+    by_ends : (new : OnLedger) → new.streams.output.contents ≡ Some o →
+        (ends : EndsPrint number (OfSide 12) Ascii (ledger_at x.joint (reading input)) 0 new) →
+        PrintedWell A x.joint (job_ended ends) o
+    by_ends new some (no_side side same told) = absurd (refused_one told.0)
+    by_ends new some (not_read fault rest side failed same told) = absurd (refused_one told.0)
+    by_ends new some (too_long document rest side is_read long same told) = absurd (refused_one told.0)
+    by_ends new some (was_read size document rest is_read chosen (print_not_opened fault opens same told)) =
+        absurd (refused_one told.0)
+    by_ends new some
+        (was_read size document rest is_read chosen (print_opened before after (Err fault) opens prints same told)) =
+        absurd (refused_one told.0)
+    by_ends new some
+        (was_read size document rest is_read chosen (print_opened before after (Ok job) opens prints same told)) =
+        let made = made_job before.ledger size Ascii document prints.cutting job prints.made in
+        record {
+          it = job;
+          job_is = refl;
+          id_is = λ ledger keeps. made.1.id_is
+              ∙ ap (λ (v : PrinterView). least v.ledger.free) (open_as x.joint (Running ledger) number before keeps opens).1;
+          written = all_out (Some []) new.streams.output.contents o (images_of job.labels) refl some
+              (images_out job.labels _ (record (reading input) { input = rest }) new.streams told.0);
+          labels = labels_12 A job.labels size Ascii _ _ 1 made.0 [] job.labels refl
+              (same_size size Side12 (is_12 size chosen.suits)) made.1.labels;
+        }
+
+pub prints_id : {A : Type 0} {f : Bor (List ℕ)} {number : ℕ} {x y : DeskFiles} {input o : List ℕ} {ledger : LedgerView} →
+    Keeps x.joint (Running ledger) → (r : IsDone A (Print f number (OfSide 12) Ascii) x input 0 y o) →
+    PrintsId (least ledger.free) (ran r)
+prints_id {ledger = ledger} keeps r =
+    let p = print_done r in record { job = p.it; job_is = p.job_is; id_is = p.id_is ledger keeps }
+
+-- ---- `give` and `take`
+
+-- what a call saved that was answered
+answered_next : {X F may_lack : Type 0} (failed memory save : F) (verdict : Result LedgerView F) (old new : PrinterView)
+    (x : X) → old.is_failed ≡ false → IsTrue old.saved.is_honest →
+    Carries failed memory save may_lack verdict old (Ok x) new → (next : LedgerView) → verdict ≡ Ok next →
+    Keeps new.saved (Running next)
+answered_next failed memory save verdict old new x runs honest carries next is =
+    let does = carries.saves runs next is in
+    record { honest = does.1.0.same_honesty ∙ honest; sound = does.0; content = does.1.0.done refl honest }
+
+pub gave : {A : Type 0} {f : Bor (List ℕ)} {number to first last : ℕ} {x y : DeskFiles} {input o : List ℕ}
+    {ledger : LedgerView} → Keeps x.joint (Running ledger) → (r : IsDone A (Give f number to first last) x input 0 y o) →
+    (passed (ran r)).given ≡ Some (ticket_of ledger to (range_of first last))
+gave {number = number} {to} {first} {last} {x} {input = input} {ledger = ledger} keeps r = by_ends r.does.0
+  where
+    by_ends : {new : OnLedger} (ends : EndsGive number to (range_of first last) (ledger_at x.joint (reading input)) 0 new) →
+        ticket_given ends ≡ Some (ticket_of ledger to (range_of first last))
+    by_ends (give_not_opened fault opens same told) = absurd (refused_one told.0)
+    by_ends (give_opened before after (Err fault) opens gives same told only) = absurd (refused_one told)
+    by_ends (give_opened before after (Ok ticket) opens gives same told only) =
+        ap Some (gives.1 ∙ ap (λ (v : PrinterView). ticket_of v.ledger to (range_of first last))
+        (open_as x.joint (Running ledger) number before keeps opens).1)
+
+-- the ledger after a ticket was taken
+abbrev pub with_ticket : LedgerView → TicketView → LedgerView
+with_ticket ledger ticket = record ledger {
+  free = union_of ledger.free ticket.range;
+  givers = givers_with ledger.givers (giver_of ticket);
+}
+
+-- the ticket was taken in, and the printer goes on so
+abbrev pub Took : Option TicketView → TicketView → Saved → LedgerView → Type 0
+Took taken ticket saved ledger = (taken ≡ Some ticket) × Keeps saved (Running (with_ticket ledger ticket))
+
+pub took : {A : Type 0} {f t : Bor (List ℕ)} {number : ℕ} {x y : DeskFiles} {input o : List ℕ} {ledger : LedgerView}
+    (ticket : TicketView) → IsTextOf t.now ticket → take_verdict ledger ticket ≡ Ok (with_ticket ledger ticket) →
+    Keeps x.joint (Running ledger) → (r : IsDone A (Take f number t) x input 0 y o) →
+    Took (passed (ran r)).taken ticket y.joint ledger
+took {t = t} {number} {x} {y} {input} {ledger = ledger} ticket is verdict keeps r =
+    let well = by_ends r.does.0 in
+    (well.0, subst (λ (d : DeskFiles). Keeps d.joint (Running (with_ticket ledger ticket))) r.files_are well.1)
+  where
+    by_ends : {new : OnLedger} (ends : EndsTake number t.now (ledger_at x.joint (reading input)) 0 new) →
+        Took (ticket_taken ends) ticket new.saved ledger
+    by_ends (no_ticket has same told) = absurd (refused_one told.0)
+    by_ends (take_not_opened fault has opens same told) = absurd (refused_one told.0)
+    by_ends (take_opened other before after (Err fault) has is_other opens takes same told only) =
+        absurd (refused_one told)
+    by_ends (take_opened other before after (Ok done) has is_other opens takes same told only) =
+        let one : other ≡ ticket = text_once t.now other ticket is_other is in (
+          ap Some one,
+          subst (λ (s : Saved). Keeps s (Running (with_ticket ledger ticket))) (sym same)
+              (answered_next take_fault.Failed take_fault.Memory take_fault.Save (take_verdict ledger ticket)
+              (running x.joint ledger) after done refl keeps.honest
+              (subst (λ (u : TicketView). Takes (running x.joint ledger) u (Ok done) after) one
+              (subst (λ (v : PrinterView). Takes v other (Ok done) after)
+              (open_as x.joint (Running ledger) number before keeps opens).1 takes)) (with_ticket ledger ticket) verdict),
+        )
 
 -- ---- `export` and `import`
 
-pub export_well : (text : List ℕ) (old new : OnDesk) (out : List ℕ) → old.streams.output.contents ≡ Some [] →
-    new.streams.output.contents ≡ Some out → (ends : EndsExport text old 0 new) → file_exported ends ≡ Some out
-export_well text old new out none some (no_id isnt same refuses) = absurd (refused_one refuses.0)
-export_well text old new out none some (of_id id text_is (no_desk name has refuses)) = absurd (refused_one refuses.0)
-export_well text old new out none some (of_id id text_is (opened desk opens (Err name, gives, refuses, same))) =
-    absurd (refused_one refuses.0)
-export_well text old new out none some (of_id id text_is (opened desk opens (Ok bytes, gives, inl told, same))) =
-    ap Some (sym (all_out old.streams.output.contents new.streams.output.contents out bytes none some told.0))
-export_well text old new out none some (of_id id text_is (opened desk opens (Ok bytes, gives, inr told, same))) =
-    absurd (refused_one told.3)
+pub export_done : {A : Type 0} {f i : Bor (List ℕ)} {x y : DeskFiles} {input o : List ℕ}
+    (r : IsDone A (Export f i) x input 0 y o) → (passed (ran r)).exported ≡ Some o
+export_done {i = i} {x} {input = input} {o} r = by_ends r.after r.output_is r.does
+  where
+    by_ends : (new : OnDesk) → new.streams.output.contents ≡ Some o → (ends : EndsExport i.now (given x input) 0 new) →
+        file_exported ends ≡ Some o
+    by_ends new some (no_id isnt same refuses) = absurd (refused_one refuses.0)
+    by_ends new some (of_id id text_is (no_desk name has refuses)) = absurd (refused_one refuses.0)
+    by_ends new some (of_id id text_is (opened desk opens (Err name, gives, refuses, same))) = absurd (refused_one refuses.0)
+    by_ends new some (of_id id text_is (opened desk opens (Ok bytes, gives, inl told, same))) =
+        ap Some (sym (all_out (Some []) new.streams.output.contents o bytes refl some told.0))
+    by_ends new some (of_id id text_is (opened desk opens (Ok bytes, gives, inr told, same))) = absurd (refused_one told.3)
 
 pub import_of_all : (P : List ℕ → Type 0) (capacity : ℕ) (old : OnDesk) (status : ℕ) (new : OnDesk) (input : List ℕ) →
     old.streams.input.remaining ≡ Some input → length input ≤ 1000 →

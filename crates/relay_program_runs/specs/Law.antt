@@ -4,27 +4,29 @@
 -- The stores and sets are honest: each holds what it was last given to hold, or, after a save that failed, that or what it
 -- held before. Files on a disk that keeps its promise are such stores; that a system's disk keeps it is trusted. Each
 -- command has what is at its path to itself until it ends: of two at one path at once nothing is said.
-use Rattle.std.specs.Prelude.{◌≡◌, ◌≢◌, ◌++◌, ◌∷◌, ◌⊎◌, ℕ, AllPairs, Bool, IfSome, IsSomeAnd, IsTrue, List, [], None, Option, Some, slice_get, slice_set}
+use Rattle.std.specs.Prelude.{◌≡◌, ◌≢◌, ◌+◌, ◌++◌, ◌∷◌, ◌⊎◌, ℕ, length, AllPairs, Bool, IfSome, IsSomeAnd, IsTrue, List, [], None, Option, Some, slice_get, slice_set}
 use Rattle.std.specs.List.{AllByRecursion}
 use Rattle.std.specs.FinMap as finite
 use Rattle.std.specs.Io.KnownBytes.{Appends}
 use Rattle.dm_finder_frame.specs.Frame.{GridView}
 use Rattle.dm_symbol.specs.Correction.{IsNear}
-use Rattle.dm_append_label.specs.Labels.{Carries, PageView}
+use Rattle.dm_size.specs.declared.size.Size.{Size}
+use Rattle.dm_encodation.specs.declared.scheme.Scheme.{Scheme}
+use Rattle.dm_append_label.specs.Labels.{AreParts, Carries, PageView}
 use Rattle.dm_print_ledger.specs.Ledger.{JobView}
 use Rattle.dm_event_history.specs.Headline.{IsApart}
 use Rattle.relay_command.specs.declared.command.Command.{Command}
-use Rattle.relay_streams.specs.Streams.{AppendsPart, InputView}
+use Rattle.relay_streams.specs.Streams.{AppendsPart, InputView, OutputView}
 use Rattle.relay_shared.specs.Command.{ReadsDocument}
 use Rattle.relay_printer_commands.specs.Print.{images_of}
 use Rattle.relay_desk_commands.specs.Desks.{DeskFiles, IsTextOfId, OnDesk}
-use Rattle.relay.specs.Commands.{Does}
-use Rattle.relay_program_runs.specs.Passed.{Made, Passed, made_by, passed_by, path_of, text_of}
+use Rattle.relay.specs.Commands.{Does, path_of}
+use Rattle.relay_program_runs.specs.Passed.{Made, Passed, made_by, passed_by, text_of}
 
 -- ---- commands that ran
 
--- A command exited with this status. Or the machine cut it short: then it left what it leaves if from some point on each
--- call and each write fails, and nobody saw the status of that. If a save failed and the machine stopped before the file
+-- A command exited with this status. Or the machine cut it short: then it left what it may leave if from some point on each
+-- call and each write fails, so what its clause allows, and nobody saw the status of that. If a save failed and the machine stopped before the file
 -- was read again, the command counts as cut short, since the stop may have undone the save.
 pub data Ends (A : Type 0) (command : Command) (before after : OnDesk) : Type 0 where
   exited : (status : ℕ) → Does A command before status after → Ends A command before after
@@ -121,19 +123,31 @@ abbrev pub IsFirstOfItsId : {A : Type 0} → List (Ran A) → Ran A → Type 0
 IsFirstOfItsId earlier ran = IfSome (passed ran).printed (λ job.
     ¬ SomeRan (λ other. IsSomeAnd (passed other).printed (λ its. its.id ≡ job.id)) earlier)
 
--- It read the document, and its job has the identification. Each label of the job carries a page of it, and a first part
--- of their images was written. Where the bytes of a stream are not known, the clause of the command alone says which.
+-- the page is one of the parts of a document, in its place
+pub record IsOnePart (parts : List (List ℕ)) (page : PageView) : Type 0 where
+  pub place : ℕ
+  pub m_is : page.m ≡ place + 1
+  pub n_is : page.n ≡ length parts
+  pub part : slice_get parts place ≡ Some page.bytes
+
+-- It read the document, and its job has the identification. Each label of the job carries a part of the document under
+-- it, and a first part of their images was written. Where the bytes of the input are not known the labels alone say which
+-- document it was; where those of the output are not, nothing says what was written.
 pub record Prints {A : Type 0} (id : ℕ) (document : List ℕ) (ran : Ran A) : Type 0 where
   pub rest : InputView
   pub read : ReadsDocument ran.before.streams.input rest document
   pub job : JobView
   pub job_is : (passed ran).printed ≡ Some job
   pub id_is : job.id ≡ id
+  pub size : Size
+  pub scheme : Scheme
+  pub parts : List (List ℕ)
+  pub are_parts : AreParts size scheme document parts
   pub labels : (i : ℕ) (grid : GridView) → slice_get job.labels i ≡ Some grid →
-      (page : PageView) × Carries page grid × (page.id ≡ id)
+      (page : PageView) × Carries page grid × (page.id ≡ id) × IsOnePart parts page
   pub written : AppendsPart ran.before.streams.output.contents ran.after.streams.output.contents (images_of job.labels)
 
--- It wrote nothing, and its status is 1; or it wrote a first part of a document that was printed before under the
+-- It wrote nothing, and its status is 1 if it exited; or it wrote a first part of a document that was printed before under the
 -- identification of the text, and all of it if its status is 0.
 pub data WritesPrinted {A : Type 0} (earlier : List (Ran A)) (text : List ℕ) (ran : Ran A) : Type 0 where
   writes_nothing : ran.after.streams.output ≡ ran.before.streams.output
@@ -150,15 +164,30 @@ DeliversPrinted IsAmong earlier ran =
 
 -- ---- the laws
 
--- No identification is printed twice, if ledgers are made apart and tickets are taken as they were given. Of scans nothing
--- is asked.
+-- What both laws ask of a list of commands at a site: nothing is there at first, each command finds what the last one at
+-- its path left, ledgers are made apart, and tickets are taken as they were given.
+pub record Asks {A : Type 0} (site : List At) (rans : List (Ran A)) : Type 0 where
+  pub is_new : IsNew site
+  pub runs : Runs site rans
+  pub apart : AllPairs AreApart (all_made rans)
+  pub tickets : Each TakesGiven [] rans
+
+-- No identification is printed twice. Of scans nothing is asked. A `copy` draws a label again, and is no print.
 abbrev pub NoIdIsPrintedTwice : Type 0 → Type 0
-NoIdIsPrintedTwice A = (site : List At) (rans : List (Ran A)) → IsNew site → Runs site rans →
-    AllPairs AreApart (all_made rans) → Each TakesGiven [] rans → Each IsFirstOfItsId [] rans
+NoIdIsPrintedTwice A = (site : List At) (rans : List (Ran A)) → Asks site rans → Each IsFirstOfItsId [] rans
 
 -- What is delivered at some paths was printed, if besides what they took in was printed. So a misread elsewhere is no
 -- matter, unless a copy or an export comes from there.
 abbrev pub WhatIsDeliveredWasPrinted : Type 0 → Type 0
-WhatIsDeliveredWasPrinted A = (among : List ℕ → Bool) (site : List At) (rans : List (Ran A)) → IsNew site →
-    Runs site rans → AllPairs AreApart (all_made rans) → Each TakesGiven [] rans → Each (TakesPrinted (λ path. IsTrue (among path))) [] rans →
-    Each (DeliversPrinted (λ path. IsTrue (among path))) [] rans
+WhatIsDeliveredWasPrinted A = (among : List ℕ → Bool) (site : List At) (rans : List (Ran A)) → Asks site rans →
+    Each (TakesPrinted (λ path. IsTrue (among path))) [] rans → Each (DeliversPrinted (λ path. IsTrue (among path))) [] rans
+
+-- `WritesPrinted` in other words: such a `deliver` wrote nothing, or a first part of a document that was printed, and all
+-- of it if its status is 0.
+abbrev pub WhatIsWrittenWasPrinted : Type 0 → Type 0
+WhatIsWrittenWasPrinted A = (earlier : List (Ran A)) (text : List ℕ) (ran : Ran A) → WritesPrinted earlier text ran →
+    let old : OutputView = ran.before.streams.output in let new : OutputView = ran.after.streams.output in
+    ((new ≡ old) × IfSome (status_of ran.ends) (λ status. status ≡ 1))
+    ⊎ ((id : ℕ) × (document : List ℕ) × IsTextOfId text id × SomeRan (Prints id document) earlier
+    × AppendsPart old.contents new.contents document
+    × IfSome (status_of ran.ends) (λ status. status ≡ 0 → Appends old.contents new.contents document))

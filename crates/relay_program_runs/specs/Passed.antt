@@ -1,30 +1,14 @@
--- Of each command: the path that it names, what it let out and took in, and which ledger it made.
+-- Of each command: what it let out and took in, and which ledger it made.
 use Rattle.std.specs.Prelude.{◌∷◌, ℕ, List, [], None, Option, Some}
 use Rattle.dm_finder_frame.specs.Frame.{GridView}
 use Rattle.dm_print_ledger.specs.declared.range.Range.{Range}
 use Rattle.dm_print_ledger.specs.Ledger.{JobView, TicketView}
 use Rattle.relay_command.specs.declared.command.Command.{Command}
-use Rattle.relay_command.specs.declared.command.Command.TheVariants.{Copy, Deliver, Export, Forget, Give, Held, Import, Ledger, Left, Print, Scan, Take}
+use Rattle.relay_command.specs.declared.command.Command.TheVariants.{Copy, Deliver, Export, Give, Import, Ledger, Print, Scan, Take}
 use Rattle.relay_desk_commands.specs.Desks.{OnDesk}
 use Rattle.relay_runs.specs.Answered.{job_ended, ticket_given, ticket_taken}
 use Rattle.relay_desk_runs.specs.Answered.{file_exported, file_imported, grids_scanned, label_copied}
 use Rattle.relay.specs.Commands.{Does}
-
--- the path, or the empty one if the command names none
-abbrev pub path_of : Command → List ℕ
-path_of (Ledger file number first last) = file.now
-path_of (Print file number labels scheme) = file.now
-path_of (Give file number to first last) = file.now
-path_of (Take file number ticket) = file.now
-path_of (Left file) = file.now
-path_of (Scan file capacity) = file.now
-path_of (Deliver file id) = file.now
-path_of (Forget file id) = file.now
-path_of (Export file id) = file.now
-path_of (Import file capacity) = file.now
-path_of (Held file id) = file.now
-path_of (Copy file id page side scheme) = file.now
-path_of other = []
 
 -- the text of the identification that `deliver` is to give
 abbrev pub text_of : Command → Option (List ℕ)

@@ -1,19 +1,27 @@
--- Worked lists: commands over stores in memory and streams whose bytes are known, of which all premises of the laws hold.
-use Rattle.std.specs.Prelude.{◌≡◌, ◌≤◌, ℕ, All, AllPairs, Err, IsSome, IsTrue, List, [], None, Option, Some, codes, false, length, true}
+-- Worked lists: commands over stores in memory and streams whose bytes are known. Of one list all premises of the laws
+-- hold. Of each short one all but one hold, and the conclusion fails.
+use Rattle.std.specs.Prelude.{◌≡◌, ◌≢◌, ◌⊎◌, ◌≤◌, ◌<◌, ℕ, All, AllPairs, Err, IsSome, IsSomeAnd, IsTrue, List, [], None, Option, Some, codes, false, length, true}
+use Rattle.std.specs.FinMap as finite
 use Rattle.dm_finder_frame.specs.Frame.{GridView}
-use Rattle.dm_store.specs.Saved.{Saved, SavedSet}
+use Rattle.dm_store.specs.declared.mem_store.NextSave.TheVariants.{Fine}
+use Rattle.dm_store.specs.Fused.{with_open_plans}
+use Rattle.dm_store.specs.Saved.{Saved, SavedSet, in_memory}
 use Rattle.dm_print_ledger.specs.Ledger.{TicketView}
+use Rattle.dm_print_ledger.specs.declared.fault.TakeFault.{TakeFault}
 use Rattle.dm_print_ledger.specs.declared.fault.TakeFault.TheVariants as takes
+use Rattle.dm_assembly_desk.specs.declared.fault.ScanFault.{ScanFault}
 use Rattle.dm_assembly_desk.specs.declared.fault.ScanFault.TheVariants as scans
+use Rattle.dm_assembly_desk.specs.declared.fault.ImportFault.{ImportFault}
 use Rattle.dm_assembly_desk.specs.declared.fault.ImportFault.TheVariants as imports
 use Rattle.relay_runs.specs.Answered.{if_taken}
 use Rattle.relay_desk_runs.specs.Answered.{if_imported, if_saved}
 use Rattle.relay_command.specs.declared.command.Command.{Command}
 use Rattle.relay_shared.specs.Command.{StreamsView}
-use Rattle.relay_desk_commands.specs.Desks.{OnDesk}
-use Rattle.relay.specs.Commands.{Does}
+use Rattle.dm_event_history.specs.Headline.{IsApart}
+use Rattle.relay_desk_commands.specs.Desks.{DeskFiles, OnDesk}
+use Rattle.relay.specs.Commands.{Does, path_of}
 use Rattle.relay_program_runs.specs.Passed.{Made, made_where, text_of}
-use Rattle.relay_program_runs.specs.Law.{AreApart, At, Each, IsNew, Ran, Runs, SomeRan, TakesGiven, TakesPrinted, all_made, status_of}
+use Rattle.relay_program_runs.specs.Law.{AreApart, Asks, At, DeliversPrinted, Each, IsBlank, IsFirstOfItsId, IsNew, Ran, Runs, SomeRan, TakesGiven, TakesPrinted, all_made, at_its_path, passed, status_of}
 
 -- an input of these bytes, and outputs that nothing was written to
 abbrev pub reading : List ℕ → StreamsView
@@ -23,53 +31,112 @@ reading input = record {
   errors = record { contents = Some []; has_failed = false };
 }
 
--- over this store and this set, with such streams
-abbrev pub given : Saved → SavedSet → List ℕ → OnDesk
-given store set input = record { files = record { joint = store; set = set }; streams = reading input }
+-- over these files, with such streams
+abbrev pub given : DeskFiles → List ℕ → OnDesk
+given files input = record { files = files; streams = reading input }
 
--- The command was done so, left this store and this set, and wrote these bytes.
-pub record IsDone (A : Type 0) (command : Command) (store : Saved) (set : SavedSet) (input : List ℕ) (status : ℕ)
-    (store_after : Saved) (set_after : SavedSet) (output : List ℕ) : Type 0 where
+-- The command was done so, left these files, and wrote these bytes.
+pub record IsDone (A : Type 0) (command : Command) (files : DeskFiles) (input : List ℕ) (status : ℕ)
+    (files_after : DeskFiles) (output : List ℕ) : Type 0 where
   pub after : OnDesk
-  pub does : Does A command (given store set input) status after
-  pub files_are : after.files ≡ record { joint = store_after; set = set_after }
+  pub does : Does A command (given files input) status after
+  pub files_are : after.files ≡ files_after
   pub output_is : after.streams.output.contents ≡ Some output
+
+abbrev pub files_of : Saved → SavedSet → DeskFiles
+files_of store set = record { joint = store; set = set }
+
+-- those in memory, behind fuses, that hold nothing
+abbrev pub no_files : DeskFiles
+no_files = files_of (with_open_plans (in_memory None false Fine)) (with_open_plans (in_memory finite.empty false Fine))
 
 -- ---- the worked list
 
--- a `deliver` that exited with 0, and wrote these bytes
-pub record Delivers {A : Type 0} (written : List ℕ) (ran : Ran A) : Type 0 where
+-- a `deliver` at this path that exited with 0, and wrote these bytes
+pub record Delivers {A : Type 0} (path written : List ℕ) (ran : Ran A) : Type 0 where
   pub asks : IsSome (text_of ran.command)
+  pub path_is : path_of ran.command ≡ path
   pub well : status_of ran.ends ≡ Some 0
   pub before : ran.before.streams.output.contents ≡ Some []
   pub after : ran.after.streams.output.contents ≡ Some written
 
--- Ten commands, of which all premises of the two laws hold, at all paths; one was cut short, and one delivers this.
+-- it wrote some bytes, and exited with 1
+abbrev pub IsLost : {A : Type 0} → Ran A → Type 0
+IsLost ran = (status_of ran.ends ≡ Some 1) × IsSomeAnd ran.after.streams.output.contents (λ bytes. 0 < length bytes)
+
+-- Twelve commands, of which all premises of the two laws hold, at all paths. One took a ticket, one was cut short, the
+-- output of one was lost, and this is delivered at two desks.
 pub record IsWorked (A : Type 0) (written : List ℕ) : Type 0 where
   pub site : List At
   pub rans : List (Ran A)
-  pub count : length rans ≡ 10
-  pub is_new : IsNew site
-  pub runs : Runs site rans
-  pub apart : AllPairs AreApart (all_made rans)
-  pub tickets : Each TakesGiven [] rans
+  pub count : length rans ≡ 12
+  pub asks : Asks site rans
   pub printed : Each (TakesPrinted (λ path. IsTrue true)) [] rans
+  pub takes : SomeRan (λ ran. IsSome (passed ran).taken) rans
   pub cut : SomeRan (λ ran. status_of ran.ends ≡ None) rans
-  pub delivers : SomeRan (Delivers written) rans
+  pub lost : SomeRan IsLost rans
+  pub here : SomeRan (Delivers (codes "d") (codes "1234")) rans
+  pub there : SomeRan (Delivers (codes "e") written) rans
   pub written_is : written ≡ codes "1234"
 
--- The statuses are 0, the file is short, and this came out.
-pub record EndWell (statuses file document : List ℕ) : Type 0 where
+-- The statuses are 0, but this one is 1, after some bytes; the file is short; and this came out, twice.
+pub record EndWell (statuses : List ℕ) (status : ℕ) (some file one other : List ℕ) : Type 0 where
   pub statuses_are : All (λ status. status ≡ 0) statuses
+  pub lost : (status ≡ 1) × (0 < length some)
   pub short : length file ≤ 1000
-  pub document_is : document ≡ codes "1234"
+  pub documents : (one ≡ codes "1234") × (other ≡ codes "1234")
 
 -- ---- what is refused silences neither law
 
--- A ticket, a grid or a file that was refused was not taken in; and no ledger was made where there is one, or is none.
+-- A ticket, a grid or a file that was refused, unless its save failed, was not taken in; and no ledger was made where there
+-- is one, or is none.
 pub record RefusalsCountNot : Type 0 where
-  pub ticket : (ticket : TicketView) → if_taken (Err takes.Receiver) ticket ≡ None
-  pub grid : (grid : GridView) → if_saved scans.Conflict grid ≡ []
-  pub file : (file : List ℕ) → if_imported (Err imports.Damaged) file ≡ None
+  pub ticket : (fault : TakeFault) → fault ≢ takes.Save → (ticket : TicketView) → if_taken (Err fault) ticket ≡ None
+  pub grid : (fault : ScanFault) → fault ≢ scans.Save → (grid : GridView) → if_saved fault grid ≡ []
+  pub file : (fault : ImportFault) → fault ≢ imports.Save → (file : List ℕ) → if_imported (Err fault) file ≡ None
   pub there : (old : List ℕ) (after : Option (List ℕ)) (ledger : Made) → made_where (Some old) after ledger ≡ []
   pub absent : (before : Option (List ℕ)) (ledger : Made) → made_where before None ledger ≡ []
+
+-- ---- each premise is needed
+
+-- A list of which the premises of a law hold, one of them in a weaker form, and of which its conclusion fails.
+pub record Breaks (A : Type 0) (Run : List At → List (Ran A) → Type 0) (Apart : Made → Made → Type 0)
+    (Takes So : List (Ran A) → Ran A → Type 0) : Type 0 where
+  pub site : List At
+  pub rans : List (Ran A)
+  pub is_new : IsNew site
+  pub runs : Run site rans
+  pub apart : AllPairs Apart (all_made rans)
+  pub tickets : Each Takes [] rans
+  pub fails : ¬ Each So [] rans
+
+-- two ledgers have one range
+abbrev pub NeedsRanges : Type 0 → Type 0
+NeedsRanges A = Breaks A Runs (λ one other. one.number ≢ other.number) TakesGiven IsFirstOfItsId
+
+-- two ledgers have one number
+abbrev pub NeedsNumbers : Type 0 → Type 0
+NeedsNumbers A = Breaks A Runs (λ one other. IsApart one.range other.range) TakesGiven IsFirstOfItsId
+
+-- a ticket is taken that nobody gave
+abbrev pub NeedsTickets : Type 0 → Type 0
+NeedsTickets A = Breaks A Runs AreApart (λ earlier ran. Unit {0}) IsFirstOfItsId
+
+-- What it found at its path is nothing, or was there once.
+abbrev pub FindsOld : {A : Type 0} → List (Ran A) → Ran A → Type 0
+FindsOld earlier ran = IsBlank (at_its_path ran ran.before.files)
+    ⊎ SomeRan (λ other. at_its_path other other.after.files ≡ at_its_path ran ran.before.files) earlier
+
+-- a ledger is put back
+abbrev pub NeedsFiles : Type 0 → Type 0
+NeedsFiles A = Breaks A (λ site. Each FindsOld []) AreApart TakesGiven IsFirstOfItsId
+
+-- a label is taken in that no print or copy of the list let out, and no file
+abbrev pub NeedsLabels : Type 0 → Type 0
+NeedsLabels A = Breaks A Runs AreApart (λ earlier ran. TakesGiven earlier ran × ((passed ran).imported ≡ None))
+    (DeliversPrinted (λ path. IsTrue true))
+
+-- a file is taken in that no export of the list gave, and no label
+abbrev pub NeedsExports : Type 0 → Type 0
+NeedsExports A = Breaks A Runs AreApart (λ earlier ran. TakesGiven earlier ran × ((passed ran).scanned ≡ []))
+    (DeliversPrinted (λ path. IsTrue true))

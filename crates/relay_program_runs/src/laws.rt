@@ -1,6 +1,6 @@
 //! The two laws: each function's contract is the law.
 
-ghost use Rattle.relay_program_runs.specs.Law.{NoIdIsPrintedTwice, WhatIsDeliveredWasPrinted};
+ghost use Rattle.relay_program_runs.specs.Law.{NoIdIsPrintedTwice, WhatIsDeliveredWasPrinted, WhatIsWrittenWasPrinted};
 ghost use Rattle.relay_program_runs.specs.Worked.{RefusalsCountNot};
 
 use std::alloc::Allocator;
@@ -13,6 +13,11 @@ pub fn no_id_is_printed_twice<A: Allocator>()
 /// What is delivered was printed.
 pub fn what_is_delivered_was_printed<A: Allocator>()
     ensures { WhatIsDeliveredWasPrinted A }
+{}
+
+/// What `deliver` wrote is nothing, or a first part of a document that was printed.
+pub fn what_is_written_was_printed<A: Allocator>()
+    ensures { WhatIsWrittenWasPrinted A }
 {}
 
 /// What is refused counts neither as taken in nor as made.

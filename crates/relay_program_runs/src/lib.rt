@@ -3,4 +3,5 @@
 #![tactic(auto)]
 
 pub mod laws;
+pub mod needed;
 pub mod worked;

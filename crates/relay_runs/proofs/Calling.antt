@@ -1,5 +1,5 @@
 -- A printer is opened over its store and called: what the proofs of worlds ask of a printer that runs in memory.
-use Rattle.std.proofs.Common.{◌≡◌, false, refl, arith}
+use Rattle.std.proofs.Common.{◌≡◌, refl, arith}
 use Rattle.dm_store.specs.Saved.{Saved}
 use Rattle.dm_print_ledger.specs.Ledger.{LedgerView, PrinterView, running}
 use Rattle.dm_event_history.specs.declared.reply.Reply.{Reply}
@@ -8,7 +8,7 @@ use Rattle.dm_event_history.specs.Relay.{Actor, Running, Failed, Down, stored_of
 use Rattle.dm_event_world.specs.declared.actor.PrinterActor.{PrinterActor}
 use Rattle.dm_event_world.specs.declared.actor.PrinterActor.TheVariants as actors
 use Rattle.dm_event_world.specs.Shows.{ShowsPrinter}
-use Rattle.dm_event_world.specs.inner.Calls.{down_printer, ended, ended_reply, stops_before}
+use Rattle.dm_event_world.specs.inner.Calls.{down_printer, ended, ended_reply}
 use Rattle.relay_runs.specs.Runs.{Keeps}
 use Rattle.relay_runs.proofs.Plans.{IsMet, fine_printer}
 use Rattle.relay_runs.proofs.Files.{HoldsFile, file_of, holds}
@@ -39,6 +39,3 @@ met_reply stop reply met = grind arith
 pub met_ended : {A : Type 0} (stop : Stop) (reply : Reply A) (actor : PrinterActor A) → IsMet stop →
     actor ≡ ended down_printer stop reply actor
 met_ended stop reply actor met = grind arith
-
-pub met_made : (stop : Stop) → IsMet stop → stops_before stop ≡ false
-met_made stop met = grind arith

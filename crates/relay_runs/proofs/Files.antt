@@ -6,7 +6,7 @@ use Rattle.dm_store.specs.Saved.{Saved}
 use Rattle.dm_print_ledger.specs.declared.fault.OpenFault.{OpenFault}
 use Rattle.dm_print_ledger.specs.declared.fault.OpenFault.TheVariants.{Number, Device, Memory}
 use Rattle.dm_print_ledger.specs.Ledger.{LedgerView, PrinterView, is_sound, ledger_bytes, running, shown_of}
-use Rattle.dm_print_ledger.specs.Verdicts.{Carries, HoldsLedger, LoadsLedger, Opens, numbered, open_verdict, show_verdict}
+use Rattle.dm_print_ledger.specs.Verdicts.{Carries, HoldsLedger, Opens, numbered, open_verdict}
 use Rattle.dm_print_ledger.specs.Verdicts as verdicts
 use Rattle.dm_print_ledger.proofs.ReadLaws.{held_by, ledger_read}
 use Rattle.dm_event_history.specs.Relay.{Actor, stored_of}

@@ -1,25 +1,21 @@
--- What a print lets out: labels that carry pages under its identification, and a first part of their images.
-use Rattle.std.proofs.Common.{◌≡◌, ◌+◌, ◌++◌, ℕ, zero, suc, List, [], ◌∷◌, None, Option, Some, Result, Ok, Err, slice_get, refl, sym, ap, subst, ◌∙◌}
+-- What a print lets out: a first part of the images of its labels.
+use Rattle.std.proofs.Common.{◌≡◌, ◌++◌, ℕ, List, [], ◌∷◌, None, Option, Some, Result, Ok, Err, slice_get, refl, sym, ap, subst, ◌∙◌}
 use Rattle.std.proofs.lemmas.Grind.{flat_map-append}
 use Rattle.dm_pbm_io.specs.Image.{p4}
 use Rattle.dm_finder_frame.specs.Frame.{GridView}
 use Rattle.dm_print_ledger.specs.declared.fault.PrintFault.{PrintFault}
-use Rattle.dm_print_ledger.specs.Ledger.{JobView, LedgerView}
+use Rattle.dm_print_ledger.specs.Ledger.{JobView}
 use Rattle.relay_streams.specs.Streams.{AppendsPart, OutputView}
 use Rattle.relay_shared.specs.Command.{StreamsView}
-use Rattle.relay_printer_commands.specs.Print.{LosesImages, PrintsLabels, TellsPrint, images_of}
+use Rattle.relay_printer_commands.specs.Print.{LosesImages, PrintsLabels, TellsPrint, images_of, EndsPrint}
 use Rattle.relay_printer_commands.specs.Print.LosesImages.{memory, write}
 use Rattle.relay_printer_commands.specs.Print.PrintsLabels.{no_line, all, lost}
-use Rattle.relay_printer_commands.specs.Print.{EndsPrint}
 use Rattle.relay_printer_commands.specs.Print.EndsPrint.{no_side, not_read, too_long, read as was_read}
 use Rattle.relay_printer_commands.specs.Print.PrintsDocument.{opened as was_opened, not_opened}
 use Rattle.relay_printer_commands.specs.Printers.{OnLedger}
 use Rattle.relay_command.specs.declared.command.Labels.{Labels}
 use Rattle.relay_streams.proofs.Parts.{part_none, part_whole}
-use Rattle.dm_append_label.specs.Labels.{Carries, PageView}
-use Rattle.dm_size.specs.declared.size.Size.{Size}
 use Rattle.dm_encodation.specs.declared.scheme.Scheme.{Scheme}
-use Rattle.dm_print_ledger.specs.Verdicts.{AreLabels, IsMade}
 use Rattle.relay_runs.specs.Answered.{answered, job_ended}
 
 no_part : (old new : OutputView) (text : List ℕ) → new ≡ old → AppendsPart old.contents new.contents text
@@ -51,46 +47,16 @@ job_part (Ok it) job left old new status is told =
     (labels_part it.labels _ old new status told.0)
 job_part (Err fault) job left old new status is told = cc (is)
 
--- each label of a job carries a page under its identification
-labels_carry : (size : Size) (scheme : Scheme) (id n m : ℕ) (parts : List (List ℕ)) (grids : List GridView) →
-    AreLabels size scheme id n m parts grids → (i : ℕ) (grid : GridView) → slice_get grids i ≡ Some grid →
-    (page : PageView) × Carries page grid × (page.id ≡ id)
-labels_carry size scheme id n m [] [] are i grid there = cc (there)
-labels_carry size scheme id n m [] (one ∷ grids) are i grid there = absurd are
-labels_carry size scheme id n m (part ∷ parts) [] are i grid there = absurd are
-labels_carry size scheme id n m (part ∷ parts) (one ∷ grids) are zero grid there =
-    let same : one ≡ grid = cc (there) in
-    (_, subst (Carries _) same are.0.carries, refl)
-labels_carry size scheme id n m (part ∷ parts) (one ∷ grids) are (suc i) grid there =
-    labels_carry size scheme id n (m + 1) parts grids are.1 i grid there
-
-made_carry : (ledger : LedgerView) (size : Size) (scheme : Scheme) (document : List ℕ) (cutting : Option (List ℕ))
-    (job : JobView) → IsMade ledger size scheme document cutting job → (i : ℕ) (grid : GridView) →
-    slice_get job.labels i ≡ Some grid → (page : PageView) × Carries page grid × (page.id ≡ job.id)
-made_carry ledger size scheme document None job made i grid there = absurd made
-made_carry ledger size scheme document (Some ends) job made i grid there =
-    let c = labels_carry size scheme _ _ 1 _ job.labels made.labels i grid there in (c.0, c.1, c.2 ∙ sym made.id_is)
-
--- what a print with this job let out
-pub record IsOut (old new : StreamsView) (job : JobView) : Type 0 where
-  pub labels : (i : ℕ) (grid : GridView) → slice_get job.labels i ≡ Some grid →
-      (page : PageView) × Carries page grid × (page.id ≡ job.id)
-  pub written : AppendsPart old.output.contents new.output.contents (images_of job.labels)
-
+-- a first part of the images of a job is out
 pub print_out : {number : ℕ} {labels : Labels} {scheme : Scheme} (old new : OnLedger) (status : ℕ)
     (ends : EndsPrint number labels scheme old status new) (job : JobView) → job_ended ends ≡ Some job →
-    IsOut old.streams new.streams job
+    AppendsPart old.streams.output.contents new.streams.output.contents (images_of job.labels)
 print_out old new status (no_side side same told) job is = cc (is)
 print_out old new status (not_read fault rest side failed same told) job is = cc (is)
 print_out old new status (too_long document rest side is_read long same told) job is = cc (is)
 print_out old new status (was_read size document rest is_read chosen (not_opened fault opens same told)) job is = cc (is)
-print_out {scheme = scheme} old new status
+print_out old new status
     (was_read size document rest is_read chosen (was_opened before after (Err fault) opens prints same told)) job is = cc (is)
-print_out {scheme = scheme} old new status
+print_out old new status
     (was_read size document rest is_read chosen (was_opened before after (Ok it) opens prints same told)) job is =
-    let here : it ≡ job = cc (is) in
-    record {
-      labels = made_carry before.ledger size scheme document prints.cutting job
-          (subst (IsMade before.ledger size scheme document prints.cutting) here prints.made);
-      written = job_part (Ok it) job _ _ new.streams status is told;
-    }
+    job_part (Ok it) job _ _ new.streams status is told

@@ -1,10 +1,10 @@
-use Rattle.std.proofs.Common.{◌≡◌, refl, sym, ap, subst, ◌∙◌, ℕ, List, Some, false, [], Option}
+use Rattle.std.proofs.Common.{◌≡◌, refl, sym, ap, subst, ◌∙◌, ℕ, List, Some, false, []}
 use Rattle.relay_streams.specs.Streams.{OutputView}
 use Rattle.relay_shared.specs.Command.{StreamsView}
 use Rattle.relay_desk_commands.specs.Desks.{desk_at}
 use Rattle.relay.specs.Commands.{Does}
-use Rattle.relay_program_runs.specs.Worked.{IsDone, given, reading}
-use Rattle.relay_program_runs.proofs.worked.done.Goals as goal
+use Rattle.relay_program_runs.specs.Worked.{reading}
+use Rattle.relay_program_runs.proofs.worked.done_within.Goals as goal
 
 pub returns : goal.returns
 returns g c =
@@ -22,7 +22,7 @@ returns g c =
       errors = c.streams.inside.errors;
     } in
     let v : seen ≡ c.do_command-ended.new.streams = c.streams.view_is in
-    let out : c.do_command-ended.new.streams.output.contents ≡ Some c.into_writer.result.items =
+    let out : c.do_command-ended.new.streams.output.contents ≡ Some c.into_writer.result.bytes.items =
     ap (λ (s : StreamsView). s.output.contents) (sym v) ∙ sym c.into_writer.ensures in
     record {
       after = desk_at (g.S.Store.state c.do_command-ended.result.store) (g.T.StoreSet.state c.do_command-ended.result.set)

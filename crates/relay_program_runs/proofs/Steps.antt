@@ -1,0 +1,185 @@
+-- Lists of commands, each at its place of a site: that the site is new, that they ran one after another, and which
+-- ledgers they made.
+use Rattle.std.proofs.Common.{◌≡◌, ◌≢◌, ◌≤◌, ◌<◌, ◌+◌, ◌++◌, ℕ, zero, suc, List, [], ◌∷◌, Option, Some, length, slice_get, slice_index_or, slice_set, refl, sym, ap, subst, ◌∙◌, arith}
+use Rattle.std.specs.Prelude.{AllPairs, IfSome, IsSomeAnd}
+use Rattle.std.specs.List.{AllByRecursion}
+use Rattle.dm_store.specs.Fused.{with_open_plans}
+use Rattle.dm_store.specs.Saved.{Saved, SavedSet}
+use Rattle.dm_print_ledger.specs.Ledger.{JobView, TicketView}
+use Rattle.relay_command.specs.declared.command.Command.{Command}
+use Rattle.relay_desk_commands.specs.Desks.{DeskFiles}
+use Rattle.relay.specs.Commands.{path_of}
+use Rattle.relay_program_runs.specs.Passed.{Made}
+use Rattle.relay_program_runs.specs.Law.{At, Each, IsBlank, IsFirstOfItsId, IsNew, Ran, Runs, SomeRan, TakesGiven, all_made, cut_short, exited, passed}
+use Rattle.relay_program_runs.proofs.Lists.{all_so}
+use Rattle.relay_program_runs.specs.Worked.{Breaks, IsDone, files_of, given, no_files}
+
+-- ---- lists
+
+pub also : {X Y : Type 0} → X → Y → X × Y
+also x y = (x, y)
+
+by_index : {X : Type 0} (P : X → Type 0) (xs : List X) → AllByRecursion P xs → (j : ℕ) (d : X) → j < length xs →
+    P (slice_index_or xs j d)
+by_index P [] all j d within = absurd (omega (arith, within))
+by_index P (x ∷ xs) all zero d within = all.0
+by_index P (x ∷ xs) all (suc j) d within = by_index P xs all.1 j d (omega arith)
+
+found : {X : Type 0} (P : X → Type 0) (xs : List X) → AllByRecursion P xs → (i : ℕ) (x : X) → slice_get xs i ≡ Some x →
+    P x
+found P [] all i x is = cc (is)
+found P (y ∷ ys) all zero x is = subst P (cc (is)) all.0
+found P (y ∷ ys) all (suc i) x is = found P ys all.1 i x is
+
+abbrev pub Pairs : {X : Type 0} → (X → X → Type 0) → List X → Type 0
+Pairs R [] = Unit {0}
+Pairs R (x ∷ xs) = AllByRecursion (R x) xs × Pairs R xs
+
+pub pairs_so : {X : Type 0} (R : X → X → Type 0) (xs : List X) → Pairs R xs → AllPairs R xs
+pairs_so R [] all i j d below within = absurd (omega (arith, within))
+pairs_so R (x ∷ xs) all zero zero d below within = absurd (omega (arith, below))
+pairs_so R (x ∷ xs) all zero (suc j) d below within = by_index (R x) xs all.0 j d (omega arith)
+pairs_so R (x ∷ xs) all (suc i) zero d below within = absurd (omega (arith, below))
+pairs_so R (x ∷ xs) all (suc i) (suc j) d below within = pairs_so R xs all.1 i j d (omega arith) (omega arith)
+
+-- ---- sites
+
+abbrev pub there : List ℕ → DeskFiles → At
+there path files = record { path = path; files = files }
+
+pub at_same : {p q : List ℕ} {x y : DeskFiles} → p ≡ q → x ≡ y → there p x ≡ there q y
+at_same path files = λ i. record { path = path i; files = files i }
+
+abbrev pub first_byte : List ℕ → ℕ
+first_byte [] = 0
+first_byte (x ∷ xs) = x
+
+-- each path begins with a greater byte than the one before
+abbrev pub Rise : ℕ → List At → Type 0
+Rise from [] = Unit {0}
+Rise from (at ∷ site) = (from ≤ first_byte at.path) × Rise (first_byte at.path + 1) site
+
+above : (m from : ℕ) (site : List At) → m < from → Rise from site → AllByRecursion (λ at. m < first_byte at.path) site
+above m from [] below rise = tt
+above m from (at ∷ site) below (first, rest) =
+    (omega arith, above m (first_byte at.path + 1) site (omega arith) rest)
+
+abbrev PathsApart : At → At → Type 0
+PathsApart one other = one.path ≢ other.path
+
+paths_apart : (from : ℕ) (site : List At) → Rise from site → Pairs PathsApart site
+paths_apart from [] rise = tt
+paths_apart from (at ∷ site) (first, rest) = (
+  all_so (λ other. first_byte at.path < first_byte other.path) (PathsApart at) site
+      (λ other below same. omega (arith, below, ap first_byte same))
+      (above (first_byte at.path) (first_byte at.path + 1) site (omega arith) rest),
+  paths_apart (first_byte at.path + 1) site rest,
+)
+
+pub new : (site : List At) → Rise 0 site → AllByRecursion IsBlank site → IsNew site
+new site rise blank =
+    record { paths = pairs_so PathsApart site (paths_apart 0 site rise); blank = found IsBlank site blank }
+
+pub blank : {path : List ℕ} → IsBlank (there path no_files)
+blank = record { store_honest = refl; store = refl; set_honest = refl; set = refl }
+
+-- ---- commands
+
+-- a command, the place at which it ran, and what it left there
+pub record Step (A : Type 0) : Type 0 where
+  pub place : ℕ
+  pub path : List ℕ
+  pub did : Ran A
+  pub named : path_of did.command ≡ path
+  pub after : DeskFiles
+  pub leaves : did.after.files ≡ after
+
+module _ {A : Type 0} {command : Command} {x y : DeskFiles} {input output : List ℕ} {status : ℕ} where
+  abbrev pub ran : IsDone A command x input status y output → Ran A
+  ran d = record { command = command; before = given x input; after = d.after; ends = exited status d.does }
+
+  abbrev pub cut : IsDone A command x input status y output → Ran A
+  cut d = record { command = command; before = given x input; after = d.after; ends = cut_short status d.does }
+
+  abbrev pub exits : {path : List ℕ} → ℕ → IsDone A command x input status y output → path_of command ≡ path → Step A
+  exits {path} place d named =
+      record { place = place; path = path; did = ran d; named = named; after = y; leaves = d.files_are }
+
+  abbrev pub stops : {path : List ℕ} → ℕ → IsDone A command x input status y output → path_of command ≡ path → Step A
+  stops {path} place d named =
+      record { place = place; path = path; did = cut d; named = named; after = y; leaves = d.files_are }
+
+  -- said of the same files, input and status
+  pub done_so : {z : DeskFiles} {other : List ℕ} {ended : ℕ} → x ≡ z → input ≡ other → status ≡ ended →
+      IsDone A command x input status y output → IsDone A command z other ended y output
+  done_so {z} {other} files reads ends d = subst (λ (s : ℕ). IsDone A command z other s y output) ends
+      (subst (λ (xs : List ℕ). IsDone A command z xs status y output) reads
+      (subst (λ (f : DeskFiles). IsDone A command f input status y output) files d))
+
+pub store_so : {store other : Saved} {set : SavedSet} → store ≡ other →
+    files_of (with_open_plans store) set ≡ files_of (with_open_plans other) set
+store_so {set = set} same = ap (λ (s : Saved). files_of (with_open_plans s) set) same
+
+abbrev pub rans_of : {A : Type 0} → List (Step A) → List (Ran A)
+rans_of [] = []
+rans_of (step ∷ steps) = step.did ∷ rans_of steps
+
+-- each found what is at its place
+abbrev pub Fit : {A : Type 0} → List At → List (Step A) → Type 0
+Fit site [] = Unit {0}
+Fit site (step ∷ steps) = (slice_get site step.place ≡ Some (there step.path step.did.before.files))
+    × Fit (slice_set site step.place (there step.path step.after)) steps
+
+pub run_so : {A : Type 0} (site : List At) (steps : List (Step A)) → Fit site steps → Runs site (rans_of steps)
+run_so site [] fit = tt
+run_so site (step ∷ steps) (finds, rest) = (
+  step.place,
+  finds ∙ ap Some (at_same (sym step.named) refl),
+  subst (λ (at : At). Runs (slice_set site step.place at) (rans_of steps)) (at_same (sym step.named) (sym step.leaves))
+      (run_so (slice_set site step.place (there step.path step.after)) steps rest),
+)
+
+pub and_made : {one : Made} {first more rest : List Made} → first ≡ one ∷ [] → more ≡ rest → first ++ more ≡ one ∷ rest
+and_made {one} {more = more} is are =
+    ap (λ (ms : List Made). ms ++ more) is ∙ ap (λ (ms : List Made). one ∷ ms) are
+
+-- ---- premises and conclusions
+
+-- it has a job of this identification
+pub record PrintsId {A : Type 0} (id : ℕ) (ran : Ran A) : Type 0 where
+  pub job : JobView
+  pub job_is : (passed ran).printed ≡ Some job
+  pub id_is : job.id ≡ id
+
+pub again : {A : Type 0} (earlier : List (Ran A)) {one other : Ran A} {id : ℕ} (number : ℕ) →
+    slice_get earlier number ≡ Some one → PrintsId id one → PrintsId id other → IsFirstOfItsId earlier other → ⊥
+again {A} earlier {one} {other} number at p q first =
+    subst (λ (o : Option JobView). IfSome o (λ job. ¬ SomeRan {A = A}
+    (λ ran. IsSomeAnd (passed ran).printed (λ its. its.id ≡ job.id)) earlier)) q.job_is first (
+      number,
+      one,
+      at,
+      subst (λ (o : Option JobView). IsSomeAnd o (λ its. its.id ≡ q.job.id)) (sym p.job_is) (p.id_is ∙ sym q.id_is),
+    )
+
+pub takes_given : {A : Type 0} (earlier : List (Ran A)) {giver : Ran A} (taker : Ran A) {ticket : TicketView} (number : ℕ) →
+    slice_get earlier number ≡ Some giver → (passed giver).given ≡ Some ticket → (passed taker).taken ≡ Some ticket →
+    TakesGiven earlier taker
+takes_given {A} earlier {giver} taker number at gives takes =
+    subst (λ (o : Option TicketView). IfSome o (λ ticket. SomeRan {A = A} (λ ran. (passed ran).given ≡ Some ticket) earlier))
+    (sym takes) (number, giver, at, gives)
+
+-- the list of these steps, which lacks a premise
+pub broken : {A : Type 0} (Apart : Made → Made → Type 0) (Takes So : List (Ran A) → Ran A → Type 0) (site : List At)
+    (steps : List (Step A)) → Rise 0 site → AllByRecursion IsBlank site → Fit site steps → (made : List Made) →
+    all_made (rans_of steps) ≡ made → Pairs Apart made → Each Takes [] (rans_of steps) →
+    (Each So [] (rans_of steps) → ⊥) → Breaks A Runs Apart Takes So
+broken Apart Takes So site steps rise blank fit made are apart takes fails = record {
+  site = site;
+  rans = rans_of steps;
+  is_new = new site rise blank;
+  runs = run_so site steps fit;
+  apart = subst (AllPairs Apart) (sym are) (pairs_so Apart made apart);
+  tickets = takes;
+  fails = fails;
+}

@@ -1,0 +1,135 @@
+-- The premises of the laws, of the commands of the worked list.
+use Rattle.std.proofs.Common.{◌≡◌, ◌≤◌, ◌<◌, ◌++◌, inl, ℕ, List, [], ◌∷◌, None, Option, Some, length, slice_get, refl, sym, ap, subst, ◌∙◌, arith}
+use Rattle.std.specs.Prelude.{AllPairs, IfSome, IsSomeAnd, IsTrue, codes, is_some, true}
+use Rattle.std.specs.Borrow.{Bor}
+use Rattle.std.specs.List.{AllByRecursion}
+use Rattle.dm_gf256.proofs.OneBlockWord.{differ-self}
+use Rattle.dm_check_blocks.specs.Blocks.{block_of}
+use Rattle.dm_encodation.specs.declared.scheme.Scheme.TheVariants.{Ascii}
+use Rattle.dm_finder_frame.specs.Frame.{GridView}
+use Rattle.dm_symbol.specs.Correction.{IsNear, words_of_grid}
+use Rattle.dm_print_ledger.specs.Ledger.{JobView}
+use Rattle.relay_command.specs.declared.command.Command.TheVariants.{Deliver, Export, Give, Import, Ledger, Print, Scan, Take}
+use Rattle.relay_command.specs.declared.command.Labels.TheVariants.{OfSide}
+use Rattle.relay_printer_commands.specs.Tickets.{IsTextOf}
+use Rattle.relay_desk_commands.specs.Desks.{DeskFiles}
+use Rattle.relay_runs.proofs.TicketTexts.{ten_ticket}
+use Rattle.relay_desk_runs.specs.Answered.{grids_scanned}
+use Rattle.relay.specs.Commands.{path_of}
+use Rattle.relay_program_runs.specs.Law.{AreApart, At, LetsOut, Ran, SomeRan, TakesPrinted, passed}
+use Rattle.relay_program_runs.specs.Worked.{Delivers, IsDone, IsWorked, given, no_files}
+use Rattle.relay_program_runs.proofs.Images.{scanned_so}
+use Rattle.relay_program_runs.proofs.Lists.{all_so}
+use Rattle.relay_program_runs.proofs.Steps.{Step, also, and_made, blank, cut, exits, new, pairs_so, ran, rans_of, run_so, stops, takes_given, there}
+use Rattle.relay_program_runs.proofs.WorkedFacts.{IsIn, PrintedWell, export_done, gave, import_of_all, its_made, keeps_fresh, one_made, print_done, took}
+
+near_itself : (grid : GridView) → IsNear grid grid
+near_itself grid = record {
+  same_size = refl;
+  words = λ b within. omega (arith, differ-self (block_of grid.size b (words_of_grid grid)));
+}
+
+near_one : {A : Type 0} (IsAmong : List ℕ → Type 0) (earlier : List (Ran A)) {one : Ran A} {grid : GridView}
+    (number : ℕ) → slice_get earlier number ≡ Some one → LetsOut IsAmong grid one →
+    (own : GridView) × IsNear grid own × SomeRan (LetsOut IsAmong own) earlier
+near_one IsAmong earlier {one} {grid} number at out = (grid, near_itself grid, (number, one, at, out))
+
+-- it took in no grid, and no file
+takes_none : {A : Type 0} {IsAmong : List ℕ → Type 0} {earlier : List (Ran A)} {ran : Ran A} → (passed ran).scanned ≡ [] →
+    (passed ran).imported ≡ None → TakesPrinted IsAmong earlier ran
+takes_none {A} {IsAmong} {earlier} no_grid no_file = record {
+  scans = λ among. subst (AllByRecursion (λ grid. (own : GridView) × IsNear grid own
+      × SomeRan {A = A} (LetsOut IsAmong own) earlier)) (sym no_grid) tt;
+  imports = λ among. subst (λ (o : Option (List ℕ)). IfSome o (λ bytes. SomeRan {A = A}
+      (λ other. ((passed other).exported ≡ Some bytes) × IsAmong (path_of other.command)) earlier)) (sym no_file) tt;
+}
+
+delivered : {A : Type 0} {f i : Bor (List ℕ)} {x y : DeskFiles} {o path written : List ℕ}
+    (r : IsDone A (Deliver f i) x [] 0 y o) → f.now ≡ path → o ≡ written → Delivers path written (ran r)
+delivered r named is =
+    record { asks = refl; path_is = named; well = refl; before = refl; after = r.output_is ∙ ap Some is }
+
+module _ {A : Type 0} {f1 f2 f3 f4 f5 f6 f7 f8 f9 f10 f11 f12 t i9 i10 i12 : Bor (List ℕ)}
+    {a1 a2 a3 a4 a5 b1 b2 d1 d2 d3 e1 e2 : DeskFiles} {o1 o2 o3 o4 o5 o6 o7 o8 o9 o10 o11 o12 : List ℕ} {st : ℕ}
+    (r1 : IsDone A (Ledger f1 0 0 99) no_files [] 0 a1 o1)
+    (r2 : IsDone A (Ledger f2 2 100 199) no_files [] 0 b1 o2)
+    (r3 : IsDone A (Give f3 0 2 0 9) a1 [] 0 a2 o3)
+    (r4 : IsDone A (Take f4 2 t) b1 [] 0 b2 o4)
+    (r5 : IsDone A (Print f5 0 (OfSide 12) Ascii) a2 (codes "1234") 0 a3 o5)
+    (r6 : IsDone A (Print f6 0 (OfSide 12) Ascii) a3 (codes "5678") st a4 o6)
+    (r7 : IsDone A (Print f7 0 (OfSide 12) Ascii) a4 (codes "5678") 1 a5 o7)
+    (r8 : IsDone A (Scan f8 10) no_files o5 0 d1 o8)
+    (r9 : IsDone A (Deliver f9 i9) d1 [] 0 d2 o9)
+    (r10 : IsDone A (Export f10 i10) d2 [] 0 d3 o10)
+    (r11 : IsDone A (Import f11 10) no_files o10 0 e1 o11)
+    (r12 : IsDone A (Deliver f12 i12) e1 [] 0 e2 o12)
+    (n1 : f1.now ≡ codes "a") (n2 : f2.now ≡ codes "b") (n3 : f3.now ≡ codes "a") (n4 : f4.now ≡ codes "b")
+    (n5 : f5.now ≡ codes "a") (n6 : f6.now ≡ codes "a") (n7 : f7.now ≡ codes "a") (n8 : f8.now ≡ codes "d")
+    (n9 : f9.now ≡ codes "d") (n10 : f10.now ≡ codes "d") (n11 : f11.now ≡ codes "e") (n12 : f12.now ≡ codes "e")
+    (text : IsTextOf t.now ten_ticket) (more : 0 < length o7) (short : length o10 ≤ 1000) (one : o9 ≡ codes "1234")
+    (other : o12 ≡ codes "1234") where
+  abbrev site : List At
+  site = there (codes "a") no_files ∷ there (codes "b") no_files ∷ there (codes "d") no_files
+      ∷ there (codes "e") no_files ∷ []
+
+  abbrev steps : List (Step A)
+  steps = exits 0 r1 n1 ∷ exits 1 r2 n2 ∷ exits 0 r3 n3 ∷ exits 1 r4 n4 ∷ exits 0 r5 n5 ∷ stops 0 r6 n6 ∷ exits 0 r7 n7
+      ∷ exits 2 r8 n8 ∷ exits 2 r9 n9 ∷ exits 2 r10 n10 ∷ exits 3 r11 n11 ∷ exits 3 r12 n12 ∷ []
+
+  apart : AllPairs AreApart (its_made r1 ∷ its_made r2 ∷ [])
+  apart = pairs_so AreApart (its_made r1 ∷ its_made r2 ∷ [])
+      ((((λ e. omega (arith, e)), inl (omega arith)), tt), (tt, tt))
+
+  -- ---- what came in
+
+  abbrev IsAmong : List ℕ → Type 0
+  IsAmong path = IsTrue true
+
+  printed : PrintedWell A a2.joint (passed (ran r5)).printed o5
+  printed = print_done r5
+
+  abbrev before_scan : List (Ran A)
+  before_scan = ran r1 ∷ ran r2 ∷ ran r3 ∷ ran r4 ∷ ran r5 ∷ cut r6 ∷ ran r7 ∷ []
+
+  scans : AllByRecursion (λ grid. (own : GridView) × IsNear grid own × SomeRan (LetsOut IsAmong own) before_scan)
+      (grids_scanned r8.does)
+  scans = all_so (IsIn printed.it.labels) _ (grids_scanned r8.does) (λ grid is_in. near_one IsAmong before_scan 4 refl
+      (inl (subst (λ (o : Option JobView). IsSomeAnd o (λ job. IsIn job.labels grid)) (sym printed.job_is) is_in)))
+      (scanned_so A (IsIn printed.it.labels) 10 (given no_files o5) 0 r8.after r8.does printed.it.labels printed.labels
+      (ap Some printed.written))
+
+  imports : IfSome (passed (ran r11)).imported (λ bytes. SomeRan
+      (λ other. ((passed other).exported ≡ Some bytes) × IsTrue true)
+      (before_scan ++ ran r8 ∷ ran r9 ∷ ran r10 ∷ []))
+  imports = import_of_all _ 10 (given no_files o10) 0 r11.after o10 refl short r11.does.0
+      (9, ran r10, refl, (export_done r10, refl))
+
+  wrote : IsSomeAnd r7.after.streams.output.contents (λ bytes. 0 < length bytes)
+  wrote = subst (λ (o : Option (List ℕ)). IsSomeAnd o (λ bytes. 0 < length bytes)) (sym r7.output_is) more
+
+  pub worked : IsWorked A o12
+  worked = record {
+    site = site;
+    rans = rans_of steps;
+    count = refl;
+    asks = record {
+      is_new = new site (omega arith, (omega arith, (omega arith, (omega arith, tt)))) (blank, (blank, (blank, (blank, tt))));
+      runs = run_so site steps (also refl (also refl (also refl (also refl (also refl (also refl (also refl (also refl
+          (also refl (also refl (also refl (also refl tt))))))))))));
+      apart = subst (AllPairs AreApart) (sym (and_made (one_made r1) (and_made (one_made r2) refl))) apart;
+      tickets = also tt (also tt (also tt (also (takes_given (ran r1 ∷ ran r2 ∷ ran r3 ∷ []) (ran r4) 2 refl
+          (gave (keeps_fresh r1) r3) (took ten_ticket text refl (keeps_fresh r2) r4).0) (tt, (tt, (tt, (tt, (tt, (tt, (tt, (tt, tt)))))))))));
+    };
+    printed = also (takes_none refl refl) (also (takes_none refl refl) (also (takes_none refl refl)
+        (also (takes_none refl refl) (also (takes_none refl refl) (also (takes_none refl refl)
+        (also (takes_none refl refl) (also (record { scans = λ among. scans; imports = λ among. tt })
+        (also (takes_none refl refl) (also (takes_none refl refl)
+        (also (record { scans = λ among. tt; imports = λ among. imports })
+        (also (takes_none refl refl) tt)))))))))));
+    takes = (3, ran r4, refl, ap is_some (took ten_ticket text refl (keeps_fresh r2) r4).0);
+    cut = (5, cut r6, refl, refl);
+    lost = (6, ran r7, refl, (refl, wrote));
+    here = (8, ran r9, refl, delivered r9 n9 one);
+    there = (11, ran r12, refl, delivered r12 n12 refl);
+    written_is = other;
+  }
