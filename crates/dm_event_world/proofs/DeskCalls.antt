@@ -1,8 +1,6 @@
 -- A call of a desk, as a world makes it, is one of the relay that it shows.
-use Rattle.std.proofs.Common.{◌≡◌, ◌≤◌, inl, inr, ℕ, true, false, List, [], Option, Some, None, IsSome, Result, Ok, Err, take, refl, sym, ap, subst, ◌∙◌}
-use Rattle.std.specs.Prelude.{is_none, if◌then◌else◌}
-use Rattle.std.specs.Prelude.{◌<◌, ◌+◌, cond, is_some}
-use Rattle.std.proofs.Common.{arith}
+use Rattle.std.proofs.Common.{◌≡◌, ◌≤◌, inl, inr, ℕ, true, false, List, [], Option, Some, None, IsSome, Result, Ok, Err, take, refl, sym, ap, subst, ◌∙◌, arith}
+use Rattle.std.specs.Prelude.{is_none, if◌then◌else◌, ◌<◌, ◌+◌, cond, is_some}
 use Rattle.std.specs.Cmp.{nat_cmp_total}
 use Rattle.std.specs.FinMap as finite
 use Rattle.std.specs.FinMap.{len-insert}

@@ -1,6 +1,5 @@
 -- A verdict carried out, step by step.
-use Rattle.std.proofs.Common.{arith}
-use Rattle.std.proofs.Common.{◌≡◌, ℕ, List, false, Some, Result, Ok, Err, inl, inr, length, true}
+use Rattle.std.proofs.Common.{arith, ◌≡◌, ℕ, List, false, Some, Result, Ok, Err, inl, inr, length, true}
 use Rattle.std.specs.Prelude.{◌==◌, IfOk}
 use Rattle.std.proofs.lemmas.Bool.{cond-true, eq-eqb}
 use Rattle.dm_size.specs.declared.size.Size.{Size}

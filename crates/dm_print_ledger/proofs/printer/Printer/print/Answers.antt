@@ -1,5 +1,4 @@
-use Rattle.std.proofs.Common.{arith}
-use Rattle.std.proofs.Common.{◌≡◌, subst, rules, Some, true, false, length}
+use Rattle.std.proofs.Common.{arith, ◌≡◌, subst, rules, Some, true, false, length}
 use Rattle.std.proofs.lemmas.Result.{err_from_is_err_and}
 use Rattle.dm_print_ledger.specs.declared.fault.PrintFault.TheVariants as printing
 use Rattle.dm_print_ledger.specs.Verdicts.{IsInOrder, print_verdict}
