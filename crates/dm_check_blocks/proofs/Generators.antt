@@ -64,11 +64,3 @@ next_size arr ys k e l m = simp (length-append, length-take, length-drop) (omega
 pub next_first : (arr ys : List ℕ) (k : ℕ) → 0 < length arr → get_or (put_mid 1 (k + 2 - 1) arr ys) 0 0 ≡ get_or arr 0 0
 next_first [] ys k l = absurd (omega arith)
 next_first (h ∷ rest) ys k l = refl
-
--- the generator with its leading 1 is the array's beginning
-pub monic : (g : List ℕ) (n : ℕ) → get_or g 0 0 ≡ 1 → 1 ∷ take (n + 1 - 1) (drop 1 g) ≡ take (n + 1) g
-monic [] n e = absurd (omega arith)
-monic (h ∷ rest) n e =
-    let p : n + 1 - 1 ≡ n = omega arith in
-    ap (λ t. t ∷ take (n + 1 - 1) rest) (sym e) ∙ ap (λ m. h ∷ take m rest) p ∙
-    ap (λ m. take m (h ∷ rest)) (sym (add-one n))

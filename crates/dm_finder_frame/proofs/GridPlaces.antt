@@ -36,9 +36,6 @@ even_columns _ c = omega arith
 pub grid_place_rest : (h r : ℕ) → 0 < h → grid_place h r % (h + 2) ≡ r % h + 1
 grid_place_rest h r z = grind arith
 
-pub grid_place_below : (h q r : ℕ) → 0 < h → r < q * h → grid_place h r < q * (h + 2)
-grid_place_below h q r z l = grind arith
-
 pub mapping_of_grid_place : (h r : ℕ) → 0 < h → mapping_place h (grid_place h r) ≡ r
 mapping_of_grid_place h r z = grind arith
 

@@ -1,7 +1,6 @@
 -- What the loops of the field's functions do in one step.
 use Rattle.std.proofs.Common.{◌≡◌, ◌≢◌, ℕ, suc, ◌+◌, ◌-◌, ◌*◌, ◌/◌, ◌%◌, ◌^◌, ◌<◌, ◌≤◌, true, eqb, refl, sym, ◌∙◌, ap, subst, arith, List, [], ◌∷◌, ◌++◌, length, eqb-true, add-zero, zero-add, length-append}
 use Rattle.std.specs.Int.Bits.{bit_xor, xor_assoc, xor_zero_r}
-use Rattle.std.proofs.Math.Nat.{pow-succ'}
 use Rattle.std.specs.Int.Bits.{bit_and}
 use Rattle.std.proofs.lemmas.Nat.{xor_comm, xor_block, and_mask}
 use Rattle.dm_gf256.specs.Field.{product, power, plain, reduced, value}
@@ -81,15 +80,6 @@ product-step_zero s a b p lb e h =
     (sym (xor_zero_r _) ∙ ap (bit_xor (product (product 2 a) (b / 2))) (sym (product-zero_r a) ∙ ap (product a) (sym e))
     ∙ sym (product_halves a b lb))
     ∙ h
-
--- a number of 8 - k bits, halved, has 8 - (k + 1)
-pub half_below : (n k : ℕ) → k < 8 → n < 2 ^ (8 - k) → n / 2 < 2 ^ (8 - (k + 1))
-half_below n k l h =
-    let m = 8 - (k + 1) in
-    let e : 8 - k ≡ suc m = omega arith in
-    let P : ℕ → Type 0 = λ t. n < 2 ^ t in
-    let g : n < 2 ^ suc m = subst P e h in
-    omega (arith, pow-succ' 2 m)
 
 -- the lowest bit is the remainder by 2
 pub mask_one : (n : ℕ) → bit_and n 1 ≡ n % 2

@@ -72,11 +72,6 @@ bytes-weigh f [] = tt
 bytes-weigh f (y ∷ ys) = (product_byte y _, bytes-weigh f ys)
 
 -- ---- a value at 2^k is the k-th moment
-power-one : (k : ℕ) → power 1 k ≡ 1
-unfolding power
-power-one zero = refl
-power-one (suc k) = one-product _ (power_byte 1 k (omega arith)) ∙ power-one k
-
 -- (2^i)^k = 2^(i k)
 pub power-two : (i k : ℕ) → power (power 2 i) k ≡ power 2 (i * k)
 unfolding power

@@ -1,14 +1,13 @@
 -- Words that stand two rows and two columns or more inside of the matrix: their anchor is none of the cells that are left
 -- out.
-use Rattle.std.specs.Prelude.{not}
 use Rattle.std.specs.Option.{option_map}
-use Rattle.std.proofs.Common.{◌≡◌, ℕ, zero, suc, ◌+◌, ◌-◌, ◌%◌, ◌<◌, ◌≤◌, ◌++◌, Option, None, Some, refl, List, [], ◌∷◌, Bool, true, false, cond, eqb, ltb, leb, ◌&&◌, ◌||◌, ap, ◌∙◌, arith}
+use Rattle.std.proofs.Common.{◌≡◌, ℕ, ◌+◌, ◌-◌, ◌<◌, ◌≤◌, ◌++◌, Option, Some, List, [], ◌∷◌, arith}
 use Rattle.std.proofs.lemmas.Bool.Decides.{nat_tests}
 use Rattle.dm_placement.specs.declared.shape.Shape.{Shape}
 use Rattle.dm_placement.specs.declared.shape.Shape.TheVariants.{Plain}
 use Rattle.dm_placement.specs.Placement.{cell_at, is_left_out}
 use Rattle.dm_placement.specs.declared.walk.Sweep.{Sweep}
-use Rattle.dm_placement.specs.declared.walk.Sweep.TheVariants.{Start, Up, Down}
+use Rattle.dm_placement.specs.declared.walk.Sweep.TheVariants.{Up, Down}
 use Rattle.dm_placement.specs.inner.Places.{IsAhead, StandInside, Steps, shapes_ahead, word_at}
 
 -- at such a position of the walk there is a word

@@ -1,14 +1,12 @@
 -- Places of modules, row by row.
-use Rattle.std.proofs.Common.{◌≡◌, All, ℕ, ◌+◌, ◌-◌, ◌*◌, ◌^◌, ◌<◌, ◌≤◌, List, [], ◌∷◌, ◌/◌, ◌%◌, zero, suc, false, ltb, map, get_or, length, arith, ap, sym, ◌∙◌, refl}
-use Rattle.std.proofs.lemmas.Bool.Decides.{nat_tests}
-use Rattle.std.proofs.Math.Nat.{add-mul}
+use Rattle.std.proofs.Common.{◌≡◌, All, ℕ, ◌+◌, ◌-◌, ◌*◌, ◌^◌, ◌<◌, ◌≤◌, List, [], ◌∷◌, ◌/◌, ◌%◌, zero, suc, map, get_or, length, arith, refl}
 use Rattle.std.proofs.lemmas.List.{length-map}
 use Rattle.std.proofs.lemmas.List.Elements.{All-from_get_or}
-use Rattle.std.proofs.lemmas.Nat.{mul-add-lt, mul-le, div-mul-add, mod-mul-add}
+use Rattle.std.proofs.lemmas.Nat.{mul-add-lt, div-mul-add, mod-mul-add}
 use Rattle.dm_placement.specs.declared.shape.Cell.{Cell}
 use Rattle.dm_placement.specs.declared.shape.Shape.TheVariants.{Plain}
 use Rattle.dm_placement.specs.Placement.{cell_at, cell_from_anchor, shape_cells, place_of}
-use Rattle.dm_placement.proofs.CellLists.{all_in_at, same_cell, AllIn}
+use Rattle.dm_placement.proofs.CellLists.{all_in_at, AllIn}
 
 -- a place fits sixteen bits
 pub place_fits : (n r c : ℕ) → n ≤ 120 → r < n → c < n → r * n + c < 2 ^ 16

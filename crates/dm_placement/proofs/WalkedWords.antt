@@ -1,6 +1,6 @@
 -- The words that the walk comes to. For each size the checker computes that they are those of the closed form.
-use Rattle.std.specs.Option.{option_map, option_to_list}
-use Rattle.std.proofs.Common.{arith, ◌≡◌, ℕ, zero, suc, ◌+◌, ◌*◌, refl, List, [], ◌∷◌, ◌++◌, Option, Some, Bool, true, false, ltb, ◌||◌, ap, sym, ◌∙◌, subst, append_assoc, append-nil, map}
+use Rattle.std.specs.Option.{option_to_list}
+use Rattle.std.proofs.Common.{arith, ◌≡◌, ℕ, ◌+◌, ◌*◌, refl, List, [], ◌∷◌, ◌++◌, Option, Some, true, ltb, ◌||◌, ap, sym, ◌∙◌, subst, append_assoc, append-nil, map}
 use Rattle.std.proofs.lemmas.Grind.{flat_map-append}
 use Rattle.std.proofs.lemmas.List.{map-append}
 use Rattle.dm_size.specs.declared.size.Size.{Size}
@@ -8,7 +8,7 @@ use Rattle.dm_size.specs.declared.size.Size.TheVariants.{Side10}
 use Rattle.dm_size.specs.Sizes.{row, mapping}
 use Rattle.dm_placement.specs.declared.shape.Shape.{Shape}
 use Rattle.dm_placement.specs.declared.walk.Sweep.{Sweep}
-use Rattle.dm_placement.specs.declared.walk.Sweep.TheVariants.{Start, Up, Down}
+use Rattle.dm_placement.specs.declared.walk.Sweep.TheVariants.{Start}
 use Rattle.dm_placement.specs.declared.walk.Walk.{Walk}
 use Rattle.dm_placement.specs.Placement.{shapes, shape_cells, bit_cells, anchors, corner_before, is_anchor, is_left_out, is_in_square, rising_diagonal, falling_diagonal, place_of}
 use Rattle.dm_placement.specs.inner.Places.{IsPlaceable, HasWalked, shapes_ahead, Steps, corner_at, ends, is_over, word_at}

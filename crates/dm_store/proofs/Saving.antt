@@ -1,5 +1,5 @@
 -- What each step of a save leaves under the store's name, and what the save has done where it ends at that step.
-use Rattle.std.proofs.Common.{◌≡◌, ◌≢◌, inl, inr, ⊎_elim, ℕ, List, Some, Result, Ok, Err, refl, ◌∙◌}
+use Rattle.std.proofs.Common.{◌≡◌, ◌≢◌, inl, inr, ⊎_elim, ℕ, List, Some, Result, Ok, Err, ◌∙◌}
 use Rattle.std.specs.Prelude.{IsOk, IsErr}
 use Rattle.dm_store.specs.Disk.{DiskState, Keeps, KeepsAll, Renames, Removes, SyncsEntry, SavesFile, RemovesFile}
 use Rattle.dm_store.specs.declared.disk.DiskFault.{DiskFault}
@@ -111,9 +111,6 @@ remove_ends_late old mid new name removed ended ok removes still syncs = record 
   };
   lasting = λ done content leaves. syncs.done done (removes.synced (inl ok)) content leaves ∙ removes.done ok;
 }
-
-pub keeps_same : {old : DiskState} {name : List ℕ} → Keeps old name old
-keeps_same = record { seen = refl; synced = λ on. on; left = λ content leaves. leaves }
 
 -- a remove whose answer is of another type
 pub removes_on : {F G : Type 0} (old new : DiskState) (name : List ℕ) (inner : Result (Unit {0}) F)

@@ -8,7 +8,7 @@ use Rattle.std.specs.List.{AllByRecursion}
 use Rattle.std.specs.List.Sorted.{IsStrictlySortedBy}
 use Rattle.std.specs.Map.{lookup, keys_of}
 use Rattle.std.specs.BTreeMap.{is_at}
-use Rattle.std.specs.FinMap.{FinMap, entries, get, insert, remove, keys, len, from_entries, from_sorted, find, is_sorted, get-from_entries, get-from_sorted, get-insert, get-remove, entries-from_sorted, same_map, nat_cmp-IsAntisymmetric, len-entries}
+use Rattle.std.specs.FinMap.{FinMap, entries, get, insert, remove, len, from_entries, from_sorted, find, is_sorted, get-from_entries, get-from_sorted, get-insert, get-remove, entries-from_sorted, same_map, nat_cmp-IsAntisymmetric, len-entries}
 use Rattle.std.specs.FinMap.Entries.{below_all}
 
 -- two tests that pass, pass together

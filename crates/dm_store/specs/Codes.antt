@@ -1,6 +1,6 @@
 -- How what contracts see of a store and of a set is coded as pairs, lists, numbers and truth values, which a model asks
 -- of its value. Nothing here says what a store does.
-use Rattle.std.specs.Prelude.{◌≡◌, refl, ℕ, Bool, false, true, Option, List}
+use Rattle.std.specs.Prelude.{◌≡◌, refl, Bool, false, true}
 use Rattle.std.specs.Ordering.{nat_cmp}
 use Rattle.std.specs.FinMap as map
 use Rattle.std.specs.Coded.{Coded, code_by, coded×, coded_ℕ, coded_bool, coded_list, coded_option}

@@ -78,10 +78,6 @@ if_none : {X : Type 0} (P : X → Type 0) (o : Option X) → o ≡ None → IsSo
 if_none P None none is = absurd is
 if_none P (Some x) none is = cc (none)
 
-as_some : {X : Type 0} (P : X → Type 0) (o : Option X) (x : X) → o ≡ Some x → IsSomeAnd o P → P x
-as_some P None x some is = absurd is
-as_some P (Some y) x some is = (let same : y ≡ x = cc (some) in subst P same is)
-
 some_as : {X : Type 0} (P : X → Type 0) (o : Option X) → IsSomeAnd o P → (x : X) × (o ≡ Some x) × P x
 some_as P None is = absurd is
 some_as P (Some x) is = (x, refl, is)

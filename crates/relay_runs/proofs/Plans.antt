@@ -2,11 +2,10 @@
 use Rattle.std.proofs.Common.{◌≡◌, ◌⊎◌, inl, inr, true, false, ℕ, List, Some, Result, Ok, Err, refl, sym, ap, subst, ◌∙◌, arith}
 use Rattle.std.specs.Prelude.{IsTrue}
 use Rattle.dm_store.specs.declared.fuse.Kept.TheVariants.{Old, New}
-use Rattle.dm_store.specs.declared.store.ReplaceFault.{ReplaceFault}
 use Rattle.dm_store.specs.declared.store.ReplaceFault.TheVariants as replacing
 use Rattle.dm_store.specs.declared.mem_store.NextSave.{NextSave}
 use Rattle.dm_store.specs.declared.mem_store.NextSave.TheVariants as next_save
-use Rattle.dm_store.specs.Saved.{Saved, SavePlan, LoadsFine, SavesFine, Faulted, HeldAfterFault, Replaces, outcome_of, save_plan_of}
+use Rattle.dm_store.specs.Saved.{Saved, SavePlan, LoadsFine, SavesFine, HeldAfterFault, Replaces, save_plan_of}
 use Rattle.dm_print_ledger.specs.Ledger.{LedgerView, PrinterView, is_sound, ledger_bytes}
 use Rattle.dm_print_ledger.specs.Verdicts.{Carries, IsInOrder}
 use Rattle.dm_print_ledger.specs.Verdicts as verdicts
@@ -35,12 +34,6 @@ under saved next = record (fine saved) { save_plan = save_plan_of next }
 pub old_or_new : {X : Type 0} (plan : SavePlan) (old new held : X) → HeldAfterFault plan old new held →
     (held ≡ old) ⊎ (held ≡ new)
 old_or_new plan old new held after = grind arith
-
-not_faulted : (answer : Result (Unit {0}) ReplaceFault) → (answer ≡ Err replacing.Device → ⊥) →
-    outcome_of answer ≡ Faulted → ⊥
-not_faulted (Ok done) no_fault is = cc (is)
-not_faulted (Err replacing.Device) no_fault is = no_fault refl
-not_faulted (Err replacing.Memory) no_fault is = cc (is)
 
 -- a save that was done is one under a fine plan
 pub saves_fine : (old new : Saved) (bytes : List ℕ) → Replaces old bytes (Ok tt) new →

@@ -1,12 +1,10 @@
 -- From the answer of a write to what a command says.
-use Rattle.std.specs.Prelude.{◌≡◌, ℕ, List, Option, Result, MatchResult}
+use Rattle.std.specs.Prelude.{◌≡◌, ℕ, List, Result, MatchResult}
 use Rattle.std.proofs.Common.{Ok, Err, inl, inr, refl, ap}
-use Rattle.std.specs.Io.KnownBytes.{Appends}
-use Rattle.std.proofs.KnownBytes.{Appends-trans}
-use Rattle.relay_streams.specs.Streams.{AppendsPart, InputView, OutputView, write_fault_name}
+use Rattle.relay_streams.specs.Streams.{InputView, OutputView, write_fault_name}
 use Rattle.relay_streams.specs.declared.fault.WriteFault.{WriteFault}
 use Rattle.relay_streams.specs.declared.fault.WriteFault.TheVariants.{Write}
-use Rattle.relay_shared.specs.Command.{AppendsThenPart, Puts, StreamsView, Tells, TellsBytes, TellsRefusal}
+use Rattle.relay_shared.specs.Command.{Puts, StreamsView, Tells, TellsBytes, TellsRefusal}
 
 abbrev pub streams_of : InputView → OutputView → OutputView → StreamsView
 streams_of input output errors = record { input = input; output = output; errors = errors }
@@ -32,8 +30,3 @@ pub told_bytes : {bytes : List ℕ} {input : InputView} {output errors new_outpu
 told_bytes {input = input} {new_output = new_output} (Ok x) puts is =
     inl (puts.written, ap (streams_of input new_output) is.1, is.0)
 told_bytes (Err Write) puts is = inr (puts.failed, puts.part, refl, is)
-
--- a part of what comes after a text
-pub then_part : (a b c : Option (List ℕ)) (text next : List ℕ) → Appends a b text → AppendsPart b c next →
-    AppendsThenPart a c text next
-then_part a b c text next first (part, is, appended) = (part, is, Appends-trans a b c text part first appended)

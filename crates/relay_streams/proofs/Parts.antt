@@ -1,19 +1,8 @@
 -- Parts of a text that were appended.
-use Rattle.std.proofs.Common.{ℕ, List, [], ◌++◌, Option, Some, None, refl, sym, ap, ◌∙◌, append_assoc, append-nil}
-use Rattle.std.specs.Io.KnownBytes.{Appends, Keeps}
+use Rattle.std.proofs.Common.{ℕ, List, [], ◌++◌, Option, refl, sym, ap, ◌∙◌, append_assoc, append-nil}
+use Rattle.std.specs.Io.KnownBytes.{Appends}
 use Rattle.std.proofs.KnownBytes.{Appends-nil, Appends-trans}
 use Rattle.relay_streams.specs.Streams.{AppendsPart}
-
--- nothing was appended
-pub appends_nothing : (a b : Option (List ℕ)) → Keeps a b → Appends a b []
-appends_nothing None b kept = tt
-appends_nothing (Some x) None kept = absurd kept
-appends_nothing (Some x) (Some y) kept = kept ∙ sym (append-nil x)
-
-pub keeps_nothing : (a b : Option (List ℕ)) → Appends a b [] → Keeps a b
-keeps_nothing None b none = tt
-keeps_nothing (Some x) None none = absurd none
-keeps_nothing (Some x) (Some y) none = none ∙ append-nil x
 
 -- nothing is a part of each text
 pub part_none : (a : Option (List ℕ)) (text : List ℕ) → AppendsPart a a text

@@ -3,7 +3,7 @@ use Rattle.std.specs.Prelude.{ℕ, ◌+◌, false, List, get_or, map, ◌≡◌,
 use Rattle.std.specs.List.{range_with_len, flat_map}
 use Rattle.std.specs.Option.{option_map, option_to_list}
 use Rattle.dm_size.specs.Squares.{Square}
-use Rattle.dm_placement.specs.Placement.{number_of, IsIn, place_of, cell_at, is_left_out, shape_cells, shapes}
+use Rattle.dm_placement.specs.Placement.{number_of, place_of, cell_at, is_left_out, shape_cells, shapes}
 use Rattle.dm_placement.specs.declared.shape.Cell.{Cell}
 use Rattle.dm_placement.specs.declared.shape.Shape.{Shape}
 use Rattle.dm_placement.specs.declared.shape.Shape.TheVariants.{Plain, CornerOne, CornerTwo}

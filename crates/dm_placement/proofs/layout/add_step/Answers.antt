@@ -1,7 +1,7 @@
 use Rattle.std.proofs.Common.{arith, ◌++◌, ℕ, List, Some, ap, append-nil, map, subst, sym, ◌∙◌}
 use Rattle.dm_size.specs.Sizes.{mapping}
 use Rattle.dm_placement.specs.Placement.{shape_cells, place_of}
-use Rattle.dm_placement.specs.inner.Places.{IsPlaceable, IsSideSound}
+use Rattle.dm_placement.specs.inner.Places.{IsPlaceable}
 use Rattle.dm_placement.proofs.EachSize.{side_is_sound}
 use Rattle.dm_placement.proofs.WalkedWords.{fits_here, walked_more}
 use Rattle.dm_placement.proofs.layout.add_step.Goals as goal

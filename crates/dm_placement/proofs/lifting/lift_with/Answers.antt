@@ -1,12 +1,11 @@
 use Rattle.std.proofs.lemmas.Grind.{common_steps}
-use Rattle.std.specs.Prelude.{All}
 use Rattle.std.specs.List.{range_with_len}
-use Rattle.std.proofs.Common.{◌≡◌, ◌+◌, ◌*◌, ◌<◌, ◌++◌, ◌∷◌, [], arith, ap, sym, ◌∙◌, subst, ℕ, false, get_or, length, map, List, zero-add}
+use Rattle.std.proofs.Common.{◌≡◌, ◌+◌, ◌*◌, ◌++◌, ◌∷◌, [], arith, ap, sym, ◌∙◌, ℕ, map, List, zero-add}
 use Rattle.std.proofs.lemmas.List.{length-map}
 use Rattle.std.proofs.lemmas.List.FromFn.{map-range_with_len_more, length-map-range_with_len}
-use Rattle.dm_size.specs.Sizes.{mapping, all_words}
+use Rattle.dm_size.specs.Sizes.{mapping}
 use Rattle.dm_size.specs.Squares.{Square}
-use Rattle.dm_placement.specs.Placement.{bit_cells, cell_at, is_dark, number_of, word_from, lifted, place_of}
+use Rattle.dm_placement.specs.Placement.{bit_cells, word_from, lifted, place_of}
 use Rattle.dm_placement.specs.inner.Places.{word_from_places}
 use Rattle.dm_placement.proofs.LiftedWords.{same_made}
 use Rattle.dm_placement.proofs.Places.{all_places_in, place_at}

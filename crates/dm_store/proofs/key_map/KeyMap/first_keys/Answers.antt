@@ -1,4 +1,4 @@
-use Rattle.std.proofs.Common.{◌≡◌, ◌∷◌, ◌++◌, ◌-◌, ◌<◌, List, ℕ, length, rules, arith, length-append}
+use Rattle.std.proofs.Common.{◌≡◌, ◌∷◌, ◌++◌, ◌-◌, ◌<◌, ℕ, length, rules, arith, length-append}
 use Rattle.std.specs.Prelude.{[]}
 use Rattle.std.specs.Map.{keys_of}
 use Rattle.dm_store.proofs.FirstKeys.{one_more, all_taken, none_left}
