@@ -1,45 +1,17 @@
--- A text in ASCII: the piece at its front, all pairs of digits at its front, and one byte more at its end.
+-- A text in ASCII: the piece at its front, and one byte more at its end.
 use Rattle.std.proofs.lemmas.Grind.{common_steps}
-use Rattle.std.proofs.Common.{◌≡◌, ℕ, zero, suc, ◌+◌, ◌-◌, ◌*◌, ◌<◌, ◌≤◌, ◌≢◌, Bool, true, false, ◌&&◌, List, [], ◌∷◌, ◌++◌, length, get_or, drop, refl, sym, ap, ◌∙◌, append_assoc, arith, ◌⊎◌}
+use Rattle.std.proofs.Common.{◌≡◌, ℕ, ◌+◌, ◌-◌, ◌*◌, ◌<◌, ◌≤◌, ◌≢◌, Bool, true, false, ◌&&◌, List, [], ◌∷◌, ◌++◌, length, get_or, drop, refl, sym, ap, ◌∙◌, arith, ◌⊎◌}
 use Rattle.std.specs.Char.{is_ascii_digit}
 use Rattle.std.proofs.lemmas.Bool.{lt-ltb, le-ltb}
-use Rattle.std.proofs.lemmas.List.{append-nil, drop_more}
+use Rattle.std.proofs.lemmas.List.{append-nil}
 use Rattle.dm_encodation.specs.Written.{ascii_byte, ascii}
-use Rattle.dm_encodation.specs.inner.Counting.{has_digits, AreBetween, word_of, words_of_pairs, has_lone_digit, CountsAscii}
+use Rattle.dm_encodation.specs.inner.Counting.{has_digits, has_lone_digit, CountsAscii}
 use Rattle.dm_encodation.specs.declared.counter.AsciiCounter.{AsciiCounter}
-
--- what the test says of the first two bytes
-pub record BeginsWithDigits (bytes : List ℕ) : Type 0 where
-  pub long : 2 ≤ length bytes
-  pub tens : (48 ≤ get_or bytes 0 0) × (get_or bytes 0 0 ≤ 57)
-  pub ones : (48 ≤ get_or bytes 1 0) × (get_or bytes 1 0 ≤ 57)
-
-pub begins : (bytes : List ℕ) → has_digits bytes ≡ true → BeginsWithDigits bytes
-begins bytes e = grind arith
 
 pub ascii-digits : (bytes : List ℕ) → has_digits bytes ≡ true
     → ascii bytes ≡ (130 + (10 * (get_or bytes 0 0 - 48) + (get_or bytes 1 0 - 48))) ∷ ascii (drop 2 bytes)
 unfolding ascii
 ascii-digits bytes x = grind arith
-
--- two digits are one word
-two_digits : (a b : ℕ) (rest : List ℕ) → (48 ≤ a) × (a ≤ 57) → (48 ≤ b) × (b ≤ 57)
-    → ascii (a ∷ b ∷ rest) ≡ word_of a b ∷ ascii rest
-unfolding ascii
-two_digits a b rest tens ones = grind arith
-
--- the words of the first pairs of digits of a text, and then those of the rest
-pub pairs_first : (bytes : List ℕ) (count : ℕ) → 2 * count ≤ length bytes → AreBetween 48 57 bytes 0 (2 * count)
-    → words_of_pairs bytes count ++ ascii (drop (2 * count) bytes) ≡ ascii bytes
-pairs_first bytes zero fits digits = refl
-pairs_first bytes (suc count) fits digits = grind (
-  arith,
-  drop_more,
-  append_assoc,
-  two_digits,
-  pairs_first bytes count
-      (omega arith) (λ i a b. digits i a (omega arith)),
-)
 
 ascii-byte : (bytes : List ℕ) → length bytes ≢ 0 → has_digits bytes ≡ false
     → ascii bytes ≡ ascii_byte (get_or bytes 0 0) ++ ascii (drop 1 bytes)
@@ -70,11 +42,12 @@ pub some_ascii : (b : ℕ) (bs : List ℕ) → 1 ≤ length (ascii (b ∷ bs))
 unfolding ascii
 some_ascii b bs = grind arith
 
--- a text in ASCII is at most twice as long
-pub length-ascii : (bytes : List ℕ) → length (ascii bytes) ≤ 2 * length bytes
+-- a text in ASCII is at least half as long, and at most twice
+pub length-ascii : (bytes : List ℕ) →
+    (length bytes ≤ 2 * length (ascii bytes)) × (length (ascii bytes) ≤ 2 * length bytes)
 unfolding ascii
-length-ascii [] = omega arith
-length-ascii (b ∷ []) = (some_words b).1
+length-ascii [] = (omega arith, omega arith)
+length-ascii (b ∷ []) = grind (arith, some_words b)
 length-ascii (b ∷ c ∷ bs) = grind (arith, length-ascii bs, length-ascii (c ∷ bs))
 
 -- ---- one byte more at the end

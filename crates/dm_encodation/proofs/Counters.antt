@@ -1,8 +1,8 @@
 -- What a counter of words says, and how large its numbers are.
-use Rattle.std.proofs.Common.{◌≡◌, ℕ, zero, suc, ◌+◌, ◌*◌, ◌<◌, ◌≤◌, ◌^◌, List, [], length, drop, refl, arith}
+use Rattle.std.proofs.Common.{◌≡◌, ℕ, ◌+◌, ◌*◌, ◌<◌, ◌≤◌, ◌^◌, List, [], length, drop, refl, arith}
 use Rattle.std.proofs.lemmas.Bool.{cases_lt, leb-false, lt-leb, ne_eqb, cond_both}
-use Rattle.std.proofs.lemmas.List.{length-append, length-take-le, length-drop}
-use Rattle.dm_encodation.specs.inner.Counting.{AreBetween, words_of_pairs, Counts, CountsRun, IsSmall, IsSmallRun, base_256_need, run_need}
+use Rattle.std.proofs.lemmas.List.{length-take-le, length-drop}
+use Rattle.dm_encodation.specs.inner.Counting.{Counts, CountsRun, IsSmall, IsSmallRun, base_256_need, run_need}
 use Rattle.dm_encodation.specs.declared.counter.AsciiCounter.{AsciiCounter}
 use Rattle.dm_encodation.specs.declared.counter.RunCounter.{RunCounter}
 use Rattle.dm_encodation.specs.declared.counter.Counter.{Counter}
@@ -12,7 +12,7 @@ use Rattle.dm_encodation.specs.declared.letters.Letters.TheVariants.{Capital, Sm
 use Rattle.dm_encodation.specs.declared.scheme.Scheme.{Scheme}
 use Rattle.dm_encodation.specs.declared.scheme.Scheme.TheVariants.{Ascii, C40, Text, Base256}
 use Rattle.dm_encodation.specs.Written.{ascii, base_256, run_length, run_and_rest, text, need_of}
-use Rattle.dm_encodation.proofs.AsciiWords.{length-ascii, pairs_first}
+use Rattle.dm_encodation.proofs.AsciiWords.{length-ascii}
 use Rattle.dm_encodation.proofs.Base256Words.{length-base_256}
 use Rattle.dm_encodation.proofs.RunWords.{run_length-nil, run_within, length-values, words_run, run_few}
 
@@ -38,30 +38,19 @@ pub need-nil : (scheme : Scheme) → need_of scheme [] ≡ 0
 unfolding need_of text ascii base_256
 need-nil scheme = grind (arith, run-nil)
 
--- the need in Base 256 is at most three words more than the bytes
-few : (n : ℕ) → base_256_need n ≤ n + 3
+-- the need in Base 256 is as many words as bytes, and at most three more
+few : (n : ℕ) → (n ≤ base_256_need n) × (base_256_need n ≤ n + 3)
 few n = grind arith
 
--- no text needs many more words than it has bytes
-pub need_below : (scheme : Scheme) (bytes : List ℕ) → need_of scheme bytes ≤ 4 * length bytes + 4
+-- A word stands for at most two bytes, and no text needs many more words than it has bytes.
+pub need_near : (scheme : Scheme) (bytes : List ℕ) →
+    (length bytes ≤ 2 * need_of scheme bytes) × (need_of scheme bytes ≤ 4 * length bytes + 4)
 unfolding need_of text
-need_below scheme bytes = grind (arith, length-ascii, run_few, need-base_256, few)
+need_near scheme bytes = grind (arith, length-ascii, run_few, need-base_256, few)
 
 -- what fits a symbol in Base 256 has a text
 pub short_base_256 : (bytes : List ℕ) → need_of Base256 bytes ≤ 1304 → length bytes ≤ 1555
 short_base_256 bytes le = grind (arith, cases_lt, ne_eqb, lt-leb, need-base_256)
-
--- each word that pairs of digits have is one
-length-words_of_pairs : (digits : List ℕ) (count : ℕ) → length (words_of_pairs digits count) ≡ count
-length-words_of_pairs digits zero = refl
-length-words_of_pairs digits (suc count) = grind (arith, length-append, length-words_of_pairs digits count)
-
--- pairs of digits at the front of a text need a word each
-pub need-pairs : (bytes : List ℕ) (count : ℕ) → 2 * count ≤ length bytes → AreBetween 48 57 bytes 0 (2 * count) →
-    need_of Ascii bytes ≡ count + need_of Ascii (drop (2 * count) bytes)
-unfolding need_of text
-need-pairs bytes count fits digits =
-    grind (arith, pairs_first bytes count fits digits, length-append, length-words_of_pairs)
 
 -- ---- what a counter says
 
@@ -91,7 +80,10 @@ words-base_256 n k e scheme bytes counts = grind (arith, need-base_256)
 
 -- no sum of a run's counter overflows
 small_run : (t : Letters) (bytes : List ℕ) (c : RunCounter) → length bytes < 2 ^ 64 → CountsRun t bytes c → IsSmallRun c
-small_run t bytes c lt counts = grind (arith, run_within, length-values, length-ascii, length-take-le, length-drop)
+small_run t bytes c lt counts =
+    let run = run_length t bytes in
+    let ascii = length-ascii (drop run bytes) in
+    grind (arith, run_within, length-values, ascii.1, length-take-le, length-drop)
 
 -- no sum of a counter overflows
 pub small : (scheme : Scheme) (bytes : List ℕ) (c : Counter) → length bytes < 2 ^ 64 → Counts scheme bytes c → IsSmall c

@@ -3,7 +3,7 @@ use Rattle.std.proofs.Common.{◌≡◌, ℕ, ◌+◌, ◌*◌, ◌≤◌, List,
 use Rattle.std.specs.List.{flat_map}
 use Rattle.std.proofs.lemmas.List.{length-append}
 use Rattle.dm_encodation.specs.declared.letters.Letters.{Letters}
-use Rattle.dm_encodation.specs.Grammar.{Triple, triple_values, pair, Chars, values_of, Segment, Reads}
+use Rattle.dm_encodation.specs.Grammar.{Triple, triple_values, pair, Chars, Segment, Reads}
 use Rattle.dm_encodation.specs.Grammar
 use Rattle.dm_encodation.proofs.ReadsToReading.{length-randomised}
 use Rattle.dm_encodation.proofs.RunWords.{length-values}

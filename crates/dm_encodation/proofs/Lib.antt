@@ -5,7 +5,6 @@ pub mod TakenValues
 pub mod ReadingToReads
 pub mod Reread
 pub mod DecodeLoopSteps
-pub mod PairsRead
 pub mod StuckToReading
 pub mod ReadingToStuck
 pub mod Counters

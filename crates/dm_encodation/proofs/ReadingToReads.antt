@@ -10,7 +10,7 @@ use Rattle.dm_encodation.specs.declared.mode.Pending.{Pending}
 use Rattle.dm_encodation.specs.declared.mode.Mode.{Mode}
 use Rattle.dm_encodation.specs.declared.mode.Mode.TheVariants.{Ascii, Upper, Run, Half, Length, LongLength, Bytes, Rest, Padded}
 use Rattle.dm_encodation.specs.declared.fault.DecodeFault.TheVariants.{Reserved}
-use Rattle.dm_encodation.specs.Grammar.{Triple, IsTriple, triple_values, pair, state_255, randomised, latch, IsLength, EndsOpen, Segment, Reads}
+use Rattle.dm_encodation.specs.Grammar.{Triple, IsTriple, triple_values, pair, state_255, randomised, latch, IsLength, Segment, Reads}
 use Rattle.dm_encodation.specs.Grammar
 use Rattle.dm_encodation.specs.inner.Reading.{◌>>=◌, prepend, Stepped, Valued, no_pending, upper_step, at_pair, pair_step, values_step, value_255, bytes_left, step, ended, finish, reading}
 use Rattle.dm_encodation.proofs.AsciiStepCases.{AsciiStep, ascii_view}
@@ -38,9 +38,6 @@ pub data InMode : Mode → ℕ → List ℕ → List ℕ → Type 0 where
 -- After one more word: the segment goes on, or it is whole.
 abbrev pub Advanced : ℕ → List ℕ → List ℕ → Mode → Type 0
 Advanced p words given m = InMode m p words given ⊎ ((m ≡ Ascii) × ((after : List ℕ) → Segment p words after given))
-
-abbrev pub goes_to : Mode × List ℕ → Stepped
-goes_to x = Ok x
 
 -- ---- tests
 
@@ -185,9 +182,6 @@ triples_pushed triples tr fits f = grind (arith, common_steps)
 fits_pushed : (bs : List ℕ) (b : ℕ) → AllByRecursion (λ b. b < 256) bs → b < 256 →
     AllByRecursion (λ b. b < 256) (bs ++ b ∷ [])
 fits_pushed bs b fits f = grind (arith, common_steps)
-
-pred_is : (n : ℕ) → suc n - 1 ≡ n
-pred_is n = omega arith
 
 pub advance : {m : Mode} {q : ℕ} {front given : List ℕ} (w : ℕ) (out : Mode × List ℕ) → InMode m q front given →
     w < 256 → step m (q + length front) w ≡ Ok out

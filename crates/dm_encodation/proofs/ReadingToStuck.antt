@@ -7,11 +7,11 @@ use Rattle.std.proofs.lemmas.List.{append-nil, length-append}
 use Rattle.dm_encodation.specs.declared.letters.Letters.{Letters}
 use Rattle.dm_encodation.specs.declared.mode.Pending.{Pending}
 use Rattle.dm_encodation.specs.declared.mode.Mode.{Mode}
-use Rattle.dm_encodation.specs.declared.mode.Mode.TheVariants.{Ascii, Run, Length, LongLength}
+use Rattle.dm_encodation.specs.declared.mode.Mode.TheVariants.{Ascii, Length, LongLength}
 use Rattle.dm_encodation.specs.declared.mode.ValueFault.{ValueFault}
 use Rattle.dm_encodation.specs.declared.mode.ValueFault.TheVariants.{Fnc1, Missing}
 use Rattle.dm_encodation.specs.declared.fault.DecodeFault.{DecodeFault}
-use Rattle.dm_encodation.specs.Grammar.{Triple, IsTriple, triple_values, pair, IsMeaningless, state_255, latch, IsLength, EndsOpen, Segment, Reads, IsUnsupported, BadPair, StuckHere, Stuck}
+use Rattle.dm_encodation.specs.Grammar.{Triple, IsTriple, triple_values, pair, IsMeaningless, state_255, latch, Segment, BadPair, StuckHere, Stuck}
 use Rattle.dm_encodation.specs.Grammar
 use Rattle.dm_encodation.specs.inner.Reading.{◌>>=◌, prepend, Stepped, Valued, no_pending, value_step, ascii_step, upper_step, at_pair, pair_step, values_step, value_255, step, ended, finish, reading}
 use Rattle.dm_encodation.proofs.AsciiStepCases.{AsciiStep, ascii_view}
@@ -189,10 +189,6 @@ long_stuck q v w after f low high lt e =
 length_never : (p w : ℕ) (f : DecodeFault) → step Length p w ≡ Err f → ⊥
 unfolding step
 length_never p w f e = grind arith
-
-run_never : (t : Letters) (s : Pending) (p w : ℕ) (f : DecodeFault) → step (Run t s) p w ≡ Err f → ⊥
-unfolding step
-run_never t s p w f e = elim (chosen (eqb w 254) _ _ _ e) [ inl ok ↦ ok_err _ _ ok.1 | inr ok ↦ ok_err _ _ ok.1 ]
 
 step_fails : {m : Mode} {q : ℕ} {front given : List ℕ} (w : ℕ) (after : List ℕ) (f : DecodeFault) →
     InMode m q front given → w < 256 → step m (q + length front) w ≡ Err f → StuckHere q (front ++ w ∷ after) f

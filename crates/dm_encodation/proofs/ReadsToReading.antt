@@ -12,7 +12,7 @@ use Rattle.dm_encodation.specs.declared.mode.Mode.{Mode}
 use Rattle.dm_encodation.specs.declared.mode.Mode.TheVariants.{Ascii, Upper, Run, Half, Length, LongLength, Bytes, Rest, Padded}
 use Rattle.dm_encodation.specs.declared.fault.DecodeFault.{DecodeFault}
 use Rattle.dm_encodation.specs.Grammar
-use Rattle.dm_encodation.specs.Grammar.{values_below_128, Unfinished, values_of, Triple, IsTriple, triple_values, pair, Chars, IsMeaningless, IsFnc1, state_255, randomised, latch, IsLength, EndsOpen, Segment, Reads, IsUnsupported, StuckHere, Stuck}
+use Rattle.dm_encodation.specs.Grammar.{values_below_128, Unfinished, values_of, Triple, IsTriple, triple_values, pair, Chars, state_255, randomised, latch, IsLength, EndsOpen, Segment, Reads}
 use Rattle.dm_encodation.proofs.AsciiStepCases.{AsciiStep, ascii_view}
 use Rattle.dm_encodation.specs.inner.Reading.{◌>>=◌, prepend, Stepped, no_pending, ascii_step, upper_step, byte_in, value_step, values_step, Valued, at_pair, pair_step, value_255, bytes_left, step, ended, finish, reading}
 

@@ -2,7 +2,7 @@
 use Rattle.std.proofs.lemmas.Grind.{common_steps}
 use Rattle.std.proofs.Common.{◌≡◌, ℕ, zero, suc, ◌+◌, ◌-◌, ◌*◌, ◌/◌, ◌%◌, ◌<◌, ◌≤◌, true, ◌&&◌, eqb, leb, ltb, List, [], ◌∷◌, ◌++◌, length, take, drop, refl, sym, ap, subst, append_assoc, arith}
 use Rattle.std.specs.List.{flat_map, AllByRecursion, list_all}
-use Rattle.std.proofs.lemmas.Bool.{ltb-true, cond_both, lt-ltb, eq-eqb, ne_eqb, leb-false, agree_below, agree_below_at, and_parts}
+use Rattle.std.proofs.lemmas.Bool.{ltb-true, cond_both, eq-eqb, ne_eqb, leb-false, agree_below, agree_below_at, and_parts}
 use Rattle.std.proofs.lemmas.List.{append-nil, length-drop, take_all, take-append-drop}
 use Rattle.dm_encodation.specs.declared.letters.Letters.{Letters}
 use Rattle.dm_encodation.specs.Grammar

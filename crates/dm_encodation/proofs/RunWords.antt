@@ -131,10 +131,13 @@ unfolding run_and_rest
 words_run t k bytes run after le r h =
     grind (arith, eq-eqb, some_values, length-append, length-pairs, ne_eqb, run_need-after)
 
-run_need_few : (run after : ℕ) → run_need run after ≤ 2 + run / 3 * 2 + after
+run_need_few : (run after : ℕ) →
+    (run + 2 * after ≤ 2 * run_need run after) × (run_need run after ≤ 2 + run / 3 * 2 + after)
 run_need_few run after = grind arith
 
-pub run_few : (t : Letters) (bytes : List ℕ) → length (run_and_rest t (run_length t bytes) bytes) ≤ 4 * length bytes + 4
+pub run_few : (t : Letters) (bytes : List ℕ) →
+    (length bytes ≤ 2 * length (run_and_rest t (run_length t bytes) bytes))
+    × (length (run_and_rest t (run_length t bytes) bytes) ≤ 4 * length bytes + 4)
 run_few t bytes = grind (
   arith,
   length-values t (take (run_length t bytes) bytes),

@@ -1,6 +1,6 @@
 -- Where the words are stuck, reading word by word fails so, and the other way round.
 use Rattle.std.proofs.lemmas.Grind.{common_steps}
-use Rattle.std.proofs.Common.{◌≡◌, ℕ, zero, suc, ◌+◌, ◌-◌, ◌<◌, ◌≤◌, ◌≢◌, ◌⊎◌, inl, inr, Bool, true, false, eqb, List, [], ◌∷◌, ◌++◌, length, get_or, take, Ok, Err, refl, sym, ap, subst, ◌∙◌, append_assoc, arith}
+use Rattle.std.proofs.Common.{◌≡◌, ℕ, zero, suc, ◌+◌, ◌-◌, ◌<◌, ◌≤◌, ◌⊎◌, inl, inr, Bool, true, false, eqb, List, [], ◌∷◌, ◌++◌, length, get_or, take, Ok, Err, refl, sym, ap, subst, ◌∙◌, append_assoc, arith}
 use Rattle.std.specs.List.{flat_map, AllByRecursion}
 use Rattle.std.proofs.lemmas.Bool.{ne_eqb, le-ltb}
 use Rattle.dm_encodation.specs.declared.letters.Letters.{Letters}
@@ -14,7 +14,7 @@ use Rattle.dm_encodation.specs.declared.mode.ValueFault.TheVariants.{Fnc1, Missi
 use Rattle.dm_encodation.specs.declared.fault.DecodeFault.{DecodeFault}
 use Rattle.dm_encodation.specs.declared.fault.DecodeFault.TheVariants.{Unsupported, Reserved, Cut}
 use Rattle.dm_encodation.specs.Grammar
-use Rattle.dm_encodation.specs.Grammar.{Unfinished, Triple, IsTriple, triple_values, pair, Chars, IsMeaningless, IsFnc1, state_255, randomised, latch, IsLength, EndsOpen, Segment, Reads, IsUnsupported, BadPair, StuckHere, Stuck}
+use Rattle.dm_encodation.specs.Grammar.{Unfinished, Triple, IsTriple, triple_values, pair, IsMeaningless, state_255, randomised, latch, IsUnsupported, BadPair, StuckHere, Stuck}
 use Rattle.dm_encodation.specs.inner.Reading.{◌>>=◌, prepend, Stepped, Valued, no_pending, value_step, ascii_step, upper_step, at_pair, pair_step, values_step, bytes_left, step, finish, reading}
 use Rattle.dm_encodation.proofs.AsciiStepCases.{AsciiStep, ascii_view}
 use Rattle.dm_encodation.proofs.ReadsToReading.{bind_ok, ok_is, reading_silent, complete_segment, length_read, run_read, chars_step, characters_read, pair_is, step_latch, value_255-state_255, values_joined, splits}
@@ -24,9 +24,6 @@ use Rattle.dm_encodation.proofs.TakenValues.{chars_from, tail_of, tail_at}
 reading_fault : (m : Mode) (p w : ℕ) (ws : List ℕ) (f : DecodeFault) → step m p w ≡ Err f → reading m p (w ∷ ws) ≡ Err f
 unfolding reading
 reading_fault m p w ws f e = ap (λ (s : Stepped). s >>= λ n. prepend n.1 (reading n.0 (p + 1) ws)) e
-
-bounds : (w : ℕ) → IsUnsupported w → (232 ≤ w) × (w ≤ 241) × (w ≢ 235) × (w ≢ 239)
-bounds w given = grind arith
 
 is_unsupported : {p w : ℕ} {r : Stepped} → AsciiStep p w r → IsUnsupported w → r ≡ Err (Unsupported p w)
 is_unsupported {p} {w} {r} given u = grind arith

@@ -1,10 +1,9 @@
 //! The words of a text in ASCII encodation.
 
-ghost use Rattle.std.specs.Prelude.{◌≡◌, ◌+◌, ◌*◌, ◌<◌, ◌≤◌, ◌++◌, [], length, MatchOption, IfOk, IfSome, OnOk};
-ghost use Rattle.dm_encodation.specs.inner.Counting.{AreBetween, words_of_pairs, piece_words, has_digits, IsPiece};
+ghost use Rattle.std.specs.Prelude.{◌≡◌, ◌<◌, ◌++◌, [], length, MatchOption, IfSome, OnOk};
+ghost use Rattle.dm_encodation.specs.inner.Counting.{piece_words, has_digits, IsPiece};
 ghost use Rattle.dm_encodation.specs.Written.{ascii};
 
-use crate::between::between_end;
 use std::alloc::{AllocError, Allocator};
 
 // What stands at the front of a text: two digits, by their number, a byte below 128, or another
@@ -60,64 +59,11 @@ fn push_piece<A: Allocator>(out: &mut Vec<u8, A>, piece: Piece) -> Result<(), Al
     Ok(())
 }
 
-/// The number of pairs of digits at the front of a text.
-pub(crate) fn digit_pairs(bytes: &[u8]) -> usize
-    ensures within { 2 * result ≤ length bytes.now }
-    ensures digits { AreBetween 48 57 bytes.now 0 (2 * result) }
-{
-    between_end(bytes, 0, b'0', b'9') / 2
-}
-
-// Writes the words of the first digits of a text over others.
-fn write_pairs(words: &mut [u8], digits: &[u8])
-    requires room { 2 * length words.old ≤ length digits.now }
-    requires digits { AreBetween 48 57 digits.now 0 (2 * length words.old) }
-    ensures { words.new ≡ words_of_pairs digits.now (length words.old) }
-{
-    for at in 0..words.len() {
-        words[at] = 130 + (10 * (digits[2 * at] - b'0') + (digits[2 * at + 1] - b'0'));
-    }
-}
-
-// Writes the words of the first digits of a text.
-fn push_pairs<A: Allocator>(
-    out: &mut Vec<u8, A>,
-    digits: &[u8],
-    count: usize,
-) -> Result<(), AllocError>
-    requires room { 2 * count ≤ length digits.now }
-    requires digits { AreBetween 48 57 digits.now 0 (2 * count) }
-    ensures { OnOk result (out.new.items ≡ out.old.items ++ words_of_pairs digits.now count) }
-{
-    let start = out.len();
-    out.resize(start + count, 0)?;
-    write_pairs(&mut out[start..], digits);
-    Ok(())
-}
-
-// A text of fewer bytes is written sooner piece by piece.
-const FEW: usize = 16;
-
-// Writes the words of pairs of digits that a text begins with, and gives the text after them.
-fn push_digits<'a, A: Allocator>(
-    out: &mut Vec<u8, A>,
-    bytes: &'a [u8],
-) -> Result<&'a [u8], AllocError>
-    ensures { IfOk result (λ rest. out.new.items ++ ascii rest.now ≡ out.old.items ++ ascii bytes.now) }
-{
-    if bytes.len() < FEW {
-        return Ok(bytes);
-    }
-    let pairs = digit_pairs(bytes);
-    push_pairs(out, bytes, pairs)?;
-    Ok(&bytes[2 * pairs..])
-}
-
 /// Writes the words of a text after what was written before.
 pub(crate) fn push_ascii<A: Allocator>(out: &mut Vec<u8, A>, bytes: &[u8]) -> Result<(), AllocError>
     ensures { OnOk result (out.new.items ≡ out.old.items ++ ascii bytes.now) }
 {
-    let mut rest = push_digits(out, bytes)?;
+    let mut rest = bytes;
     while let Some((piece, after)) = first_piece(rest) {
         push_piece(out, piece)?;
         rest = after;

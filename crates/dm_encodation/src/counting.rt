@@ -1,14 +1,13 @@
 //! The number of words that a text takes, and how much of a text fits a room.
 
-ghost use Rattle.std.specs.Prelude.{◌≡◌, ◌+◌, ◌*◌, ◌≤◌, ◌^◌, length, drop};
+ghost use Rattle.std.specs.Prelude.{◌≡◌, ◌≤◌, ◌^◌, length};
 ghost use Rattle.dm_encodation.specs.Written.{need_of, IsGreatestPrefix};
 
-use crate::ascii::digit_pairs;
 use crate::counter::Counter;
 use crate::scheme::Scheme;
 
-// The number of words that a text of any length takes, counted byte by byte.
-fn counted(scheme: Scheme, bytes: &[u8]) -> u128
+/// The number of words that a text of any length takes, counted byte by byte.
+pub(crate) fn word_count(scheme: Scheme, bytes: &[u8]) -> u128
     ensures { result ≡ need_of scheme bytes.now }
 {
     let mut counter = Counter::start(scheme);
@@ -16,25 +15,6 @@ fn counted(scheme: Scheme, bytes: &[u8]) -> u128
         counter = counter.with(*byte);
     }
     counter.words()
-}
-
-// How many pairs of digits at the front of a text are a word each.
-fn front_pairs(scheme: Scheme, bytes: &[u8]) -> usize
-    ensures within { 2 * result ≤ length bytes.now }
-    ensures words { need_of scheme bytes.now ≡ result + need_of scheme (drop (2 * result) bytes.now) }
-{
-    match scheme {
-        Scheme::Ascii => digit_pairs(bytes),
-        _ => 0,
-    }
-}
-
-/// The number of words that a text of any length takes.
-pub(crate) fn word_count(scheme: Scheme, bytes: &[u8]) -> u128
-    ensures { result ≡ need_of scheme bytes.now }
-{
-    let pairs = front_pairs(scheme, bytes);
-    pairs as u128 + counted(scheme, &bytes[2 * pairs..])
 }
 
 /// The number of data words that the bytes take in a scheme, before any pad (ISO/IEC 16022:2006,
@@ -46,10 +26,8 @@ pub fn need(scheme: Scheme, bytes: &[u8]) -> usize
     word_count(scheme, bytes) as usize
 }
 
-/// The greatest number of bytes at the front of a text that together take at most `room` words. A
-/// shorter front may take more words than a longer one, so longer fronts may fit again where one
-/// does not.
-pub fn fit(scheme: Scheme, bytes: &[u8], room: usize) -> usize
+// The greatest prefix that fits, where each prefix is looked at.
+fn greatest_prefix(scheme: Scheme, bytes: &[u8], room: usize) -> usize
     ensures { IsGreatestPrefix scheme room bytes.now result }
 {
     let mut counter = Counter::start(scheme);
@@ -61,4 +39,14 @@ pub fn fit(scheme: Scheme, bytes: &[u8], room: usize) -> usize
         }
     }
     greatest
+}
+
+/// The greatest number of bytes at the front of a text that together take at most `room` words. A
+/// shorter front may take more words than a longer one, so longer fronts may fit again where one
+/// does not. None of more than two bytes a word does.
+pub fn fit(scheme: Scheme, bytes: &[u8], room: usize) -> usize
+    ensures { IsGreatestPrefix scheme room bytes.now result }
+{
+    let most = bytes.len().min(room.saturating_mul(2));
+    greatest_prefix(scheme, &bytes[..most], room)
 }

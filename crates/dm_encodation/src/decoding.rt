@@ -1,63 +1,17 @@
 //! The text of a symbol's data words.
 
-ghost use Rattle.std.specs.Prelude.{◌≡◌, ◌≢◌, ◌+◌, ◌-◌, ◌*◌, ◌≤◌, ◌++◌, ℕ, List, length, drop, true, IfOk, IfErr, OnOk};
+ghost use Rattle.std.specs.Prelude.{◌≡◌, ◌≢◌, ◌+◌, ◌-◌, ◌*◌, ◌≤◌, ◌++◌, ℕ, List, length, drop, true, IfOk, IfErr};
 ghost use Rattle.std.specs.Prelude.{IsErrOf};
 ghost use Rattle.dm_encodation.specs.Grammar.{ReadsOnly, StuckOnly};
-ghost use Rattle.dm_encodation.specs.inner.Counting.{ArePairs, digits_from};
 ghost use Rattle.dm_encodation.specs.inner.Reading.{reading};
 ghost use Rattle.dm_encodation.specs.inner.StepViews.{bytes_of, Collects};
 ghost use Rattle.dm_encodation.specs.declared.fault.DecodeFault.TheVariants.{Memory};
 ghost use Rattle.dm_encodation.specs.declared.mode.Mode.TheVariants.{Ascii};
 
-use crate::between::between_end;
 use crate::fault::DecodeFault;
 use crate::mode::Mode;
 use crate::reader::{Decoded, finish, step};
-use std::alloc::{AllocError, Allocator};
-
-// The end of the words of two digits each that stand from an index on.
-fn pairs_end(words: &[u8], from: usize) -> usize
-    requires { from ≤ length words.now }
-    ensures after { from ≤ result }
-    ensures within { result ≤ length words.now }
-    ensures pairs { ArePairs words.now from result }
-{
-    between_end(words, from, 130, 229)
-}
-
-// Writes the digits of that many words of two digits each over others.
-fn write_digits(digits: &mut [u8], words: &[u8], from: usize, count: usize)
-    requires room { length digits.old ≡ 2 * count }
-    requires within { from + count ≤ length words.now }
-    requires pairs { ArePairs words.now from (from + count) }
-    ensures { digits.new ≡ digits_from words.now from count }
-{
-    for at in 0..count {
-        let number = words[from + at] - 130;
-        digits[2 * at] = b'0' + number / 10;
-        digits[2 * at + 1] = b'0' + number % 10;
-    }
-}
-
-// Writes the digits of words of two digits each, with memory for as many bytes more as words follow them.
-fn write_first_digits<A: Allocator + Copy>(
-    alloc: A,
-    out: &mut Vec<u8, A>,
-    words: &[u8],
-    from: usize,
-    end: usize,
-) -> Result<(), AllocError>
-    requires after { from ≤ end }
-    requires within { end ≤ length words.now }
-    requires pairs { ArePairs words.now from end }
-    ensures { OnOk result (out.new.items ≡ digits_from words.now from (end - from)) }
-{
-    let count = end - from;
-    *out = Vec::with_capacity(alloc, 2 * count + (words.len() - end))?;
-    out.resize(2 * count, 0)?;
-    write_digits(&mut out[..], words, from, count);
-    Ok(())
-}
+use std::alloc::Allocator;
 
 // Writes the bytes that a word gives, if all before them are written. Gives whether they are.
 #[inline(always)]
@@ -77,21 +31,19 @@ fn push_output<A: Allocator>(out: &mut Vec<u8, A>, output: Decoded, is_whole: bo
     }
 }
 
-// Writes the bytes of the words, and gives whether there was memory for all of them. Where it is refused, the words are
-// still looked through.
-fn read_words<A: Allocator + Copy>(
-    alloc: A,
+// Writes the bytes of the words after what was written before, and gives whether there was memory for all of them.
+// Where it is refused, the words are still looked through.
+fn read_words<A: Allocator>(
     out: &mut Vec<u8, A>,
     words: &[u8],
     from: usize,
 ) -> Result<bool, DecodeFault>
     requires { from ≤ length words.now }
-    ensures { Collects result out.new.items (reading Ascii (from + 1) (drop from words.now)) }
+    ensures { Collects result out.old.items out.new.items (reading Ascii (from + 1) (drop from words.now)) }
 {
-    let start = pairs_end(words, from);
-    let mut is_whole = write_first_digits(alloc, out, words, from, start).is_ok();
+    let mut is_whole = out.reserve(words.len() - from).is_ok();
     let mut mode = Mode::Ascii;
-    for at in start..words.len() {
+    for at in from..words.len() {
         if let Mode::Padded = mode {
             return Ok(is_whole);
         }
@@ -123,7 +75,7 @@ pub fn decode<A: Allocator + Copy>(
         × ReadsOnly (from + 1) (drop from words.now) bytes }
 {
     let mut out = Vec::new(alloc);
-    if read_words(alloc, &mut out, words, from)? {
+    if read_words(&mut out, words, from)? {
         Ok(out)
     } else {
         Err(DecodeFault::Memory)

@@ -14,13 +14,11 @@
 //! The way down: `counter` counts the words of a text byte by byte (`counting` runs it), `encoding`
 //! writes the text by `ascii`, `run` (C40 and Text, by the values of `characters`) or `base256`, and
 //! `pads` fills the rest. The way back: `decoding` runs `reader`, which takes one word after another
-//! in a `mode`; `values` reads the pairs of a run. Both ways, the digits at the front are taken two to
-//! a word, many words at a time: `between` finds where they end.
+//! in a `mode`; `values` reads the pairs of a run.
 #![tactic(auto)]
 
 mod ascii;
 mod base256;
-mod between;
 mod characters;
 mod counter;
 mod counting;

@@ -1,5 +1,5 @@
 -- The results of the reader's functions with their bytes as lists, as Reading.antt has them.
-use Rattle.std.specs.Prelude.{◌≡◌, ℕ, ◌<◌, ◌≤◌, Bool, true, List, [], ◌∷◌, Option, Some, None, Result, Ok, Err}
+use Rattle.std.specs.Prelude.{◌≡◌, ℕ, ◌<◌, ◌≤◌, Bool, true, List, [], ◌∷◌, Option, Some, None, Result, Ok, Err, ◌++◌}
 use Rattle.dm_encodation.specs.declared.mode.Mode.{Mode}
 use Rattle.dm_encodation.specs.declared.mode.Mode.TheVariants.{Upper, Half, Length, LongLength, Bytes}
 use Rattle.dm_encodation.specs.declared.mode.Pending.{Pending}
@@ -59,6 +59,6 @@ fault_of Fnc1 p w = Unsupported p w
 fault_of Missing p w = Reserved p w
 
 -- the answer is the fault that is read, or whether all bytes that are read were written
-abbrev pub Collects : Result Bool DecodeFault → List ℕ → Result (List ℕ) DecodeFault → Type 0
-Collects (Ok is_whole) items read = (bytes : List ℕ) × (read ≡ Ok bytes) × (is_whole ≡ true → items ≡ bytes)
-Collects (Err f) items read = read ≡ Err f
+abbrev pub Collects : Result Bool DecodeFault → List ℕ → List ℕ → Result (List ℕ) DecodeFault → Type 0
+Collects (Ok is_whole) old new read = (bytes : List ℕ) × (read ≡ Ok bytes) × (is_whole ≡ true → new ≡ old ++ bytes)
+Collects (Err f) old new read = read ≡ Err f

@@ -1,14 +1,7 @@
 use Rattle.std.proofs.Common.{arith}
-use Rattle.std.proofs.lemmas.List.{length-take, take_more}
-use Rattle.dm_encodation.proofs.Counters.{small}
-use Rattle.dm_encodation.proofs.Prefixes.{fits_none}
+use Rattle.dm_encodation.proofs.Prefixes.{fits_front}
 use Rattle.dm_encodation.proofs.counting.fit.Goals as goal
 
-pub loop-index-init : goal.loop-index-init
-loop-index-init c = search (arith, fits_none)
-
-pub with-counter-requires : goal.with-counter-requires
-with-counter-requires c = grind (arith, small, length-take)
-
-pub words-requires : goal.words-requires
-words-requires c = grind (arith, small, length-take, take_more)
+pub returns : goal.returns
+returns c = fits_front c.args.scheme c.args.room c.min-most.result c.args.bytes.now c.greatest_prefix.result
+    (omega arith) (λ lt. omega arith) c.greatest_prefix.ensures

@@ -1,7 +1,10 @@
 use Rattle.std.proofs.Common.{arith}
-use Rattle.std.proofs.lemmas.List.{take_rest}
-use Rattle.dm_encodation.proofs.Counters.{need_below}
+use Rattle.std.proofs.lemmas.List.{length-take}
+use Rattle.dm_encodation.proofs.Counters.{small}
 use Rattle.dm_encodation.proofs.counting.word_count.Goals as goal
 
-pub overflow_add-result : goal.overflow_add-result
-overflow_add-result c = grind (arith, need_below, take_rest)
+pub with-counter-requires : goal.with-counter-requires
+with-counter-requires c = grind (arith, small, length-take)
+
+pub words-requires : goal.words-requires
+words-requires c = grind (arith, small, length-take)

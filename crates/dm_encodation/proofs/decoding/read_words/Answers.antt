@@ -1,23 +1,16 @@
-use Rattle.std.proofs.Common.{◌++◌, List, ℕ, drop, ◌+◌, ◌-◌, ap, ◌∙◌, arith}
+use Rattle.std.proofs.Common.{◌++◌, List, [], ℕ, drop, ◌+◌, ap, sym, ◌∙◌, append_assoc, arith}
+use Rattle.std.proofs.lemmas.List.{append-nil}
 use Rattle.std.proofs.lemmas.Result.{err_from_is_err_and}
 use Rattle.dm_encodation.specs.inner.StepViews.{bytes_of}
-use Rattle.dm_encodation.specs.inner.Counting.{digits_from}
 use Rattle.dm_encodation.specs.inner.Reading.{reading}
 use Rattle.dm_encodation.specs.declared.mode.Mode.TheVariants.{Ascii}
+use Rattle.dm_encodation.proofs.ReadsToReading.{prepend-nil}
 use Rattle.dm_encodation.proofs.DecodeLoopSteps.{goes_on, fails_at, finishes, fails_last, padded_so}
-use Rattle.dm_encodation.proofs.PairsRead.{pairs_between}
 use Rattle.dm_encodation.proofs.decoding.read_words.Goals as goal
 
 pub loop-at-init : goal.loop-at-init
-loop-at-init g c = record {
-  mode = tt;
-  so_far = (
-    digits_from c.args.words.now c.args.from (c.pairs_end-start.result - c.args.from),
-    pairs_between c.args.words.now c.args.from c.pairs_end-start.result c.pairs_end-start.ensures.after
-        c.pairs_end-start.ensures.within c.pairs_end-start.ensures.pairs,
-    λ whole. grind arith,
-  );
-}
+loop-at-init g c =
+    record { mode = tt; so_far = ([], prepend-nil _, λ whole. c.reserve.ensures.items ∙ sym (append-nil _)) }
 
 pub returns-in-Padded : goal.returns-in-Padded
 returns-in-Padded g c =
@@ -47,7 +40,8 @@ loop-at-preserved g c =
         so_far.0 ++ bs,
         goes_on c.loop-at.mode c.in_ok-next.next c.loop-at.at c.args.words.now so_far.0 bs total
             c.loop-at-test.true c.in_ok-next.ensures.step so_far.1,
-        λ whole. let w = c.push_output-is_whole.ensures whole in w.1 ∙ ap (λ (l : List ℕ). l ++ bs) (so_far.2 w.0),
+        λ whole. let w = c.push_output-is_whole.ensures whole in w.1 ∙ ap (λ (l : List ℕ). l ++ bs) (so_far.2 w.0)
+            ∙ append_assoc _ so_far.0 bs,
       );
     }
 
@@ -68,5 +62,6 @@ returns g c =
       so_far.0 ++ bs,
       finishes c.loop-at.mode c.loop-at.at c.args.words.now so_far.0 bs total c.loop-at-test.false
           (omega arith) c.in_ok-output.ensures so_far.1,
-      λ whole. let w = c.push_output.ensures whole in w.1 ∙ ap (λ (l : List ℕ). l ++ bs) (so_far.2 w.0),
+      λ whole. let w = c.push_output.ensures whole in w.1 ∙ ap (λ (l : List ℕ). l ++ bs) (so_far.2 w.0)
+          ∙ append_assoc _ so_far.0 bs,
     )

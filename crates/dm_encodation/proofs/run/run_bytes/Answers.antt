@@ -2,7 +2,6 @@ use Rattle.std.proofs.Common.{refl, sym, arith}
 use Rattle.std.proofs.lemmas.List.{length-take}
 use Rattle.dm_encodation.proofs.RunWords.{run_length-nil, run_within, over_more, whole_more, whole_same}
 use Rattle.dm_encodation.proofs.run.run_bytes.Goals as goal
-use Rattle.dm_encodation.proofs.run.run_bytes.Goals.{then-over-eq0, else-over-eq0}
 
 pub loop-index-init : goal.loop-index-init
 loop-index-init c = record { over = refl; whole = sym (run_length-nil c.args.letters) }

@@ -1,7 +1,7 @@
 use Rattle.std.proofs.Common.{take}
 use Rattle.dm_encodation.specs.inner.Counting.{Counts}
 use Rattle.dm_encodation.proofs.Prefixes.{FitsSoFar}
-use Rattle.dm_encodation.proofs.counting.fit.Given as goal
+use Rattle.dm_encodation.proofs.counting.greatest_prefix.Given as goal
 
 abbrev pub invariant-loop-index : goal.invariant-loop-index
 invariant-loop-index l = record {
