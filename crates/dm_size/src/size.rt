@@ -1,4 +1,5 @@
 //! The square symbol sizes.
+#![tactic(auto, using(crate::proofs::Sound::sound))]
 
 ghost use Rattle.std.specs.Prelude.{◌≡◌};
 
@@ -123,7 +124,6 @@ impl Size {
     }
 
     /// Modules along a side of the symbol, finder patterns included.
-    #[tactic(auto, using(crate::proofs::Sound::sound))]
     pub fn side(self) -> u16
         ensures value { result ≡ sizes.side self }
         ensures sound { sizes.IsSound self }
@@ -132,7 +132,6 @@ impl Size {
     }
 
     /// Modules along a side of one data region, without its finder pattern.
-    #[tactic(auto, using(crate::proofs::Sound::sound))]
     pub fn region(self) -> u16
         ensures value { result ≡ sizes.region self }
         ensures sound { sizes.IsSound self }
@@ -141,7 +140,6 @@ impl Size {
     }
 
     /// The number of data regions of the symbol.
-    #[tactic(auto, using(crate::proofs::Sound::sound))]
     pub fn regions(self) -> u16
         ensures value { result ≡ sizes.regions self }
         ensures sound { sizes.IsSound self }
@@ -150,7 +148,6 @@ impl Size {
     }
 
     /// The number of regions in a row of them, and in a column.
-    #[tactic(auto, using(crate::proofs::Sound::sound))]
     pub fn across(self) -> u16
         ensures value { result ≡ sizes.across self }
         ensures sound { sizes.IsSound self }
@@ -159,7 +156,6 @@ impl Size {
     }
 
     /// Modules along a side of the mapping matrix: the regions together, without their finder patterns.
-    #[tactic(auto, using(crate::proofs::Sound::sound))]
     pub fn mapping(self) -> u16
         ensures value { result ≡ sizes.mapping self }
         ensures sound { sizes.IsSound self }
@@ -168,7 +164,6 @@ impl Size {
     }
 
     /// The number of data words of the symbol.
-    #[tactic(auto, using(crate::proofs::Sound::sound))]
     pub fn data_words(self) -> usize
         ensures value { result ≡ sizes.data_words self }
         ensures sound { sizes.IsSound self }
@@ -177,7 +172,6 @@ impl Size {
     }
 
     /// The number of check words of the symbol, those of all blocks together.
-    #[tactic(auto, using(crate::proofs::Sound::sound))]
     pub fn check_words(self) -> usize
         ensures value { result ≡ sizes.check_words self }
         ensures sound { sizes.IsSound self }
@@ -186,7 +180,6 @@ impl Size {
     }
 
     /// The number of interleaved blocks of the symbol.
-    #[tactic(auto, using(crate::proofs::Sound::sound))]
     pub fn blocks(self) -> usize
         ensures value { result ≡ sizes.blocks self }
         ensures sound { sizes.IsSound self }
@@ -195,7 +188,6 @@ impl Size {
     }
 
     /// The number of all words of the symbol: its data words and its check words.
-    #[tactic(auto, using(crate::proofs::Sound::sound))]
     pub fn all_words(self) -> usize
         ensures value { result ≡ sizes.all_words self }
         ensures sound { sizes.IsSound self }
@@ -204,7 +196,6 @@ impl Size {
     }
 
     /// The number of data words of each block.
-    #[tactic(auto, using(crate::proofs::Sound::sound))]
     pub fn block_data(self) -> usize
         ensures value { result ≡ sizes.block_data self }
         ensures sound { sizes.IsSound self }
@@ -213,7 +204,6 @@ impl Size {
     }
 
     /// The number of check words of each block.
-    #[tactic(auto, using(crate::proofs::Sound::sound))]
     pub fn block_checks(self) -> usize
         ensures value { result ≡ sizes.block_checks self }
         ensures sound { sizes.IsSound self }
@@ -222,7 +212,6 @@ impl Size {
     }
 
     /// The number of all words of each block: its data words and its check words.
-    #[tactic(auto, using(crate::proofs::Sound::sound))]
     pub fn block_length(self) -> usize
         ensures value { result ≡ sizes.block_length self }
         ensures sound { sizes.IsSound self }
@@ -231,7 +220,6 @@ impl Size {
     }
 
     /// The number of wrong words in one block that can be put right: half its check words, rounded down.
-    #[tactic(auto, using(crate::proofs::Sound::sound))]
     pub fn limit(self) -> usize
         ensures value { result ≡ sizes.limit self }
         ensures sound { sizes.IsSound self }
