@@ -67,9 +67,7 @@ zeros_at (suc n) (suc k) = zeros_at n k
 -- the zeros of a list after what was written to its beginning
 pub zeros_after : (m : ℕ) (ys : List ℕ) (n k : ℕ) → length ys ≡ n → n ≤ k →
     let zs : List ℕ = replicate m 0 in get_or (ys ++ drop n zs) k 0 ≡ 0
-zeros_after m ys n k e h =
-    let zs : List ℕ = replicate m 0 in
-    get_or-append_right ys (drop n zs) n k 0 e h ∙ get_or-drop n zs (k - n) 0 ∙ zeros_at m (n + (k - n))
+zeros_after m ys n k e h = grind (arith, get_or-append_right, get_or-drop, zeros_at)
 
 -- each row of a blank table is blank
 pub blank_row : (f : ℕ) → f < 16 → let blank : List ℕ = replicate 80 0 in row_at (replicate 16 blank) f ≡ blank
@@ -78,11 +76,7 @@ blank_row f h = get_or-replicate 16 f (replicate 80 0) [] h
 -- a row that is zero after its first places is those places and zeros
 padded : (row : List ℕ) (c n k : ℕ) → c ≤ length row → ((j : ℕ) → c ≤ j → get_or row j 0 ≡ 0) →
     get_or (take c row ++ replicate n 0) k 0 ≡ get_or row k 0
-padded row c n k l z =
-    let first : length (take c row) ≡ c = simp length-take (omega arith) in
-    ⊎_elim (λ (h : k < c). get_or-append (take c row) (replicate n 0) 0 k (omega arith) ∙ get_or-take c row k 0 h)
-    (λ (h : c ≤ k). get_or-append_right (take c row) (replicate n 0) c k 0 first h ∙ zeros_at n (k - c) ∙ sym (z k h))
-    (cases_lt k c)
+padded row c n k l z = grind (arith, cases_lt, get_or-append, get_or-append_right, get_or-take, length-take, zeros_at)
 
 -- the generator polynomial without its leading 1, shifted, has the value of its highest power at a root
 shifted_value : (g : List ℕ) (n x : ℕ) → x < 256 → length g ≤ n → value (1 ∷ g) x ≡ 0 →
@@ -200,14 +194,4 @@ pub divided_message : (checks count : ℕ) (old new : List ℕ) → IsDivided ch
     count + checks ≤ 336 → ((i : ℕ) → count ≤ i → get_or old i 0 ≡ 0) →
     IsBlockWord checks (take count old ++ slice_range new count (count + checks))
 divided_message checks count old new e l fits zeros k p q =
-    let x = power 2 k in
-    let byte : x < 256 = power_byte 2 k (omega arith) in
-    let message = take count old in
-    let rest = slice_range new count (count + checks) in
-    let first : length message ≡ count = simp length-take (omega arith) in
-    let long : checks ≡ length rest = simp (length-take, length-drop) (omega (arith, e.size)) in
-    let all : message ≡ take count message = sym (take_all count message (omega arith)) in
-    whole message rest x count byte (omega arith)
-    (e.values k p q ∙ zeros_follow old count checks x byte (omega arith) zeros
-    ∙ ap (λ t. product (value t x) (power x checks)) all
-    ∙ ap (λ t. product (value (take count message) x) (power x t)) long)
+    grind (arith, length-drop, length-take, power_byte, take_all, whole, zeros_follow)

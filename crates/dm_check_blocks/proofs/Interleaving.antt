@@ -1,10 +1,8 @@
 -- The blocks of a symbol share its words out: word i of block b stands at i times the blocks plus b.
 use Rattle.std.proofs.Common.{◌≡◌, ◌≢◌, ℕ, ◌+◌, ◌-◌, ◌*◌, ◌/◌, ◌%◌, ◌<◌, ◌≤◌, ◌⊎◌, refl, sym, ◌∙◌, ap, arith, List, ◌++◌, length, length-append, get_or, set, ⊎_elim, below_more, get_or-set_other, get_or-set_same, mul-one}
-use Rattle.std.specs.Prelude.{nat_lt, if◌then◌else◌}
 use Rattle.std.proofs.Math.Nat.{mul-le-mul_right, mod-lt}
 use Rattle.std.proofs.lemmas.Nat.{mod-mul-add, div-add-mod'}
 use Rattle.std.proofs.lemmas.Bool.{cases_lt}
-use Rattle.std.proofs.lemmas.Bool.Decides.{nat_tests}
 use Rattle.std.proofs.lemmas.List.{ext_get_or, get_or-append_right}
 use Rattle.std.proofs.Math.ListN.{get_or-append}
 use Rattle.std.proofs.lemmas.List.FromFn.{get_or-map-range_with_len, length-map-range_with_len}
@@ -15,39 +13,20 @@ use Rattle.dm_size.proofs.Sound.{sound}
 
 -- counting on from the end of the data words is counting from the start
 past_data : (i d n e : ℕ) → d ≤ i → e ≡ d * n → e + (i - d) * n ≡ i * n
-past_data i d n e h q =
-    let k = i - d in
-    let f : i ≡ d + k = omega arith in
-    let g : i * n ≡ (d + k) * n = ap (λ t. t * n) f in
-    omega arith
+past_data i d n e h q = grind arith
 
 -- word i of block b stands at i times the number of blocks, plus b
 pub position-closed : (s : Size) (b i : ℕ) → position s b i ≡ i * blocks s + b
 unfolding position
-position-closed s b i =
-    let whole : data_words s ≡ block_data s * blocks s = (let e = (sound s).equal_data in omega arith) in
-    let low : i < block_data s → position s b i ≡ i * blocks s + b = λ h. grind (arith, nat_tests) in
-    let high : block_data s ≤ i → position s b i ≡ i * blocks s + b =
-    λ h. (let e : (if nat_lt i (block_data s) then i * blocks s + b else data_words
-    s + (i - block_data s) * blocks s + b) ≡ data_words s + (i - block_data s) * blocks s + b =
-    grind (arith, nat_tests) in e)
-    ∙ ap (λ t. t + b) (past_data i (block_data s) (blocks s) (data_words s) h whole) in
-    ⊎_elim low high (cases_lt i (block_data s))
+position-closed s b i = grind (arith, cases_lt, past_data, sound)
 
 -- all words are those of the blocks
 pub whole_blocks : (s : Size) → block_length s * blocks s ≡ all_words s
-whole_blocks s =
-    let one = (sound s).equal_data in let two = (sound s).equal_checks in let three = (sound s).equal_blocks in
-    let e : block_length s * blocks s ≡ (block_data s + block_checks s) * blocks s =
-    ap (λ t. t * blocks s) (sym three) in
-    omega arith
+whole_blocks s = grind (arith, sound)
 
 -- a position lies in the symbol
 pub position-lt : (s : Size) (b i : ℕ) → b < blocks s → i < block_length s → position s b i < all_words s
-position-lt s b i p q =
-    let more : (i + 1) * blocks s ≤ block_length s * blocks s =
-    mul-le-mul_right (blocks s) (let h : i + 1 ≤ block_length s = omega arith in h) in
-    omega (arith, position-closed s b i, whole_blocks s)
+position-lt s b i p q = grind (arith, mul-le-mul_right, position-closed, whole_blocks)
 
 -- a position, divided by the number of blocks, leaves the block's number
 pub position-mod : (s : Size) (b i : ℕ) → b < blocks s → position s b i % blocks s ≡ b
@@ -55,17 +34,11 @@ position-mod s b i p = ap (λ t. t % blocks s) (position-closed s b i) ∙ mod-m
 
 -- a data word stands among the data words
 pub position_in_data : (s : Size) (b i : ℕ) → b < blocks s → i < block_data s → position s b i < data_words s
-position_in_data s b i p q =
-    let more : (i + 1) * blocks s ≤ block_data s * blocks s =
-    mul-le-mul_right (blocks s) (let h : i + 1 ≤ block_data s = omega arith in h) in
-    let e = (sound s).equal_data in
-    omega (arith, position-closed s b i)
+position_in_data s b i p q = grind (arith, mul-le-mul_right, position-closed, sound)
 
 -- a check word stands after all data words
 pub position_in_checks : (s : Size) (b k : ℕ) → data_words s ≤ position s b (block_data s + k)
-position_in_checks s b k =
-    let e = (sound s).equal_data in
-    omega (arith, position-closed s b (block_data s + k))
+position_in_checks s b k = grind (arith, position-closed, sound)
 
 -- each position is that of one word of one block
 pub position_of : (s : Size) (p : ℕ) → position s (p % blocks s) (p / blocks s) ≡ p
@@ -132,10 +105,7 @@ same_from_blocks s xs ys l m h =
 
 -- later words of a block stand later
 pub position-rising : (s : Size) (b i j : ℕ) → i < j → position s b i < position s b j
-position-rising s b i j h =
-    let more : (i + 1) * blocks s ≤ j * blocks s = mul-le-mul_right (blocks s) (let l : i + 1 ≤ j = omega arith in l) in
-    let some = (sound s).some_blocks in
-    omega (arith, position-closed s b i, position-closed s b j)
+position-rising s b i j h = grind (arith, mul-le-mul_right, position-closed, sound)
 
 -- one data word more is read
 pub gathered_more : (data' words : List ℕ) (place : ℕ → ℕ) (i v : ℕ) → i < length data' → v ≡ get_or words (place i) 0 →
@@ -149,12 +119,7 @@ pub written_more : (s : Size) (b k : ℕ) (words checks : List ℕ) → position
     ((j : ℕ) → j < k → get_or words (position s b (block_data s + j)) 0 ≡ get_or checks j 0) →
     (j : ℕ) → j < k + 1 → get_or (set words (position s b (block_data s + k)) (get_or checks k 0))
     (position s b (block_data s + j)) 0 ≡ get_or checks j 0
-written_more s b k words checks l h =
-    below_more _ _
-    (λ j q. let ne : position s b (block_data s + j) ≢ position s b (block_data s + k) =
-    (let r = position-rising s b (block_data s + j) (block_data s + k) (omega arith) in omega arith) in
-    rw get_or-set_other (h j q))
-    (rw get_or-set_same refl)
+written_more s b k words checks l h = grind (arith, get_or-set_other, get_or-set_same, position-rising)
 
 -- and nothing else is
 pub others_more : (s : Size) (b k p v : ℕ) (words : List ℕ) → b < blocks s → (p < data_words s) ⊎ (p % blocks s ≢ b) →

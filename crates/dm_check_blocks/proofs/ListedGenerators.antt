@@ -36,11 +36,7 @@ all_roots (suc c) k p q =
 
 -- so has a list that is that polynomial
 is_generator : (c : ℕ) (gs : List ℕ) → gs ≡ with_roots c → length gs ≡ c → (length gs ≡ c) × IsGenerator gs
-is_generator c gs e n = (
-  n,
-  λ k p q.
-      ap (λ t. value (1 ∷ t) (power 2 k)) e ∙ all_roots c k p (omega arith),
-)
+is_generator c gs e n = grind (arith, all_roots)
 
 pub generator_5 : (length GENERATOR_5 ≡ 5) × IsGenerator GENERATOR_5
 unfolding with_roots with_root add_scaled product reduced plain power

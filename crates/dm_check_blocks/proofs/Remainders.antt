@@ -21,10 +21,7 @@ pub step_value : (old gs : List ℕ) (u n x : ℕ) → 0 < length old → length
     x < 256 → value (1 ∷ gs) x ≡ 0 →
     value (add_scaled (bit_xor u (get_or old 0 0)) (set (drop 1 old ++ take 1 old) n 0) gs) x ≡ bit_xor (product x
     (value old x)) (product u (power x (length gs)))
-step_value [] gs u n x p e m h z = absurd (omega arith)
-step_value (r ∷ rs) gs u n x p e m h z =
-    ap (λ t. value (add_scaled (bit_xor u r) t gs) x) (set-last rs r 0 n (omega arith)) ∙
-    value-divide_step r rs gs u x e h z
+step_value x0 gs u n x p e m h z = grind (arith, set-last, value-divide_step)
 
 -- a polynomial with zero coefficients has the value 0
 pub zeros_value : (cs : List ℕ) (x : ℕ) → ((k : ℕ) → k < length cs → get_or cs k 0 ≡ 0) → value cs x ≡ 0

@@ -34,9 +34,7 @@ pub completes_taken : (s : Size) (message words rest : List ℕ) (n : ℕ) → l
     ((p : ℕ) → p < data_words s → get_or words p 0 ≡ get_or message p 0) →
     ((b : ℕ) → b < blocks s → IsBlockWord (block_checks s) (block_of s b words)) →
     Completes s message (take n (words ++ rest))
-completes_taken s message words rest n l m e bytes same done =
-    let P : List ℕ → Type 0 = λ t. Completes s message t in
-    subst P (sym (take_at words rest n e)) (completes s message words l m bytes same done)
+completes_taken s message words rest n l m e bytes same done = grind (arith, completes, take_at)
 
 -- a list whose places are bytes is bytes
 bytes_from_all : (xs : List ℕ) → ((i : ℕ) → i < length xs → get_or xs i 0 < 256) → Bytes xs
@@ -44,13 +42,7 @@ bytes_from_all xs h = recursion_from_All (λ x. x < 256) xs (All-from_get_or (λ
 
 -- the places of a block are bytes
 block_bytes : (s : Size) (b : ℕ) (words : List ℕ) → b < blocks s → IsSymbol s words → Bytes (block_of s b words)
-block_bytes s b words l symbol =
-    bytes_from_all (block_of s b words)
-    (λ i h.
-    let r : i < block_length s = omega (arith, length-block_of s b words) in
-    let P : ℕ → Type 0 = λ t. t < 256 in
-    subst P (sym (get_or-block_of s b words i r))
-    (symbol.bytes (position s b i) 0 (let q = position-lt s b i l r in let e = symbol.count in omega arith)))
+block_bytes s b words l symbol = grind (arith, bytes_from_all, get_or-block_of, length-block_of, position-lt)
 
 -- a data word of a block is one of the message
 data_at : (s : Size) (b : ℕ) (message words : List ℕ) (i : ℕ) → b < blocks s → i < block_data s →

@@ -8,6 +8,4 @@ unfolding value
 loop-c-init c = refl
 
 pub loop-c-preserved : goal.loop-c-preserved
-loop-c-preserved c =
-    rw c.mul.ensures (value-more c.args.poly.now (record { 0 = 0 }) c.loop-c.c-index c.args.x.0 c.loop-c.sum.0
-    c.loop-c-test.true (omega arith) c.loop-c.invariant)
+loop-c-preserved c = grind (arith, value-more)
