@@ -21,10 +21,11 @@ use thiserror::Error;
 #[error("no block word is near enough to the block")]
 pub struct Uncorrectable;
 
-// The number of places where two words of one length differ.
-fn differing(left: &[u8], right: &[u8]) -> usize
+/// The number of places where two words of one length differ.
+pub(crate) fn differing(left: &[u8], right: &[u8]) -> usize
     requires { length left.now ≡ length right.now }
     ensures places { result ≡ differ left.now right.now }
+    ensures few { result ≤ length left.now }
     ensures bytes { All (λ x. x < 256) right.now }
 {
     let mut places = 0;

@@ -1,12 +1,12 @@
 //! Correction of a whole symbol, block by block.
 
-ghost use Rattle.std.specs.Prelude.{◌≡◌, ◌≢◌, ◌<◌, ◌+◌, ℕ, List, length, take, IfOk, IfErr, OnOk, OnErr};
+ghost use Rattle.std.specs.Prelude.{◌≡◌, ◌≢◌, ◌<◌, ℕ, List, length, take, IfOk, IfErr, OnOk, OnErr};
 ghost use Rattle.dm_gf256.specs.Field.{differ, IsBlockWord};
 ghost use Rattle.dm_size.specs.Sizes.{all_words, blocks, block_checks, block_data, block_length};
 ghost use Rattle.dm_check_blocks.specs.Blocks.{block_of, IsSymbol};
 ghost use Rattle.dm_corrector.specs.Symbols.{Corrects, CorrectsSymbol, IsFirstFaulty};
 
-use crate::block::{Uncorrectable, correct_completed};
+use crate::block::{Uncorrectable, correct_completed, differing};
 use crate::massey::Massey;
 use crate::syndromes::MOST_WORDS;
 use dm_check_blocks::complete_blocks;
@@ -57,11 +57,6 @@ fn scatter(size: Size, number: usize, words: &mut [u8], block: &[u8])
     ensures own { block.now ≡ block_of size number words.new }
     ensures others { (b : ℕ) → b < blocks size → b ≢ number
         → block_of size b words.new ≡ block_of size b words.old }
-
-    // Counting: if this block still equals that of `before`, to copy it back adds just its own differences.
-    ensures changed { (before : List ℕ) → length before ≡ length words.old
-        → block_of size number before ≡ block_of size number words.old
-        → differ before words.new ≡ differ before words.old + differ (block_of size number words.old) block.now }
 {
     let blocks = size.blocks();
     for k in 0..block.len() {
@@ -76,7 +71,7 @@ fn correct_block(
     words: &mut [u8],
     completed: &[u8],
     number: usize,
-) -> Result<u8, Uncorrectable>
+) -> Result<(), Uncorrectable>
     requires count { length words.old ≡ all_words size }
     requires completed_count { length completed.now ≡ all_words size }
     requires block { number < blocks size }
@@ -89,12 +84,6 @@ fn correct_block(
         ((w : List ℕ) → Corrects (block_checks size) (block_of size number words.old) w → ⊥) }
     ensures others { (b : ℕ) → b < blocks size → b ≢ number
         → block_of size b words.new ≡ block_of size b words.old }
-
-    // Counting: if this block still equals that of `before`, to correct it adds exactly k to the number of words that
-    // differ from `before`.
-    ensures changed { IfOk result (λ k. (before : List ℕ) → length before ≡ length words.old
-        → block_of size number before ≡ block_of size number words.old
-        → differ before words.new ≡ differ before words.old + k) }
 {
     let mut copy = [0; MOST_WORDS];
     let block = &mut copy[..size.block_length()];
@@ -102,9 +91,9 @@ fn correct_block(
     let mut room = [0; MOST_WORDS];
     let word = &mut room[..size.block_length()];
     gather(size, number, completed, word);
-    let changed = correct_completed(&Massey, block, word, size.block_checks())?;
+    correct_completed(&Massey, block, word, size.block_checks())?;
     scatter(size, number, words, block);
-    Ok(changed)
+    Ok(())
 }
 
 /// Corrects all blocks of a symbol, up to `Size::limit` wrong words in each. Ok gives the number of words that changed
@@ -132,13 +121,12 @@ pub fn correct_symbol(size: Size, words: &mut [u8]) -> Result<u16, BlockFault>
     let completed = &mut room[..words.len()];
     completed.copy_from_slice(words);
     complete_blocks(size, &words[..size.data_words()], completed);
-    let mut changed = 0;
     for block in 0..blocks {
-        match correct_block(size, corrected, completed, block) {
-            Ok(words_changed) => changed += words_changed as u16,
-            Err(Uncorrectable) => return Err(BlockFault { block }),
+        if let Err(Uncorrectable) = correct_block(size, corrected, completed, block) {
+            return Err(BlockFault { block });
         }
     }
+    let changed = differing(words, corrected);
     words.copy_from_slice(corrected);
-    Ok(changed)
+    Ok(changed as u16)
 }

@@ -1,4 +1,4 @@
-use Rattle.std.proofs.Common.{refl, sym, ap, ◌∙◌, ◌≡◌, ◌<◌, ◌≤◌, ◌+◌, ◌*◌, ◌/◌, arith, length, ℕ, List}
+use Rattle.std.proofs.Common.{refl, sym, ap, ◌∙◌, ◌≡◌, ◌<◌, ◌≤◌, ◌*◌, ◌/◌, arith, length, ℕ, List}
 use Rattle.std.proofs.lemmas.List.{length-map}
 use Rattle.std.proofs.lemmas.Bool.{false≢true}
 use Rattle.dm_gf256.specs.declared.element.Gf.{Gf}
@@ -25,10 +25,7 @@ roots_of-roots-requires-clause-locator g c =
     )
 
 few_roots : (t n : ℕ) (s : List ℕ) (p : List Gf) → n < length p → IsLocator t s (numbers p) → n ≤ t
-few_roots t n s p h i =
-    let e : length (numbers p) ≡ length p = length-map p (λ g. g.0) in
-    let d : length (numbers p) ≤ t + 1 = i.degree in
-    omega arith
+few_roots t n s p h i = grind (arith, length-map)
 
 -- there are at most as many roots as wrong words may be put right
 pub take_out-requires-clause-given : goal.take_out-requires-clause-given

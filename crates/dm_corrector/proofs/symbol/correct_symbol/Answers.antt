@@ -1,12 +1,8 @@
-use Rattle.std.proofs.Common.{◌≡◌, ◌<◌, ◌≤◌, ◌+◌, ℕ, List, sym, ap, ◌∙◌, subst, arith, length, get_or, take}
-use Rattle.dm_gf256.specs.Field.{differ}
-use Rattle.dm_gf256.proofs.OneBlockWord.{differ-self}
-use Rattle.dm_size.specs.Sizes.{all_words, blocks, block_data, block_checks, block_length}
+use Rattle.std.proofs.Common.{◌≡◌, ◌<◌, ◌≤◌, ℕ, List, sym, ◌∙◌, subst, arith, length}
+use Rattle.dm_size.specs.Sizes.{blocks, block_checks, block_length}
 use Rattle.dm_check_blocks.specs.Blocks.{block_of}
 use Rattle.dm_corrector.specs.Symbols.{Corrects}
 use Rattle.dm_corrector.proofs.Corrected.{one_correction}
-use Rattle.dm_corrector.proofs.Differences.{differ_le}
-use Rattle.dm_corrector.proofs.WordsByPlace.{all_bytes}
 use Rattle.dm_check_blocks.proofs.Interleaving.{length-block_of, same_from_blocks}
 use Rattle.dm_corrector.proofs.SymbolBlocks.{same_data}
 use Rattle.dm_corrector.proofs.symbol.correct_symbol.Goals as goal
@@ -39,49 +35,10 @@ returns-clause-only c = λ w r.
     ∙ sym c.copy_from_slice-3.ensures.after
 
 pub loop-block-init : goal.loop-block-init
-loop-block-init c = record {
-  count = ap length c.copy_from_slice.ensures.after ∙ c.requires;
-  done = λ b l. absurd (omega arith);
-  rest = λ b h l. ap (block_of c.args.size b) c.copy_from_slice.ensures.after;
-  changed = sym (ap (differ c.args.words.now) c.copy_from_slice.ensures.after ∙ differ-self c.args.words.now);
-}
-
-pub overflow_add-changed : goal.overflow_add-changed
-overflow_add-changed c =
-    let s = c.args.size in
-    let k = c.loop-block.block in
-    let inside : k < blocks s = (let e : c.blocks-blocks.result ≡ blocks s = c.blocks-blocks.ensures.value in
-    let l : k < c.blocks-blocks.result = c.loop-block-test.true in omega arith) in
-    let same : length c.args.words.now ≡ length c.loop-block.corrected = c.requires ∙
-    sym c.loop-block.invariant.count in
-    let sum : differ c.args.words.now c.correct_block.new.words ≡ differ c.args.words.now
-    c.loop-block.corrected + c.in-Ok.words_changed =
-    c.in-Ok.ensures.changed c.args.words.now same (sym (c.loop-block.invariant.rest k (omega arith) inside)) in
-    let so_far : c.loop-block.changed ≡ differ c.args.words.now c.loop-block.corrected =
-    c.loop-block.invariant.changed in
-    let most : length c.args.words.now ≤ 1800 = (let e : length c.args.words.now ≡ all_words s = c.requires in
-    let h : all_words s ≤ 1800 = c.blocks-blocks.ensures.sound.most_words in omega arith) in
-    let few : c.loop-block.changed + c.in-Ok.words_changed ≤ 1800 =
-    omega (arith, differ_le c.args.words.now c.correct_block.new.words) in
-    omega arith
+loop-block-init c = grind arith
 
 pub returns-clause-block_words : goal.returns-clause-block_words
-returns-clause-block_words c =
-    let s = c.args.size in
-    let e : c.blocks-blocks.result ≡ blocks s = c.blocks-blocks.ensures.value in
-    rw c.copy_from_slice-3.ensures.after (record {
-      count = c.loop-block.invariant.count;
-      bytes = all_bytes c.copy_from_slice-3.new.self c.loop-block.corrected c.copy_from_slice-3.ensures.after
-          (λ k. (c.type_inv.words k).fits);
-      block_words = λ b l. (c.loop-block.invariant.done b (omega arith)).block_word;
-    })
+returns-clause-block_words c = grind arith
 
 pub correct_block-requires-clause-data : goal.correct_block-requires-clause-data
-correct_block-requires-clause-data c =
-    let s = c.args.size in
-    let k = c.loop-block.block in
-    let inside : k < blocks s = (let e : c.blocks-blocks.result ≡ blocks s = c.blocks-blocks.ensures.value in
-    let l : k < c.blocks-blocks.result = c.loop-block-test.true in omega arith) in
-    same_data s k c.complete_blocks.new.words c.args.words.now inside
-    (λ p l. c.complete_blocks.ensures.message p l ∙ ap (λ v. get_or v p 0) c.copy_from_slice-2.ensures.after)
-    ∙ sym (ap (take (block_data s)) (c.loop-block.invariant.rest k (omega arith) inside))
+correct_block-requires-clause-data c = grind (arith, same_data)

@@ -3,12 +3,7 @@ use Rattle.dm_corrector.proofs.SymbolBlocks.{in_symbol, is_block}
 use Rattle.dm_corrector.proofs.symbol.gather.Goals as goal
 
 pub bounds-words-k : goal.bounds-words-k
-bounds-words-k c = omega (
-  arith,
-  in_symbol c.args.size c.args.number c.blocks-blocks.result c.loop-k.k
-      c.blocks-blocks.ensures.value c.requires.number (omega arith),
-  c.requires.count,
-)
+bounds-words-k c = grind (arith, in_symbol)
 
 pub returns : goal.returns
 returns c = is_block c.args.size c.args.number c.blocks-blocks.result c.args.words.now c.loop-k.block
