@@ -7,7 +7,6 @@ pub mod Tiled
 pub mod CellLists
 pub mod Places
 pub mod ShapesSound
-pub mod InsideWords
 pub mod WalkedWords
 pub mod EachOnce
 pub mod PlacedBits

@@ -1,12 +1,12 @@
 //! The cells of all bits of a size, kept for several symbols.
 
-ghost use Rattle.std.specs.Prelude.{◌≡◌, ◌<◌, ◌≤◌, IfOk, OnOk, false, map};
+ghost use Rattle.std.specs.Prelude.{◌≡◌, ◌<◌, IfOk, OnOk, false, map};
 ghost use Rattle.dm_size.specs.declared.size.Size.{Size};
 ghost use Rattle.dm_size.specs.Sizes.{mapping};
 ghost use Rattle.dm_placement.specs.Placement.{bit_cells, cell, IsBit, place_of};
 ghost use Rattle.dm_placement.specs.inner.Places.{HasWalked, is_over, steps_left};
 
-use crate::shape::{places_inside, places_of};
+use crate::shape::places_of;
 use crate::walk::Walk;
 use dm_size::Size;
 use std::alloc::{AllocError, Allocator, Global};
@@ -48,26 +48,6 @@ fn add_step<A: Allocator>(
     }
 }
 
-// Adds the places of the words that come next and stand inside of the matrix.
-#[inline(always)]
-fn add_inside<A: Allocator>(
-    size: Size,
-    places: &mut Vec<u16, A>,
-    walk: &mut Walk,
-) -> Result<(), AllocError>
-    requires walked { HasWalked size walk.old places.old.items }
-    ensures walked { OnOk result (HasWalked size walk.new places.new.items) }
-    ensures nearer { OnOk result (steps_left walk.new ≤ steps_left walk.old) }
-{
-    let side = size.mapping();
-    let mut left = walk.inside();
-    while left > 0 {
-        places.extend_from_slice(&places_inside(side, walk.pass()))?;
-        left -= 1;
-    }
-    Ok(())
-}
-
 impl<A: Allocator> Layout<A> {
     /// The layout of a size.
     ///
@@ -80,7 +60,6 @@ impl<A: Allocator> Layout<A> {
         let mut walk = Walk::of_size(size);
         while !walk.is_over() {
             add_step(size, &mut places, &mut walk)?;
-            add_inside(size, &mut places, &mut walk)?;
         }
         Ok(Layout { size, places })
     }

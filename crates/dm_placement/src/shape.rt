@@ -75,10 +75,10 @@ fn place_from_anchor(side: u16, anchor: Cell, up: u16, left: u16) -> u16
     place_at(side, cell.row, cell.column)
 }
 
-/// Where the bits of a word of the plain shape stand whose anchor is two rows and two columns or more inside of the
-/// matrix, so that none of them wraps.
+// Where the bits of a word of the plain shape stand whose anchor is two rows and two columns or more inside of the
+// matrix, so that none of them wraps.
 #[inline(always)]
-pub(crate) fn places_inside(side: u16, anchor: Cell) -> [u16; 8]
+fn places_inside(side: u16, anchor: Cell) -> [u16; 8]
     requires side { IsSideSound side }
     requires rows { (2 ≤ anchor.row) × (anchor.row < side) }
     requires columns { (2 ≤ anchor.column) × (anchor.column < side) }
@@ -105,6 +105,7 @@ pub(crate) fn places_of(side: u16, shape: Shape) -> [u16; 8]
     ensures { result ≡ map (place_of side) (shape_cells side shape) }
 {
     match shape {
+        Shape::Plain(p) if p.row >= 2 && p.column >= 2 => places_inside(side, p),
         Shape::Plain(p) => [
             place_from_anchor(side, p, 2, 2),
             place_from_anchor(side, p, 2, 1),

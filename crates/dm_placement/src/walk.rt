@@ -2,11 +2,11 @@
 //! cells: the only cells that are taken before it comes to them are the two that are left out for the second corner
 //! shape.
 
-ghost use Rattle.std.specs.Prelude.{◌≡◌, ◌<◌, ◌≤◌, ◌+◌, ℕ, false, Some};
+ghost use Rattle.std.specs.Prelude.{◌≡◌, false};
 ghost use Rattle.std.specs.Option.{option_to_list};
 ghost use Rattle.dm_size.specs.Sizes.{mapping};
 ghost use Rattle.dm_placement.specs.Placement.{is_left_out, shapes};
-ghost use Rattle.dm_placement.specs.inner.Places.{IsSideSound, IsAhead, IsInside, IsNearby, Steps, corner_at, is_over, word_at};
+ghost use Rattle.dm_placement.specs.inner.Places.{IsSideSound, IsAhead, IsNearby, Steps, corner_at, is_over, word_at};
 
 use crate::shape::{Cell, Shape};
 use dm_size::Size;
@@ -104,53 +104,6 @@ impl Walk {
             Sweep::Start => self.row >= self.side + MARGIN && self.column >= self.side + MARGIN,
             Sweep::Up | Sweep::Down => false,
         }
-    }
-
-    /// How many words come next that stand two rows and two columns or more inside of the matrix, so that none of them
-    /// wraps.
-    #[inline(always)]
-    pub(crate) fn inside(&self) -> usize
-        requires { IsNearby self.now }
-        ensures { IsInside self.now result }
-    {
-        let least = 2 + MARGIN;
-        let end = self.side + MARGIN;
-        if self.row < least || self.column < least || self.row >= end || self.column >= end {
-            return 0;
-        }
-        match self.sweep {
-            Sweep::Start => 0,
-            Sweep::Up => (self.row / 2 - 1).min((end + 1 - self.column) / 2),
-            Sweep::Down => (self.column / 2 - 1).min((end + 1 - self.row) / 2),
-        }
-    }
-
-    /// Goes past a word that stands inside, and gives its anchor.
-    #[inline(always)]
-    pub(crate) fn pass(&mut self) -> Cell
-        requires nearby { IsNearby self.old }
-        requires inside { IsInside self.old 1 }
-        ensures rows { (2 ≤ result.row) × (result.row < self.old.side) }
-        ensures columns { (2 ≤ result.column) × (result.column < self.old.side) }
-        ensures steps { Steps self.old self.new (Some (Shape.Plain result)) }
-        ensures inside { (count : ℕ) → IsInside self.old (count + 1) → IsInside self.new count }
-    {
-        let anchor = Cell {
-            row: (self.row - MARGIN) as u16,
-            column: (self.column - MARGIN) as u16,
-        };
-        match self.sweep {
-            Sweep::Up => {
-                self.row -= 2;
-                self.column += 2;
-            }
-            Sweep::Down => {
-                self.row += 2;
-                self.column -= 2;
-            }
-            Sweep::Start => unreachable!(),
-        }
-        anchor
     }
 
     /// Goes one step on, and gives the shape of the word that it places, if any.

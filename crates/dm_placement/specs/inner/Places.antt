@@ -99,15 +99,6 @@ pub record IsNearby (w : Walk) : Type 0 where
   pub small : w.side ≤ 120
   pub nearby : MayStand w.side w.sweep w.row w.column
 
--- the next words of a sweep, as many as this, stand two rows and two columns or more inside of the matrix
-abbrev pub StandInside : ℕ → Sweep → ℕ → ℕ → ℕ → Type 0
-StandInside n Start r c count = ⊥
-StandInside n Up r c count = (4 ≤ c) × (r < n + 2) × (2 * count + 2 ≤ r) × (c + 2 * count ≤ n + 3)
-StandInside n Down r c count = (4 ≤ r) × (c < n + 2) × (2 * count + 2 ≤ c) × (r + 2 * count ≤ n + 3)
-
-abbrev pub IsInside : Walk → ℕ → Type 0
-IsInside w count = 0 < count → StandInside w.side w.sweep w.row w.column count
-
 -- more than the steps that the walk has left
 abbrev pub left_in : Sweep → ℕ → ℕ → ℕ
 left_in Start r c = 399
