@@ -1,31 +1,24 @@
 -- Rows and columns of a grid and of its mapping matrix.
 use Rattle.std.specs.Prelude.{◌%◌}
-use Rattle.std.proofs.Common.{◌≡◌, ℕ, ◌+◌, ◌*◌, ◌<◌, ◌≤◌, refl, false, arith, lit≤}
+use Rattle.std.proofs.Common.{◌≡◌, ℕ, ◌+◌, ◌*◌, ◌<◌, ◌≤◌, false, arith}
 use Rattle.std.proofs.lemmas.Bool.Decides.{nat_tests}
 use Rattle.dm_size.specs.declared.size.Size.{Size}
 use Rattle.dm_size.specs.declared.size.Size.TheVariants.{Side10}
 use Rattle.dm_size.specs.Sizes.{row, side, region, across}
+use Rattle.dm_size.proofs.Sound.{sound}
 use Rattle.dm_finder_frame.specs.Frame.{is_on_frame, mapping_place, grid_place}
 
 pub fills_side : (s : Size) → across s * (region s + 2) ≡ side s
-unfolding row
-fills_side Side10 = refl
-fills_side _ = refl
+fills_side s = (sound s).fills_side
 
 pub some_region : (s : Size) → 8 ≤ region s
-unfolding row
-some_region Side10 = lit≤ tt
-some_region _ = lit≤ tt
+some_region s = (sound s).smallest_region
 
 pub most_across : (s : Size) → across s ≤ 6
-unfolding row
-most_across Side10 = lit≤ tt
-most_across _ = lit≤ tt
+most_across s = (sound s).most_across
 
 pub most_side : (s : Size) → side s ≤ 132
-unfolding row
-most_side Side10 = lit≤ tt
-most_side _ = lit≤ tt
+most_side s = (sound s).greatest_side
 
 -- framed regions have even sides, so the parity of a column in its region is its parity in the grid
 pub even_columns : (s : Size) (c : ℕ) → c % (region s + 2) % 2 ≡ c % 2

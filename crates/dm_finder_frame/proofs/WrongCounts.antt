@@ -75,9 +75,7 @@ on_last_column h p = grind (arith, nat_tests)
 
 -- what a module of the first or the last row is to be
 pub ends_value : (h p c : ℕ) → (p ≡ 0) ⊎ (p ≡ h + 1) → frame_value h p c ≡ (eqb p (h + 1) || eqb (c % 2) 0)
-ends_value h p zero (inl first) = grind (arith, nat_tests, first)
-ends_value h p (suc c) (inl first) = grind (arith, nat_tests, first)
-ends_value h p c (inr last) = grind (arith, nat_tests, last)
+ends_value h p c x3 = grind arith
 
 -- what a module of the last column is to be, in a row inside of its region
 pub last_column_value : (h p : ℕ) → 1 ≤ p → p ≤ h → frame_value h p (h + 1) ≡ eqb (p % 2) 1

@@ -10,9 +10,4 @@ from_modules-requires g c = grind (arith, length-map-range_with_len)
 
 pub returns : goal.returns
 unfolding grid_modules
-returns g c =
-    let n = side c.args.size in
-    let grid : List Bool → GridView = λ modules. record { size = c.args.size; modules = modules } in
-    let end : c.loop-row.row * n ≡ n * n = ap (λ (x : ℕ). x * n) (omega (arith, c.side-side.ensures.value)) in
-    c.from_modules.ensures ∙ ap grid (c.loop-row.invariant
-    ∙ ap (first_modules n (grid_module c.args.size c.args.matrix.now)) end)
+returns g c = grind arith

@@ -16,10 +16,4 @@ from_modules-requires g c = grind (arith, all_rows, length-map-range_with_len)
 
 pub returns : goal.returns
 unfolding matrix_modules
-returns g c =
-    let n = mapping c.args.grid.now.size in
-    let end = all_rows c.size-size.result c.args.grid.now.size c.loop-row.row c.mapping-side.result
-    c.size-size.ensures.same c.mapping-side.ensures.value (omega arith) in
-    let square : ℕ → List Bool → Square = λ side modules. record { side = side; modules = modules } in
-    c.from_modules.ensures ∙ ap (λ (s : Size). square (mapping s) c.loop-row.modules.items) c.size-size.ensures.same
-    ∙ ap (square n) (c.loop-row.invariant ∙ ap (first_modules n (matrix_module c.args.grid.now)) end)
+returns g c = grind (arith, all_rows)
