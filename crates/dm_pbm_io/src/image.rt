@@ -9,7 +9,6 @@ ghost use Rattle.dm_pbm_io.specs.inner.Streaming.{FindsEnd, Takes, TakesUntil};
 use crate::fault::PbmFault;
 use crate::header::read_size;
 use crate::limits::GREATEST_SIDE;
-use crate::packed::RowSource;
 use crate::raster::{push_light, read_packed, read_plain};
 use crate::source::{ByteSource, InMemory, read_byte};
 use relay_streams::Input;
@@ -61,7 +60,7 @@ fn read_magic<M, S: ByteSource<M>>(source: &mut S) -> Result<Option<bool>, PbmFa
 }
 
 // The pixels of an image, for which there is room.
-fn read_raster<M, S: RowSource<M>, A: Allocator>(
+fn read_raster<M, S: ByteSource<M>, A: Allocator>(
     source: &mut S,
     pixels: &mut Vec<bool, A>,
     plain: bool,
@@ -88,7 +87,7 @@ fn read_raster<M, S: RowSource<M>, A: Allocator>(
 }
 
 // The image after its magic number.
-fn read_after_magic<M, S: RowSource<M>, A: Allocator + Copy>(
+fn read_after_magic<M, S: ByteSource<M>, A: Allocator + Copy>(
     alloc: A,
     source: &mut S,
     plain: bool,
@@ -117,7 +116,7 @@ fn read_after_magic<M, S: RowSource<M>, A: Allocator + Copy>(
 }
 
 // The next image of a source, or `None` at its end. No byte after the image is taken.
-fn read_from<M, S: RowSource<M>, A: Allocator + Copy>(
+fn read_from<M, S: ByteSource<M>, A: Allocator + Copy>(
     alloc: A,
     source: &mut S,
 ) -> Result<Option<Image<A>>, PbmFault>

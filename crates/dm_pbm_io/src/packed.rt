@@ -1,5 +1,4 @@
-//! The rows of packed rasters, from a source to pixels. A reader's row goes through a buffer; that of bytes in memory
-//! is drawn from where it stands.
+//! The rows of packed rasters, from a source to pixels.
 
 ghost use Rattle.std.specs.Prelude.{◌≡◌, ℕ, ◌<◌, ◌≤◌, List, length, MatchResult};
 ghost use Rattle.dm_pbm_io.specs.Header.{stride, row_of, HasNoByte};
@@ -7,10 +6,8 @@ ghost use Rattle.dm_pbm_io.specs.inner.Streaming.{Takes, TakesUntil};
 
 use crate::fault::PbmFault;
 use crate::limits::GREATEST_SIDE;
-use crate::source::{Bare, ByteSource, InMemory, Remembering, next_row};
+use crate::source::{ByteSource, next_row};
 use dm_placement::bits_of;
-use relay_streams::Input;
-use std::io::Read;
 
 // The most bytes of a row of a packed raster.
 const ROW_BYTES: usize = 128;
@@ -31,8 +28,11 @@ fn draw_row(pixels: &mut [bool], row: &[u8])
     }
 }
 
-// Draws the next row of a packed raster, by way of a buffer.
-fn draw_from<M, S: ByteSource<M>>(source: &mut S, pixels: &mut [bool]) -> Result<(), PbmFault>
+/// Draws the next row of a packed raster over other pixels. The image needs all of its bytes.
+pub(crate) fn draw_next<M, S: ByteSource<M>>(
+    source: &mut S,
+    pixels: &mut [bool],
+) -> Result<(), PbmFault>
     requires { length pixels.old ≤ GREATEST_SIDE }
     ensures { MatchResult result
         (λ _. (row : List ℕ) × Takes (S.view source.old) (S.view source.new) row
@@ -45,43 +45,4 @@ fn draw_from<M, S: ByteSource<M>>(source: &mut S, pixels: &mut [bool]) -> Result
     next_row(source, row)?;
     draw_row(pixels, row);
     Ok(())
-}
-
-/// A source of the rows of packed rasters.
-pub(crate) trait RowSource<M>: ByteSource<M> {
-    /// Draws the next row over other pixels. The image needs all of its bytes.
-    fn draw_next(&mut self, pixels: &mut [bool]) -> Result<(), PbmFault>
-        requires { length pixels.old ≤ GREATEST_SIDE }
-        ensures { MatchResult result
-            (λ _. (row : List ℕ) × Takes (Self.view self.old) (Self.view self.new) row
-            × (length row ≡ stride (length pixels.old)) × (pixels.new ≡ row_of (length pixels.old) row))
-            (λ fault. (part : List ℕ) × TakesUntil (Self.view self.old) (Self.view self.new) part fault
-            × (length part < stride (length pixels.old))
-            × HasNoByte (Self.view self.new).remaining fault) };
-}
-
-impl<R: Read> RowSource<Remembering> for Input<R> {
-    fn draw_next(&mut self, pixels: &mut [bool]) -> Result<(), PbmFault> {
-        draw_from(self, pixels)
-    }
-}
-
-impl<R: Read> RowSource<Bare> for R {
-    fn draw_next(&mut self, pixels: &mut [bool]) -> Result<(), PbmFault> {
-        draw_from(self, pixels)
-    }
-}
-
-impl RowSource<InMemory> for &[u8] {
-    fn draw_next(&mut self, pixels: &mut [bool]) -> Result<(), PbmFault> {
-        let bytes: &[u8] = *self;
-        let count = pixels.len().div_ceil(8);
-        if bytes.len() < count {
-            *self = &bytes[bytes.len()..];
-            return Err(PbmFault::Cut);
-        }
-        draw_row(pixels, &bytes[..count]);
-        *self = &bytes[count..];
-        Ok(())
-    }
 }

@@ -7,7 +7,7 @@ ghost use Rattle.dm_pbm_io.specs.inner.Streaming.{Takes, TakesUntil};
 use crate::fault::PbmFault;
 use crate::header::{is_hidden, is_white};
 use crate::limits::{GREATEST_SIDE, PLAIN_BYTES};
-use crate::packed::RowSource;
+use crate::packed::draw_next;
 use crate::source::{ByteSource, next_byte};
 use std::alloc::Allocator;
 
@@ -84,7 +84,7 @@ pub(crate) fn push_light<A: Allocator>(pixels: &mut Vec<bool, A>, count: usize)
 }
 
 /// The packed raster of `height` rows, drawn over other pixels.
-pub(crate) fn read_packed<M, S: RowSource<M>>(
+pub(crate) fn read_packed<M, S: ByteSource<M>>(
     source: &mut S,
     pixels: &mut [bool],
     width: usize,
@@ -100,7 +100,7 @@ pub(crate) fn read_packed<M, S: RowSource<M>>(
         × StopsInPacked raster width height (S.view source.new).remaining fault) }
 {
     for row in 0..height {
-        source.draw_next(&mut pixels[row * width..row * width + width])?;
+        draw_next(source, &mut pixels[row * width..row * width + width])?;
     }
     Ok(())
 }

@@ -1,5 +1,5 @@
 use Rattle.std.proofs.lemmas.Grind.{common_steps}
-use Rattle.std.proofs.Common.{◌≡◌, ◌<◌, ℕ, ◌+◌, ◌-◌, ◌*◌, ◌/◌, ◌%◌, ◌++◌, ◌∷◌, [], List, Bool, min, length, take, drop, get_or, flat_map, ap, sym, ◌∙◌, append-nil, rules, arith, take_all, length-drop, drop_of_length-le}
+use Rattle.std.proofs.Common.{◌≡◌, ◌<◌, ℕ, ◌+◌, ◌-◌, ◌*◌, ◌++◌, ◌∷◌, [], List, Bool, min, length, take, drop, get_or, flat_map, ap, sym, ◌∙◌, append-nil, arith, take_all, length-drop, drop_of_length-le}
 use Rattle.std.proofs.lemmas.List.{take_more, length-take-le}
 use borrow.Rule.Slice.PartMut.{put_mid, post_of}
 use Rattle.dm_pbm_io.specs.Header.{bits, row_of}
