@@ -11,4 +11,3 @@ pub mod QuietZone
 pub mod Insides
 pub mod Shapes
 pub mod TakenBack
-pub mod Eight

@@ -1,8 +1,8 @@
 -- No image's spelling begins another's.
-use Rattle.std.proofs.Common.{◌≡◌, ℕ, suc, ◌+◌, ◌*◌, ◌<◌, ◌≤◌, min, Bool, true, false, cond, ◌⊎◌, inl, inr, Some, List, [], ◌∷◌, ◌++◌, length, map, refl, sym, ap, ◌∙◌, arith, append_assoc, append-nil, length-append}
-use Rattle.std.specs.List.{flat_map, concat, filter, AllByRecursion}
+use Rattle.std.proofs.Common.{◌≡◌, ℕ, suc, ◌+◌, ◌<◌, ◌≤◌, min, Bool, true, false, cond, ◌⊎◌, inl, inr, Some, List, [], ◌∷◌, ◌++◌, length, map, refl, sym, ap, ◌∙◌, arith, append_assoc, append-nil, length-append}
+use Rattle.std.specs.List.{concat, filter, AllByRecursion}
 use Rattle.std.proofs.lemmas.List.Elements.{filter-append}
-use Rattle.dm_pbm_io.specs.Header.{is_hidden, in_comment, signs_from, signs, magic, IsHeaderBody, stride, row_of, IsPackedRaster, digit_of, is_pixel_digit, IsPlainRaster}
+use Rattle.dm_pbm_io.specs.Header.{is_hidden, in_comment, signs_from, signs, magic, IsHeaderBody, stride, IsPackedRaster, digit_of, is_pixel_digit, IsPlainRaster}
 use Rattle.dm_pbm_io.specs.Image.{Picture, IsRaster, SpellsAfterMagic}
 use Rattle.dm_pbm_io.specs.Laws.{HasOneImage}
 use Rattle.dm_pbm_io.specs.inner.Streaming.{walk}

@@ -1,13 +1,12 @@
 -- The image of a grid, drawn row by row into light pixels.
 use Rattle.std.specs.Prelude.{nat_lt, if◌then◌else◌}
 use Rattle.std.specs.List.{between}
-use Rattle.std.proofs.Common.{◌≡◌, ℕ, ◌+◌, ◌-◌, ◌*◌, ◌/◌, ◌%◌, ◌<◌, ◌≤◌, Bool, false, List, ◌++◌, length, take, drop, get_or, replicate, sym, ap, ◌∙◌, arith, ⊎_elim}
+use Rattle.std.proofs.Common.{◌≡◌, ℕ, ◌+◌, ◌-◌, ◌*◌, ◌/◌, ◌%◌, ◌<◌, ◌≤◌, Bool, false, List, ◌++◌, length, take, drop, get_or, ap, ◌∙◌, arith, ⊎_elim}
 use Rattle.std.proofs.Math.Nat.{mul-le-mul_right, mod-lt, mod-add-div, div-lt_iff_lt-mul}
 use Rattle.std.proofs.lemmas.List.FromFn.{fill_by_all}
-use Rattle.std.proofs.lemmas.Nat.{mul-add-lt}
 use Rattle.std.proofs.lemmas.Bool.{cases_lt}
 use Rattle.std.proofs.lemmas.Bool.Decides.{nat_tests}
-use Rattle.std.proofs.lemmas.List.{length-append, length-drop, length-take-le, length-replicate, get_or-replicate, get_or_append_left, get_or-append_right, get_or-take, get_or-drop}
+use Rattle.std.proofs.lemmas.List.{length-append, length-drop, length-take-le, get_or_append_left, get_or-append_right, get_or-take, get_or-drop}
 use Rattle.std.proofs.lemmas.List.Edits.{length-between, get_or-between}
 use Rattle.dm_size.specs.Squares.{Square, IsWhole, module_at}
 use Rattle.dm_pbm_io.specs.inner.Streaming.{IsDrawnTo}
@@ -45,13 +44,7 @@ reached r n b h = grind (arith, nat_tests)
 not_reached : (r n : ℕ) (b : Bool) → n ≤ r → (if nat_lt r n then b else false) ≡ false
 not_reached r n b h = grind (arith, nat_tests)
 
--- the quiet zone, and the module of a pixel inside it
-top : (g : Square) (r c : ℕ) → r < 1 → pixel_with_quiet_zone g r c ≡ false
-top g r c h = grind (arith, nat_tests)
-
-bottom : (g : Square) (r c : ℕ) → g.side + 1 ≤ r → pixel_with_quiet_zone g r c ≡ false
-bottom g r c h = grind (arith, nat_tests)
-
+-- the quiet zone left and right
 left : (g : Square) (r c : ℕ) → c < 1 → pixel_with_quiet_zone g r c ≡ false
 left g r c h = grind (arith, nat_tests)
 

@@ -1,7 +1,7 @@
 -- What a source has given, step by step, and what it remembers.
-use Rattle.std.proofs.Common.{arith, ◌≡◌, ℕ, List, [], ◌++◌, Ok, Err, Option, Result, refl, sym, ◌∙◌, subst, append-nil}
+use Rattle.std.proofs.Common.{arith, ◌≡◌, ℕ, List, [], ◌++◌, Option, Result, refl, ◌∙◌}
 use Rattle.std.specs.Prelude.{◌≢◌, OnOk}
-use Rattle.std.proofs.KnownBytes.{Appends-trans, Appends-nil, Consumes-trans, Consumes-kept, Consumes-nil}
+use Rattle.std.proofs.KnownBytes.{Appends-trans, Appends-nil, Consumes-trans, Consumes-nil}
 use Rattle.relay_streams.proofs.Parts.{part_more, part_after}
 use Rattle.relay_streams.specs.Streams.{AppendsPart, InputView, OutputView}
 use Rattle.dm_pbm_io.specs.inner.Streaming.{Takes, FindsEnd, Remembers, TakesUntil, Adds}

@@ -1,7 +1,7 @@
 //! The writing of images. A writer gets the header in one piece, a packed row in one piece of up to 1,024 pixels, and a
 //! plain row line by line. The pieces are made on the stack.
 
-ghost use Rattle.std.specs.Prelude.{◌≡◌, ◌<◌, ◌≤◌, ◌*◌, true, [], ◌∷◌, ◌++◌, false, length, map, slice_index_or, OnOk, OnErr};
+ghost use Rattle.std.specs.Prelude.{◌≡◌, ◌≤◌, ◌*◌, true, [], ◌∷◌, ◌++◌, false, length, map, slice_index_or, OnOk, OnErr};
 ghost use Rattle.std.specs.Io.KnownBytes.{Appends};
 ghost use Rattle.std.specs.Fmt.{decimal};
 ghost use Rattle.dm_pbm_io.specs.Header.{magic, stride, digit_of};
@@ -50,29 +50,6 @@ fn is_black(row: &[bool], k: usize) -> bool
     k < row.len() && row[k]
 }
 
-// The factor that gathers eight bytes of 0 or 1 in the highest byte of the product. Its bits stand nine apart, so the
-// byte at k goes to bit 63 - k; no two bits of the product meet, so nothing is carried.
-const GATHER: u64 = 0x8040_2010_0804_0201;
-
-// The byte of the first eight pixels of a row that has at least eight.
-#[inline(always)]
-fn byte_of_eight(row: &[bool]) -> u8
-    requires { 8 ≤ length row.now }
-    ensures { result ≡ number_of_first 0 row.now 8 }
-{
-    let pixels = [
-        u8::from(row[0]),
-        u8::from(row[1]),
-        u8::from(row[2]),
-        u8::from(row[3]),
-        u8::from(row[4]),
-        u8::from(row[5]),
-        u8::from(row[6]),
-        u8::from(row[7]),
-    ];
-    (u64::from_le_bytes(pixels).wrapping_mul(GATHER) >> 56) as u8
-}
-
 // The byte of the first eight pixels of a row. Past its end they are light.
 fn byte_of(row: &[bool]) -> u8
     ensures { result ≡ number_of_first 0 row.now 8 }
@@ -89,12 +66,8 @@ fn pack(piece: &[bool], bytes: &mut [u8])
     requires { length bytes.old ≡ stride (length piece.now) }
     ensures { bytes.new ≡ packed (stride (length piece.now)) piece.now }
 {
-    let whole = piece.len() / 8;
-    for at in 0..whole {
-        bytes[at] = byte_of_eight(&piece[8 * at..]);
-    }
-    if piece.len() % 8 != 0 {
-        bytes[whole] = byte_of(&piece[8 * whole..]);
+    for at in 0..bytes.len() {
+        bytes[at] = byte_of(&piece[8 * at..]);
     }
 }
 

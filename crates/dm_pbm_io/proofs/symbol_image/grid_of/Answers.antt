@@ -1,4 +1,4 @@
-use Rattle.std.proofs.Common.{arith, ap, ◌∙◌, length}
+use Rattle.std.proofs.Common.{arith}
 use Rattle.dm_pbm_io.specs.Image.{picture}
 use Rattle.dm_pbm_io.proofs.Insides.{length-inside}
 use Rattle.dm_pbm_io.proofs.Shapes.{wide_enough, as_many}

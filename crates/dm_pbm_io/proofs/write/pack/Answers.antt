@@ -1,4 +1,4 @@
-use Rattle.std.proofs.Common.{◌≡◌, ◌<◌, ℕ, ◌+◌, ◌-◌, ◌*◌, ◌++◌, ◌∷◌, [], List, Bool, length, drop, ap, sym, ◌∙◌, append_assoc, append-nil, drop-drop, take, take_all, set, length-set, ◌≤◌, ◌/◌, rules, arith}
+use Rattle.std.proofs.Common.{◌≡◌, ◌<◌, ℕ, ◌+◌, ◌-◌, ◌*◌, ◌++◌, ◌∷◌, [], List, Bool, length, drop, ap, ◌∙◌, append_assoc, append-nil, drop-drop, take_all, arith}
 use Rattle.std.proofs.lemmas.List.{take_rest, take_more_set}
 use Rattle.dm_pbm_io.specs.Header.{stride}
 use Rattle.dm_pbm_io.specs.Image.{number_of_first, packed}
@@ -21,30 +21,12 @@ byte_more n at byte row all old new here done is more =
       append_assoc,
     )
 
--- the last byte of a row of which the whole bytes are packed
-last_packed : (n whole byte : ℕ) (row : List Bool) (bytes : List ℕ) → length bytes ≡ n → n ≡ whole + 1
-    → packed n row ≡ take whole bytes ++ packed (n - whole) (drop (8 * whole) row)
-    → byte ≡ number_of_first 0 (drop (8 * whole) row) 8 → set bytes whole byte ≡ packed n row
-last_packed n whole byte row bytes room one done is =
-    grind (
-      arith,
-      length-set {A = ℕ},
-      take_more_set bytes whole byte (omega arith),
-      append-nil (take (whole + 1) (set
-          bytes whole byte)),
-      length-set,
-      byte_more,
-      take_more_set,
-      append-nil,
-      take_all,
-    )
-
 pub loop-at-preserved : goal.loop-at-preserved
 loop-at-preserved c =
     let piece = c.args.piece.now in
-    byte_more (stride (length piece)) c.loop-at.at c.byte_of_eight.result piece _ _ _ (omega arith) c.loop-at.invariant
-    (c.byte_of_eight.ensures ∙ ap (λ r. number_of_first 0 r 8) (take_rest piece (8 * c.loop-at.at)))
-    (take_more_set c.loop-at.bytes c.loop-at.at c.byte_of_eight.result (omega arith))
+    byte_more (stride (length piece)) c.loop-at.at c.byte_of.result piece _ _ _ (omega arith) c.loop-at.invariant
+    (c.byte_of.ensures ∙ ap (λ r. number_of_first 0 r 8) (take_rest piece (8 * c.loop-at.at)))
+    (take_more_set c.loop-at.bytes c.loop-at.at c.byte_of.result (omega arith))
 
-pub returns-then-piece-ne0 : goal.returns-then-piece-ne0
-returns-then-piece-ne0 c = grind (arith, last_packed, take_rest)
+pub returns : goal.returns
+returns c = grind (arith, take_all, append-nil)

@@ -1,4 +1,4 @@
-use Rattle.std.proofs.Common.{arith, ◌≡◌, ℕ, List, [], ◌∷◌, ◌++◌, ap, sym, ◌∙◌, subst, append_assoc}
+use Rattle.std.proofs.Common.{arith, ◌≡◌, ℕ, List, [], ◌∷◌, ◌++◌, sym, subst, append_assoc}
 use Rattle.std.specs.Fmt.{decimal}
 use Rattle.dm_pbm_io.specs.Header.{magic}
 use Rattle.dm_pbm_io.specs.Image.{Picture, picture, rows_text, written}
