@@ -7,22 +7,23 @@ use Rattle.std.proofs.lemmas.List.Folds.{concat-append, list_all-append}
 use Rattle.std.proofs.lemmas.List.Elements.{filter-append}
 use Rattle.std.proofs.Math.Seq.{take-append-add}
 use Rattle.std.proofs.lemmas.Bool.Decides.{nat_tests}
-use Rattle.dm_pbm_io.specs.Header.{is_white, bits, stride, row_of, IsPackedRaster, digit_of, is_pixel_digit, is_plain_sign, ShowsPixels}
+use Rattle.dm_placement.specs.Placement.{byte_bits}
+use Rattle.dm_pbm_io.specs.Header.{is_white, stride, row_of, IsPackedRaster, digit_of, is_pixel_digit, is_plain_sign, ShowsPixels}
 
-length-bits : (row : List ℕ) → length (flat_map bits row) ≡ 8 * length row
+length-bits : (row : List ℕ) → length (flat_map byte_bits row) ≡ 8 * length row
 length-bits [] = refl
 length-bits (b ∷ row) = let e = length-bits row in simp length-append (omega arith)
 
-bits_single : (b : ℕ) → flat_map bits (b ∷ []) ≡ bits b
-bits_single b = append-nil (bits b)
+bits_single : (b : ℕ) → flat_map byte_bits (b ∷ []) ≡ byte_bits b
+bits_single b = append-nil (byte_bits b)
 
 -- one more byte of a row
 pub row_more : (width at b : ℕ) (row : List ℕ) → length row ≡ at → 8 * at < width
-    → row_of width (row ++ b ∷ []) ≡ row_of width row ++ take (min (width - 8 * at) 8) (bits b)
+    → row_of width (row ++ b ∷ []) ≡ row_of width row ++ take (min (width - 8 * at) 8) (byte_bits b)
 row_more width at b row n room =
-    let long : length (flat_map bits row) ≡ 8 * at = length-bits row ∙ ap (λ k. 8 * k) n in
-    let whole : row_of width row ≡ flat_map bits row = take_all width (flat_map bits row) (omega arith) in
-    let parts : width ≡ length (flat_map bits row) + (width - 8 * at) = omega arith in
+    let long : length (flat_map byte_bits row) ≡ 8 * at = length-bits row ∙ ap (λ k. 8 * k) n in
+    let whole : row_of width row ≡ flat_map byte_bits row = take_all width (flat_map byte_bits row) (omega arith) in
+    let parts : width ≡ length (flat_map byte_bits row) + (width - 8 * at) = omega arith in
     grind (arith, flat_map-append, bits_single, take-append-add, take_min)
 
 pub length-row_of : (width : ℕ) (row : List ℕ) → length row ≡ stride width → length (row_of width row) ≡ width

@@ -2,14 +2,15 @@ use Rattle.std.proofs.lemmas.Grind.{common_steps}
 use Rattle.std.proofs.Common.{◌≡◌, ◌<◌, ℕ, ◌+◌, ◌-◌, ◌*◌, ◌++◌, ◌∷◌, [], List, Bool, min, length, take, drop, get_or, flat_map, ap, sym, ◌∙◌, append-nil, arith, take_all, length-drop, drop_of_length-le}
 use Rattle.std.proofs.lemmas.List.{take_more, length-take-le}
 use borrow.Rule.Slice.PartMut.{put_mid, post_of}
-use Rattle.dm_pbm_io.specs.Header.{bits, row_of}
+use Rattle.dm_placement.specs.Placement.{byte_bits}
+use Rattle.dm_pbm_io.specs.Header.{row_of}
 use Rattle.dm_pbm_io.proofs.Rows.{row_more}
 use Rattle.dm_pbm_io.proofs.packed.draw_row.Goals as goal
 
 -- the last pixels of a row, of which the whole bytes are drawn
 last_drawn : (whole rest width : ℕ) (row : List ℕ) (pixels last : List Bool) → length pixels ≡ width
     → 8 * whole + rest ≡ width → 0 < rest → rest < 8 → length row ≡ whole + 1
-    → take (8 * whole) pixels ≡ flat_map bits (take whole row) → last ≡ take rest (bits (get_or row whole 0))
+    → take (8 * whole) pixels ≡ flat_map byte_bits (take whole row) → last ≡ take rest (byte_bits (get_or row whole 0))
     → put_mid (8 * whole) (length pixels - 8 * whole) pixels last ≡ row_of width row
 last_drawn whole rest width row pixels last wide parts some few rows done is =
     let b = get_or row whole 0 in
