@@ -38,6 +38,7 @@ impl AsciiCounter {
     }
 
     // The counter after one more byte.
+    #[inline(always)]
     fn with(self, byte: u8) -> AsciiCounter
         requires { self.words < 2 ^ 100 }
         ensures { (bytes : List ℕ) → CountsAscii bytes self
@@ -81,6 +82,7 @@ impl RunCounter {
     }
 
     // The counter after one more byte.
+    #[inline(always)]
     fn with(self, letters: Letters, byte: u8) -> RunCounter
         requires { IsSmallRun self }
         ensures { (bytes : List ℕ) → CountsRun letters bytes self
@@ -102,6 +104,7 @@ impl RunCounter {
     }
 
     // The number of words that the bytes take.
+    #[inline(always)]
     fn words(self) -> u128
         requires { IsSmallRun self }
         ensures { result ≡ run_need self.run self.after.words }
@@ -153,6 +156,7 @@ impl Counter {
     }
 
     /// The counter after one more byte.
+    #[inline(always)]
     pub(crate) fn with(self, byte: u8) -> Counter
         requires { IsSmall self }
         ensures { (scheme : Scheme) (bytes : List ℕ) → Counts scheme bytes self
@@ -166,6 +170,7 @@ impl Counter {
     }
 
     /// The number of words that the bytes take.
+    #[inline(always)]
     pub(crate) fn words(self) -> u128
         requires { IsSmall self }
         ensures { (scheme : Scheme) (bytes : List ℕ)
