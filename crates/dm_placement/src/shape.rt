@@ -98,6 +98,7 @@ fn places_inside(side: u16, anchor: Cell) -> [u16; 8]
 }
 
 /// Where bits 1 to 8 of a word stand, row by row.
+#[inline(always)]
 #[tactic(auto, unfolding(crate::specs::Placement::shape_cells))]
 pub(crate) fn places_of(side: u16, shape: Shape) -> [u16; 8]
     requires side { IsSideSound side }
