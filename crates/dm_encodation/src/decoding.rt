@@ -24,10 +24,8 @@ fn push_output<A: Allocator>(out: &mut Vec<u8, A>, output: Decoded, is_whole: bo
     match output {
         Decoded::Nothing => true,
         Decoded::One(a) => out.push(a).is_ok(),
-        Decoded::Two(a, b) => out.push(a).is_ok() && out.push(b).is_ok(),
-        Decoded::Three(a, b, c) => out.push(a).is_ok()
-            && out.push(b).is_ok()
-            && out.push(c).is_ok(),
+        Decoded::Two(a, b) => out.extend_from_slice(&[a, b]).is_ok(),
+        Decoded::Three(a, b, c) => out.extend_from_slice(&[a, b, c]).is_ok(),
     }
 }
 
