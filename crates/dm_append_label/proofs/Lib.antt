@@ -1,4 +1,3 @@
 pub mod CutParts
 pub mod CutsSoFar
 pub mod Near
-pub mod Sealed

@@ -5,11 +5,10 @@ use Rattle.dm_size.specs.declared.size.Size.{Size}
 use Rattle.dm_check_blocks.specs.Blocks.{IsSymbol}
 use Rattle.dm_encodation.specs.Grammar.{ReadsOnly}
 use Rattle.dm_finder_frame.specs.Frame.{GridView}
-use Rattle.dm_symbol.specs.Correction.{CorrectedView, CorrectsGrid, CorrectsNear, IsCorrectedAs, IsNear, data_of, grid_of_words}
+use Rattle.dm_symbol.specs.Correction.{CorrectedView, CorrectsNear, IsCorrectedAs, IsNear, data_of, grid_of_words}
 use Rattle.dm_symbol.specs.declared.fault.SymbolFault.{SymbolFault}
-use Rattle.dm_symbol.specs.declared.fault.SymbolFault.TheVariants as symbol_faults
 use Rattle.dm_append_label.specs.Labels.{PageView, HeadView, IsHead, head_at, head_from, head_of, head_words, Carries}
-use Rattle.dm_append_label.specs.Opening.{symbol_fault, IsPageOf, LabelOpens, Opens, OpensNear, ReadsPage}
+use Rattle.dm_append_label.specs.Opening.{IsPageOf, LabelOpens, Opens, OpensNear, ReadsPage}
 use Rattle.dm_append_label.specs.declared.opening.TheConstants.{MOST_PAGE_BYTES}
 use Rattle.dm_append_label.specs.declared.fault.LabelFault.{LabelFault}
 use Rattle.dm_append_label.specs.declared.fault.LabelFault.TheVariants.{Border, Block, Content, Memory}
