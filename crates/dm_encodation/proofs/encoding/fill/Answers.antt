@@ -1,4 +1,4 @@
-use Rattle.std.proofs.Common.{arith, rules, ◌+◌, ◌∙◌, ap, vec_len, ℕ, List, ◌++◌, ◌≡◌}
+use Rattle.std.proofs.Common.{rules, ◌+◌, ◌∙◌, ap, vec_len, ℕ, List, ◌++◌, ◌≡◌}
 use Rattle.dm_encodation.specs.Written.{text}
 use Rattle.dm_encodation.proofs.Filled.{filled_parts}
 use Rattle.dm_encodation.proofs.encoding.fill.Goals as goal

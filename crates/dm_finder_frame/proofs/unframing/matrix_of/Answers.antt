@@ -1,10 +1,8 @@
-use Rattle.std.proofs.Common.{◌≡◌, ◌*◌, ℕ, Bool, List, ap, ◌∙◌, arith}
+use Rattle.std.proofs.Common.{◌≡◌, ◌*◌, ℕ, ap, ◌∙◌, arith}
 use Rattle.std.proofs.lemmas.List.FromFn.{length-map-range_with_len}
 use Rattle.dm_size.specs.declared.size.Size.{Size}
 use Rattle.dm_size.specs.Sizes.{mapping}
-use Rattle.dm_size.specs.Squares.{Square}
-use Rattle.dm_finder_frame.specs.Frame.{matrix_module, matrix_modules}
-use Rattle.dm_finder_frame.specs.inner.Filled.{first_modules}
+use Rattle.dm_finder_frame.specs.Frame.{matrix_modules}
 use Rattle.dm_finder_frame.proofs.unframing.matrix_of.Goals as goal
 
 -- all rows are made

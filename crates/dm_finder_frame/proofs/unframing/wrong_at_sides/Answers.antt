@@ -8,8 +8,18 @@ use Rattle.dm_finder_frame.proofs.unframing.wrong_at_sides.Goals as goal
 
 pub loop-b-preserved : goal.loop-b-preserved
 loop-b-preserved k c =
-    grind (arith, at_most_one, even_columns, fills_side, first_column,
-    last_column, line_module, parts_fit, region_more, test_number)
+    grind (
+      arith,
+      at_most_one,
+      even_columns,
+      fills_side,
+      first_column,
+      last_column,
+      line_module,
+      parts_fit,
+      region_more,
+      test_number,
+    )
 
 pub overflow_add-wrong-in-loop-b : goal.overflow_add-wrong-in-loop-b
 overflow_add-wrong-in-loop-b k c = grind (arith, test_number, at_most_one, most_across)

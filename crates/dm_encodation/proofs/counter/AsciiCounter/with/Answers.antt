@@ -1,4 +1,4 @@
-use Rattle.std.proofs.Common.{arith, refl, sym, ap, ◌∙◌, ◌+◌, ℕ}
+use Rattle.std.proofs.Common.{refl, sym, ap, ◌∙◌, ◌+◌, ℕ}
 use Rattle.dm_encodation.proofs.AsciiWords.{counts_shared, counts_alone, not_both}
 use Rattle.dm_encodation.proofs.counter.AsciiCounter.with.Goals as goal
 
