@@ -5,7 +5,7 @@ use dm_store::{Disk, DiskFault, Folders, Kept, LoadFault};
 use std::alloc::Global;
 use std::cell::RefCell;
 use std::test::Fail;
-use test_helpers::{MemDisk, StoppingDisk};
+use test_helpers::{MemDisk, Stopping};
 
 /// More calls of its disk than a command makes.
 pub const MOST_CALLS: u32 = 40;
@@ -13,7 +13,7 @@ pub const MOST_CALLS: u32 = 40;
 /// The disk of a machine that stops, and the files that were on it at first.
 #[derive(Drop)]
 pub struct Machine {
-    disk: RefCell<StoppingDisk>,
+    disk: RefCell<Stopping<MemDisk>>,
     old: Files,
 }
 
@@ -22,7 +22,7 @@ impl Machine {
     pub fn new(alloc: Global, disk: MemDisk, passes: u32, kept: Kept) -> Result<Machine, Fail> {
         let mut disk = disk;
         let old = files_on(alloc, &mut disk)?;
-        let disk = RefCell::new(StoppingDisk::new(alloc, disk, passes, kept));
+        let disk = RefCell::new(Stopping::new(disk, passes, kept));
         Ok(Machine { disk, old })
     }
 
@@ -50,7 +50,7 @@ impl Machine {
 /// The disk of a machine, which several stores have. It claims nothing, since no contract sees into a cell.
 #[derive(Drop)]
 pub struct MachineDisk<'a> {
-    disk: &'a RefCell<StoppingDisk>,
+    disk: &'a RefCell<Stopping<MemDisk>>,
 }
 
 impl Disk for MachineDisk<'_> {

@@ -4,7 +4,7 @@
 use dm_store::{Disk, DiskFault, FileStore, Kept, ReplaceFault, Store};
 use std::alloc::{AllocError, Global};
 use std::test::Fail;
-use test_helpers::{MemDisk, StoppingDisk};
+use test_helpers::{MemDisk, Stopping};
 
 // Which contents a stop may leave in the file; anything is the old one, the new one, a part of it, or nothing.
 #[derive(Clone, Copy, PartialEq, Eq)]
@@ -34,11 +34,11 @@ fn what_is_left(disk: &MemDisk) -> Option<Leaves> {
 }
 
 // A disk on which a store has saved the old content, if it could, and whose machine stops at the call after so many.
-fn stopping(alloc: Global, passes: u32, kept: Kept) -> Result<StoppingDisk, AllocError> {
+fn stopping(alloc: Global, passes: u32, kept: Kept) -> Result<Stopping<MemDisk>, AllocError> {
     let path = String::from_str(alloc, "ledger")?;
     let mut store = FileStore::new(alloc, MemDisk::new(alloc), path);
     let _ended = store.replace(b"old");
-    Ok(StoppingDisk::new(alloc, store.into_disk(), passes, kept))
+    Ok(Stopping::new(store.into_disk(), passes, kept))
 }
 
 // A save of four calls: how many of them pass; whether the call after these is still made; and what may be left.

@@ -2,3 +2,5 @@ pub mod Steps
 mod Fields
 mod SeenIsLeft
 mod Noted
+mod Stopped
+mod Named

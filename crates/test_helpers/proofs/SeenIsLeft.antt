@@ -1,10 +1,11 @@
 -- On a disk in memory a stop may leave what a reader finds.
-use Rattle.std.specs.Prelude.{◌≡◌, refl, ℕ, Bool, true, false, ◌||◌, List, [], ◌∷◌, Some, None, is_none, if◌then◌else◌}
+use Rattle.std.specs.Prelude.{◌≡◌, refl, ℕ, Bool, true, false, ◌||◌, ◌&&◌, nat_eq, List, [], ◌∷◌, Some, None, is_none, if◌then◌else◌}
+use Rattle.std.specs.List.{starts_with}
 use Rattle.std.specs.Str.{bytes_eq}
 use Rattle.std.specs.String.{string_bytes}
 use Rattle.std.proofs.lemmas.Slice.Eq.{bytes_eq-Decides}
 use Rattle.test_helpers.specs.declared.mem_disk.DiskCall.{DiskCall}
-use Rattle.test_helpers.specs.declared.mem_disk.DiskCall.TheVariants.{Wrote, Synced, Renamed, Removed, SyncedEntry}
+use Rattle.test_helpers.specs.declared.mem_disk.DiskCall.TheVariants.{Wrote, Synced, Renamed, Removed, SyncedEntry, SyncedFolder}
 use Rattle.dm_store.specs.Disk.{Content}
 use Rattle.std.specs.Option.{option_eq}
 use Rattle.test_helpers.specs.DiskCalls.{seen_after, synced_after, leaves_after}
@@ -64,7 +65,8 @@ leaves_seen {A} (Removed removed ∷ before) name =
       | false ↦ or_true (leaves_after before name (seen_after before name)) false (leaves_seen before name)
     ]
 leaves_seen {A} (SyncedEntry synced ∷ before) name =
-    let seen = seen_after before name in
-    let on = either (synced_after before name) (option_eq bytes_eq seen seen) (leaves_after before name seen)
-    (content_eq-same seen) (leaves_seen before name) in
-    either (bytes_eq (string_bytes synced) name) _ _ on (leaves_seen before name)
+    either (bytes_eq (string_bytes synced) name && synced_after before name) _ _
+    (content_eq-same (seen_after before name)) (leaves_seen before name)
+leaves_seen {A} (SyncedFolder start ∷ before) name =
+    either (starts_with nat_eq name (string_bytes start) && synced_after before name) _ _
+    (content_eq-same (seen_after before name)) (leaves_seen before name)

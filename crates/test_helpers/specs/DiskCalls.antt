@@ -1,11 +1,12 @@
 -- A disk in memory as the list of its calls that were done, the newest first. A stop may leave there all that the
 -- contract of disks allows after these calls; a reader finds no more and no less than they left.
-use Rattle.std.specs.Prelude.{ℕ, Bool, true, false, ◌||◌, List, [], ◌∷◌, Some, None, is_none, IsTrue, if◌then◌else◌}
+use Rattle.std.specs.Prelude.{ℕ, Bool, true, false, ◌||◌, ◌&&◌, List, [], ◌∷◌, Some, None, is_none, IsTrue, if◌then◌else◌, nat_eq}
+use Rattle.std.specs.List.{starts_with}
 use Rattle.std.specs.Option.{option_eq}
 use Rattle.std.specs.Str.{bytes_eq}
 use Rattle.std.specs.String.{string_bytes}
 use Rattle.test_helpers.specs.declared.mem_disk.DiskCall.{DiskCall}
-use Rattle.test_helpers.specs.declared.mem_disk.DiskCall.TheVariants.{Wrote, Synced, Renamed, Removed, SyncedEntry}
+use Rattle.test_helpers.specs.declared.mem_disk.DiskCall.TheVariants.{Wrote, Synced, Renamed, Removed, SyncedEntry, SyncedFolder}
 use Rattle.dm_store.specs.Disk.{DiskState, Content}
 
 -- what a reader finds
@@ -20,6 +21,7 @@ seen_after (Renamed from to ∷ before) name =
 seen_after (Removed removed ∷ before) name =
     if bytes_eq (string_bytes removed) name then None else seen_after before name
 seen_after (SyncedEntry synced ∷ before) name = seen_after before name
+seen_after (SyncedFolder start ∷ before) name = seen_after before name
 
 -- whether the bytes of the file are on the disk
 abbrev pub synced_after : {A : Type 0} → List (DiskCall A) → List ℕ → Bool
@@ -33,6 +35,7 @@ synced_after (Renamed from to ∷ before) name =
 synced_after (Removed removed ∷ before) name =
     if bytes_eq (string_bytes removed) name then true else synced_after before name
 synced_after (SyncedEntry synced ∷ before) name = synced_after before name
+synced_after (SyncedFolder start ∷ before) name = synced_after before name
 
 -- Whether a stop may leave this content: anything under a name that was written to, and under one that got a file whose
 -- bytes are not on the disk.
@@ -49,10 +52,11 @@ leaves_after (Renamed from to ∷ before) name content =
 leaves_after (Removed removed ∷ before) name content =
     leaves_after before name content || (if bytes_eq (string_bytes removed) name then is_none content else false)
 leaves_after (SyncedEntry synced ∷ before) name content =
-    if bytes_eq (string_bytes synced) name
-    then (if synced_after before name then option_eq bytes_eq content (seen_after before name)
-    else leaves_after before name content)
-    else leaves_after before name content
+    if bytes_eq (string_bytes synced) name && synced_after before name
+    then option_eq bytes_eq content (seen_after before name) else leaves_after before name content
+leaves_after (SyncedFolder start ∷ before) name content =
+    if starts_with nat_eq name (string_bytes start) && synced_after before name
+    then option_eq bytes_eq content (seen_after before name) else leaves_after before name content
 
 abbrev pub disk_after : {A : Type 0} → List (DiskCall A) → DiskState
 disk_after calls = record {

@@ -2,19 +2,21 @@
 //! writers that fail or are interrupted, a look at the text of a fault, and a disk whose machine stops.
 //!
 //! Proved: each call returns and is safe, and [`Refusing`] is an allocator, so that what owns memory of it owns memory
-//! of the allocator within. [`MemDisk`] is proved to be an honest disk, of which a stop may leave whatever the contract
-//! of disks allows after calls that were done; a call that fails changes nothing there. What else the comments say has
-//! no contract: `stream_and_image_tests` shows it.
+//! of the allocator within. [`MemDisk`] is proved to be an honest disk with folders, of which a stop may leave whatever
+//! the contract of disks allows after calls that were done; a call that fails changes nothing there. [`Stopping`] is
+//! proved a disk over any other, though each of its calls may be the one that the machine stops at. What else the
+//! comments say has no contract: `stream_and_image_tests` shows it.
 #![tactic(auto)]
 
 mod failing;
 mod mem_disk;
+mod mem_folder;
 mod refusing;
 mod spoiling;
-mod stopping_disk;
+mod stopping;
 
 pub use failing::{FailingReader, FailingWriter, InterruptedReader, InterruptedWriter};
 pub use mem_disk::{DiskCall, MemDisk};
 pub use refusing::Refusing;
 pub use spoiling::{count, says, spoiled};
-pub use stopping_disk::StoppingDisk;
+pub use stopping::Stopping;

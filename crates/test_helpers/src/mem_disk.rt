@@ -7,7 +7,7 @@ ghost use Rattle.std.specs.Str.{bytes_eq};
 ghost use Rattle.test_helpers.specs.DiskCalls.{seen_after, synced_after, leaves_after};
 
 use dm_store::{Disk, DiskFault, LoadFault};
-use std::alloc::{AllocError, Allocator, Global};
+use std::alloc::{Allocator, Global};
 
 /// A call of a disk that was done.
 #[derive(Drop)]
@@ -22,6 +22,8 @@ pub enum DiskCall<A: Allocator = Global> {
     Removed(String<A>),
     /// A name's entry was brought to the disk.
     SyncedEntry(String<A>),
+    /// The entries of all names that begin so were brought to the disk.
+    SyncedFolder(String<A>),
 }
 
 /// A disk in memory, which is empty at first. It keeps the calls that were done, the newest first. A stop may leave
@@ -29,12 +31,12 @@ pub enum DiskCall<A: Allocator = Global> {
 /// more: here it changes nothing. And after a rename nothing has the file's old name here.
 #[derive(Drop)]
 pub struct MemDisk<A: Allocator + Copy = Global> {
-    alloc: A,
-    calls: Vec<DiskCall<A>, A>,
+    pub(crate) alloc: A,
+    pub(crate) calls: Vec<DiskCall<A>, A>,
 }
 
 // What a reader finds under the name.
-fn seen_in<'a, A: Allocator>(calls: &'a [DiskCall<A>], name: &str) -> Option<&'a [u8]>
+pub(crate) fn seen_in<'a, A: Allocator>(calls: &'a [DiskCall<A>], name: &str) -> Option<&'a [u8]>
     ensures { option_map (λ bytes. bytes.now) result ≡ seen_after calls.now name.now }
 {
     let [call, before @ ..] = calls else {
@@ -64,7 +66,9 @@ fn seen_in<'a, A: Allocator>(calls: &'a [DiskCall<A>], name: &str) -> Option<&'a
                 seen_in(before, name)
             }
         }
-        DiskCall::Synced(_) | DiskCall::SyncedEntry(_) => seen_in(before, name),
+        DiskCall::Synced(_) | DiskCall::SyncedEntry(_) | DiskCall::SyncedFolder(_) => {
+            seen_in(before, name)
+        }
     }
 }
 
@@ -87,7 +91,7 @@ fn is_synced_in<A: Allocator>(calls: &[DiskCall<A>], name: &str) -> bool
                 is_synced_in(before, name)
             }
         }
-        DiskCall::SyncedEntry(_) => is_synced_in(before, name),
+        DiskCall::SyncedEntry(_) | DiskCall::SyncedFolder(_) => is_synced_in(before, name),
     }
 }
 
@@ -136,39 +140,28 @@ fn may_leave_in<A: Allocator>(calls: &[DiskCall<A>], name: &str, content: Option
                 may_leave_in(before, name, content)
             }
         }
+        DiskCall::SyncedFolder(start) => {
+            let is_in = name.as_bytes().starts_with(start.as_bytes());
+            if is_in && is_synced_in(before, name) {
+                is_same(content, seen_in(before, name))
+            } else {
+                may_leave_in(before, name, content)
+            }
+        }
     }
 }
 
-// A copy of the bytes, or of the first `limit + 1` where they are longer.
-fn copy_of<A: Allocator>(alloc: A, bytes: &[u8], limit: usize) -> Result<Vec<u8, A>, AllocError>
-    ensures { IfOk result (λ copy. copy.items ≡ take (limit + 1) bytes.now) }
-{
-    let shown = if limit < bytes.len() {
-        &bytes[..limit + 1]
-    } else {
-        bytes
-    };
-    Vec::from_slice(alloc, shown)
-}
-
 // Keeps a call that is done.
-fn note<A: Allocator>(calls: &mut Vec<DiskCall<A>, A>, call: DiskCall<A>) -> Result<(), DiskFault>
+pub(crate) fn note<A: Allocator>(
+    calls: &mut Vec<DiskCall<A>, A>,
+    call: DiskCall<A>,
+) -> Result<(), DiskFault>
     ensures ok { OnOk result (calls.new.items ≡ call ∷ calls.old.items) }
     ensures err { OnErr result (calls.new.items ≡ calls.old.items) }
 {
     match calls.insert(0, call) {
         Ok(()) => Ok(()),
         Err(_) => Err(DiskFault::Memory),
-    }
-}
-
-// A name that is kept.
-fn name_of<A: Allocator>(alloc: A, name: &str) -> Result<String<A>, DiskFault>
-    ensures { IfOk result (λ kept. string_bytes kept ≡ name.now) }
-{
-    match String::from_str(alloc, name) {
-        Ok(kept) => Ok(kept),
-        Err(AllocError) => Err(DiskFault::Memory),
     }
 }
 
@@ -203,22 +196,18 @@ impl<A: Allocator + Copy> Disk for MemDisk<A> {
         let Some(bytes) = seen_in(&self.calls, name) else {
             return Ok(None);
         };
-        match copy_of(self.alloc, bytes, limit) {
-            Ok(copy) => Ok(Some(copy)),
-            Err(AllocError) => Err(LoadFault::Memory),
-        }
+        let shown = bytes.get(..=limit).unwrap_or(bytes);
+        Ok(Some(Vec::from_slice(self.alloc, shown)?))
     }
 
     fn write(&mut self, name: &str, bytes: &[u8]) -> Result<(), DiskFault> {
-        let written = name_of(self.alloc, name)?;
-        let Ok(copy) = Vec::from_slice(self.alloc, bytes) else {
-            return Err(DiskFault::Memory);
-        };
+        let written = String::from_str(self.alloc, name)?;
+        let copy = Vec::from_slice(self.alloc, bytes)?;
         note(&mut self.calls, DiskCall::Wrote(written, copy))
     }
 
     fn sync(&mut self, name: &str) -> Result<(), DiskFault> {
-        let synced = name_of(self.alloc, name)?;
+        let synced = String::from_str(self.alloc, name)?;
         note(&mut self.calls, DiskCall::Synced(synced))
     }
 
@@ -226,18 +215,18 @@ impl<A: Allocator + Copy> Disk for MemDisk<A> {
         if seen_in(&self.calls, from).is_none() {
             return Err(DiskFault::Device);
         }
-        let old = name_of(self.alloc, from)?;
-        let new = name_of(self.alloc, to)?;
+        let old = String::from_str(self.alloc, from)?;
+        let new = String::from_str(self.alloc, to)?;
         note(&mut self.calls, DiskCall::Renamed(old, new))
     }
 
     fn remove(&mut self, name: &str) -> Result<(), DiskFault> {
-        let removed = name_of(self.alloc, name)?;
+        let removed = String::from_str(self.alloc, name)?;
         note(&mut self.calls, DiskCall::Removed(removed))
     }
 
     fn sync_entry(&mut self, name: &str) -> Result<(), DiskFault> {
-        let synced = name_of(self.alloc, name)?;
+        let synced = String::from_str(self.alloc, name)?;
         note(&mut self.calls, DiskCall::SyncedEntry(synced))
     }
 }

@@ -1,0 +1,11 @@
+use Rattle.std.proofs.Common.{refl}
+use Rattle.test_helpers.proofs.Noted.{left_before, noted_folder, noted_kept}
+use Rattle.test_helpers.proofs.mem_folder.MemDiskFolders.settle_folder.Goals as goal
+
+pub returns-clause-settles : goal.returns-clause-settles
+returns-clause-settles g c = λ _. noted_folder _ _ _ _ c.note.result c.in_ok-start.ensures.ok c.note.ensures.ok
+
+pub returns-clause-kept : goal.returns-clause-kept
+returns-clause-kept g c = λ each. noted_kept _ _ _ each c.note.result
+    (record { seen = refl; synced = λ on. on; left = left_before _ c.args.self.now.calls.items each })
+    c.note.ensures.ok c.note.ensures.err
