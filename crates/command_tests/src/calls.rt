@@ -208,9 +208,9 @@ fn status_of<A: Allocator + Copy, R: Read, W: Write, E: Write>(
         Call::World => world_command(memory, streams),
         _ => {
             let path = String::from_str(alloc, STORE)?;
-            let store = FileStore::new(alloc, machine.disk(), path);
+            let store = FileStore::new(machine.disk(), path);
             let folder = String::from_str(alloc, SET)?;
-            let set = FileSet::new(alloc, machine.disk(), folder);
+            let set = FileSet::new(machine.disk(), folder);
             filed(memory, store, set, streams, call)
         }
     };

@@ -1,9 +1,9 @@
 //! A machine with a disk in memory, which all stores of a command share, and which stops after a number of calls.
 
 use crate::left_files::{Files, STORE, files_on};
-use dm_store::{Disk, DiskFault, Folders, Kept, LoadFault};
+use dm_store::{Disk, Folders, Kept, StoreFault};
 use std::alloc::Global;
-use std::cell::RefCell;
+use std::cell::{RefCell, RefMut};
 use std::test::Fail;
 use test_helpers::{MemDisk, Stopping};
 
@@ -53,6 +53,16 @@ pub struct MachineDisk<'a> {
     disk: &'a RefCell<Stopping<MemDisk>>,
 }
 
+impl<'a> MachineDisk<'a> {
+    // The disk of the machine, for a call.
+    fn lent(&self) -> Result<RefMut<'a, Stopping<MemDisk>>, StoreFault> {
+        match self.disk.try_borrow_mut() {
+            Ok(disk) => Ok(disk),
+            Err(_) => Err(StoreFault::Device),
+        }
+    }
+}
+
 impl Disk for MachineDisk<'_> {
     ghost use Rattle.dm_store.specs.Disk.{unclaimed};
 
@@ -60,68 +70,50 @@ impl Disk for MachineDisk<'_> {
 
     ghost state = { λ _. unclaimed };
 
-    fn read(&mut self, name: &str, limit: usize) -> Result<Option<Vec<u8>>, LoadFault> {
-        match self.disk.try_borrow_mut() {
-            Ok(mut disk) => disk.read(name, limit),
-            Err(_) => Err(LoadFault::Device),
-        }
+    fn read(&mut self, name: &str, limit: usize) -> Result<Option<Vec<u8>>, StoreFault> {
+        let mut disk = self.lent()?;
+        disk.read(name, limit)
     }
 
-    fn write(&mut self, name: &str, bytes: &[u8]) -> Result<(), DiskFault> {
-        match self.disk.try_borrow_mut() {
-            Ok(mut disk) => disk.write(name, bytes),
-            Err(_) => Err(DiskFault::Device),
-        }
+    fn write(&mut self, name: &str, bytes: &[u8]) -> Result<(), StoreFault> {
+        let mut disk = self.lent()?;
+        disk.write(name, bytes)
     }
 
-    fn sync(&mut self, name: &str) -> Result<(), DiskFault> {
-        match self.disk.try_borrow_mut() {
-            Ok(mut disk) => disk.sync(name),
-            Err(_) => Err(DiskFault::Device),
-        }
+    fn sync(&mut self, name: &str) -> Result<(), StoreFault> {
+        let mut disk = self.lent()?;
+        disk.sync(name)
     }
 
-    fn rename(&mut self, from: &str, to: &str) -> Result<(), DiskFault> {
-        match self.disk.try_borrow_mut() {
-            Ok(mut disk) => disk.rename(from, to),
-            Err(_) => Err(DiskFault::Device),
-        }
+    fn rename(&mut self, from: &str, to: &str) -> Result<(), StoreFault> {
+        let mut disk = self.lent()?;
+        disk.rename(from, to)
     }
 
-    fn remove(&mut self, name: &str) -> Result<(), DiskFault> {
-        match self.disk.try_borrow_mut() {
-            Ok(mut disk) => disk.remove(name),
-            Err(_) => Err(DiskFault::Device),
-        }
+    fn remove(&mut self, name: &str) -> Result<(), StoreFault> {
+        let mut disk = self.lent()?;
+        disk.remove(name)
     }
 
-    fn sync_entry(&mut self, name: &str) -> Result<(), DiskFault> {
-        match self.disk.try_borrow_mut() {
-            Ok(mut disk) => disk.sync_entry(name),
-            Err(_) => Err(DiskFault::Device),
-        }
+    fn sync_entry(&mut self, name: &str) -> Result<(), StoreFault> {
+        let mut disk = self.lent()?;
+        disk.sync_entry(name)
     }
 }
 
 impl Folders for MachineDisk<'_> {
-    fn make_folder(&mut self, folder: &str) -> Result<(), DiskFault> {
-        match self.disk.try_borrow_mut() {
-            Ok(mut disk) => disk.make_folder(folder),
-            Err(_) => Err(DiskFault::Device),
-        }
+    fn make_folder(&mut self, folder: &str) -> Result<(), StoreFault> {
+        let mut disk = self.lent()?;
+        disk.make_folder(folder)
     }
 
-    fn keys(&mut self, folder: &str, limit: usize) -> Result<Vec<u16>, LoadFault> {
-        match self.disk.try_borrow_mut() {
-            Ok(mut disk) => disk.keys(folder, limit),
-            Err(_) => Err(LoadFault::Device),
-        }
+    fn keys(&mut self, folder: &str, limit: usize) -> Result<Vec<u16>, StoreFault> {
+        let mut disk = self.lent()?;
+        disk.keys(folder, limit)
     }
 
-    fn settle_folder(&mut self, folder: &str) -> Result<(), DiskFault> {
-        match self.disk.try_borrow_mut() {
-            Ok(mut disk) => disk.settle_folder(folder),
-            Err(_) => Err(DiskFault::Device),
-        }
+    fn settle_folder(&mut self, folder: &str) -> Result<(), StoreFault> {
+        let mut disk = self.lent()?;
+        disk.settle_folder(folder)
     }
 }

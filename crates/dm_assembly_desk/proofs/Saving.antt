@@ -4,10 +4,9 @@ use Rattle.std.specs.Prelude.{option_map, IsTrue, IsSome, is_some}
 use Rattle.std.specs.Ordering.{nat_cmp, eq_by_cmp}
 use Rattle.std.specs.Cmp.{nat_cmp_total}
 use Rattle.std.specs.FinMap.{get, insert, remove, len, get-insert, get-remove, len-insert, len-remove}
-use Rattle.dm_store.specs.Saved.{SavePlan, SavesFine, FaultOld, FaultNew, SavesOpen, Outcome, Done, Faulted, Refused, HeldAfterFault, outcome_of, Saves, SavedSet, Contents, SavesKey, RemovesKey, outcome_of_remove}
-use Rattle.dm_store.specs.declared.set.RemoveFault.{RemoveFault}
-use Rattle.dm_store.specs.declared.set.RemoveFault.TheVariants as removing
-use Rattle.dm_store.specs.declared.store.ReplaceFault.{ReplaceFault}
+use Rattle.dm_store.specs.Saved.{SavePlan, SavesFine, FaultOld, FaultNew, SavesOpen, Outcome, Done, Faulted, Refused, HeldAfterFault, outcome_of, Saves, SavedSet, Contents, SavesKey, RemovesKey}
+use Rattle.dm_store.specs.declared.store.StoreFault.{StoreFault}
+use Rattle.dm_store.specs.declared.store.StoreFault.TheVariants as removing
 use Rattle.dm_assembly_desk.specs.Documents.{Pages, IsEntry, file, Documents, AreEntries, HoldsFiles, DeskView, IsInOrder}
 use Rattle.dm_assembly_desk.specs.Adding.{SavesDocument, shown, Ends}
 use Rattle.dm_assembly_desk.proofs.Loading.{itself, same_key, entries_insert}
@@ -142,12 +141,12 @@ module _ (old : DeskView) (id : ℕ) (pages : Pages) (set : SavedSet) (order : I
     files = λ honest. files_insert old.saved.content old.held id pages (order.saved running honest) entry;
   }
 
-  pub held_ends : (answer : Result (Unit {0}) ReplaceFault) → SavesKey old.saved id (file id pages) answer set →
+  pub held_ends : (answer : Result (Unit {0}) StoreFault) → SavesKey old.saved id (file id pages) answer set →
       Ends id (insert old.held id pages) (outcome_of answer) old
       (shown (insert old.held id pages) (outcome_of answer) old set)
   held_ends answer s = search (arith, ends, to_hold, get_here)
 
-  pub held_order : (answer : Result (Unit {0}) ReplaceFault) → SavesKey old.saved id (file id pages) answer set →
+  pub held_order : (answer : Result (Unit {0}) StoreFault) → SavesKey old.saved id (file id pages) answer set →
       IsInOrder (shown (insert old.held id pages) (outcome_of answer) old set)
   held_order answer s = ordered old id (insert old.saved.content id (file id pages)) (insert old.held id pages) set
       to_hold (outcome_of answer) s.same_honesty (λ _. s)
@@ -162,22 +161,22 @@ is_there : (content : Contents) (held : Documents) (id : ℕ) → HoldsFiles con
     IsSome (get content id)
 is_there content held id h some = grind arith
 
-pub same_honesty : (old : SavedSet) (id : ℕ) (answer : Result (Unit {0}) RemoveFault) (set : SavedSet) →
+pub same_honesty : (old : SavedSet) (id : ℕ) (answer : Result (Unit {0}) StoreFault) (set : SavedSet) →
     RemovesKey old id answer set → set.is_honest ≡ old.is_honest
 same_honesty old id answer set r = grind arith
 
 pub refused_same : (old : SavedSet) (id : ℕ) (set : SavedSet) → RemovesKey old id (Err removing.Memory) set → set ≡ old
 refused_same old id set r = grind arith
 
-refused_to_remove : (old : SavedSet) (id : ℕ) (set : SavedSet) (answer : Result (Unit {0}) RemoveFault) →
-    RemovesKey old id answer set → outcome_of_remove answer ≡ Refused → set ≡ old
+refused_to_remove : (old : SavedSet) (id : ℕ) (set : SavedSet) (answer : Result (Unit {0}) StoreFault) →
+    RemovesKey old id answer set → outcome_of answer ≡ Refused → set ≡ old
 refused_to_remove old id set answer r e = grind arith
 
 gone_here : (held : Documents) (id : ℕ) → get (remove held id) id ≡ None
 gone_here held id = get-remove nat_cmp_total held id id ∙ ap (λ b. cond b None (get held id)) (itself id)
 
 module _ (old : DeskView) (id : ℕ) (set : SavedSet) (order : IsInOrder old) (running : old.is_failed ≡ false)
-    (some : IsSome (get old.held id)) (answer : Result (Unit {0}) RemoveFault)
+    (some : IsSome (get old.held id)) (answer : Result (Unit {0}) StoreFault)
     (removes : RemovesKey old.saved id answer set) where
   to_let_go : IsToSave old (remove old.saved.content id) (remove old.held id)
   to_let_go = record {
@@ -188,12 +187,12 @@ module _ (old : DeskView) (id : ℕ) (set : SavedSet) (order : IsInOrder old) (r
     files = λ honest. files_remove old.saved.content old.held id (order.saved running honest);
   }
 
-  removed : IsTrue old.saved.is_honest → Saves old.saved (remove old.saved.content id) (outcome_of_remove answer) set
+  removed : IsTrue old.saved.is_honest → Saves old.saved (remove old.saved.content id) (outcome_of answer) set
   removed honest = removes.there (is_there old.saved.content old.held id (order.saved running honest) some)
 
-  pub gone_ends : Ends id (remove old.held id) (outcome_of_remove answer) old
-      (shown (remove old.held id) (outcome_of_remove answer) old set)
+  pub gone_ends : Ends id (remove old.held id) (outcome_of answer) old
+      (shown (remove old.held id) (outcome_of answer) old set)
   gone_ends = search (arith, ends, to_let_go, refused_to_remove, gone_here, removed)
 
-  pub gone_order : IsInOrder (shown (remove old.held id) (outcome_of_remove answer) old set)
+  pub gone_order : IsInOrder (shown (remove old.held id) (outcome_of answer) old set)
   gone_order = search (arith, ordered, to_let_go, same_honesty, removed)

@@ -2,8 +2,8 @@
 use Rattle.std.specs.Prelude.{◌≡◌, ℕ, true, Option, Some, None, Result, IsTrue, ◌&&◌, not, length, Ok, Err, is_some, is_none, nat_le, ◌==◌, if◌then◌else◌, ◌-◌, replicate, slice_set, List, codes}
 use Rattle.std.specs.List.{list_all}
 use Rattle.std.specs.FinMap as map
-use Rattle.dm_store.specs.Saved.{SavePlan, HeldAfterFault, Outcome, Done, Faulted, Refused, Saves, SavedSet, RemovesKey, outcome_of_remove}
-use Rattle.dm_store.specs.declared.set.RemoveFault.{RemoveFault}
+use Rattle.dm_store.specs.Saved.{SavePlan, HeldAfterFault, Outcome, Done, Faulted, Refused, Saves, SavedSet, RemovesKey, outcome_of}
+use Rattle.dm_store.specs.declared.store.StoreFault.{StoreFault}
 use Rattle.dm_assembly_desk.specs.Documents.{Pages, document_of, missing_mask, file, Spells, HasNoFile, Documents, HoldsFiles, own_pages, DeskView, union_of, added_mask, may_join}
 use Rattle.dm_assembly_desk.specs.declared.reply.Kind.{Kind}
 use Rattle.dm_assembly_desk.specs.declared.reply.Kind.TheVariants.{New, Again, Complete}
@@ -38,7 +38,7 @@ pub data Verdict (R : Type 0) : Type 0 where
 abbrev pub SavesDocument : SavedSet → ℕ → Option Pages → Outcome → SavedSet → Type 0
 SavesDocument old id (Some pages) outcome new = Saves old (map.insert old.content id (file id pages)) outcome new
 SavesDocument old id None outcome new =
-    (answer : Result (Unit {0}) RemoveFault) × (outcome ≡ outcome_of_remove answer) × RemovesKey old id answer new
+    (answer : Result (Unit {0}) StoreFault) × (outcome ≡ outcome_of answer) × RemovesKey old id answer new
 
 -- The desk then, over its set: it shows what it is to hold. After a device fault it shows what it held, and saves no
 -- more. If memory was refused nothing has changed.

@@ -9,8 +9,7 @@ use Rattle.dm_assembly_desk.specs.declared.fault.ExportFault.{ExportFault}
 use Rattle.dm_assembly_desk.specs.declared.fault.ImportFault.{ImportFault}
 use Rattle.dm_assembly_desk.specs.declared.fault.MoveFault.{MoveFault}
 use Rattle.dm_append_label.specs.declared.fault.LabelFault.{LabelFault}
-use Rattle.dm_store.specs.declared.store.LoadFault.{LoadFault}
-use Rattle.dm_store.specs.declared.store.ReplaceFault.{ReplaceFault}
+use Rattle.dm_store.specs.declared.store.StoreFault.{StoreFault}
 use Rattle.dm_assembly_desk.specs.declared.file.FileFault.{FileFault}
 use Rattle.dm_assembly_desk.specs.declared.adding.AddFault.{AddFault}
 use Rattle.dm_assembly_desk.specs.declared.fault.DeskFault.TheVariants as opening
@@ -21,8 +20,7 @@ use Rattle.dm_assembly_desk.specs.declared.fault.ExportFault.TheVariants as expo
 use Rattle.dm_assembly_desk.specs.declared.fault.ImportFault.TheVariants as importing
 use Rattle.dm_assembly_desk.specs.declared.fault.MoveFault.TheVariants as moving
 use Rattle.dm_append_label.specs.declared.fault.LabelFault.TheVariants as labels
-use Rattle.dm_store.specs.declared.store.LoadFault.TheVariants as loads
-use Rattle.dm_store.specs.declared.store.ReplaceFault.TheVariants as replaces
+use Rattle.dm_store.specs.declared.store.StoreFault.TheVariants as storing
 use Rattle.dm_assembly_desk.specs.declared.file.FileFault.TheVariants as files
 use Rattle.dm_assembly_desk.specs.declared.adding.AddFault.TheVariants as adds
 
@@ -76,13 +74,9 @@ move_fault_name moving.Device = codes "Device"
 move_fault_name moving.Memory = codes "Memory"
 
 -- a move calls the fault of a load, and that of a save, by the same name
-abbrev pub load_fault : LoadFault → MoveFault
-load_fault loads.Device = moving.Device
-load_fault loads.Memory = moving.Memory
-
-abbrev pub save_fault : ReplaceFault → MoveFault
-save_fault replaces.Device = moving.Device
-save_fault replaces.Memory = moving.Memory
+abbrev pub move_fault_of : StoreFault → MoveFault
+move_fault_of storing.Device = moving.Device
+move_fault_of storing.Memory = moving.Memory
 
 -- memory that was refused for the label was refused for the scan
 abbrev pub scan_fault : LabelFault → ScanFault
@@ -114,6 +108,6 @@ desk_fault_of files.Version = opening.Version
 desk_fault_of files.Damaged = opening.Damaged
 
 -- why pages were not added, by why their save was not done
-abbrev pub keep_fault : ReplaceFault → AddFault
-keep_fault replaces.Device = adds.Save
-keep_fault replaces.Memory = adds.Memory
+abbrev pub keep_fault : StoreFault → AddFault
+keep_fault storing.Device = adds.Save
+keep_fault storing.Memory = adds.Memory

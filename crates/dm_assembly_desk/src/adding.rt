@@ -17,7 +17,7 @@ use crate::file::write_file;
 use crate::merging::{added_of, are_all_held, may_join, merge};
 use crate::reply::{Imported, Kind};
 use dm_append_label::FileId;
-use dm_store::{ReplaceFault, StoreSet};
+use dm_store::{StoreFault, StoreSet};
 use std::alloc::{AllocError, Allocator};
 
 /// Why pages of a document were not added, by a scan or by an import: the first of these, in this order, that applies.
@@ -34,13 +34,13 @@ pub enum AddFault {
     Save,
 }
 
-impl From<ReplaceFault> for AddFault {
+impl From<StoreFault> for AddFault {
     ghost from_gives = { λ given fault. fault ≡ keep_fault given };
 
-    fn from(fault: ReplaceFault) -> Self {
+    fn from(fault: StoreFault) -> Self {
         match fault {
-            ReplaceFault::Device => AddFault::Save,
-            ReplaceFault::Memory => AddFault::Memory,
+            StoreFault::Device => AddFault::Save,
+            StoreFault::Memory => AddFault::Memory,
         }
     }
 }
@@ -82,7 +82,7 @@ impl<S: StoreSet, A: Allocator + Copy> Desk<S, A> {
 
     // Holds these pages of a document from now on, and saves its file first. Where that fails, what was held is held,
     // and after a device fault the desk has failed.
-    fn hold(&mut self, id: u16, document: Document<A>) -> Result<(), ReplaceFault>
+    fn hold(&mut self, id: u16, document: Document<A>) -> Result<(), StoreFault>
         requires running { self.old.is_failed ≡ false }
         requires entry { IsEntry id document }
         requires room { map.get self.old.held id ≡ None → map.len self.old.held < self.old.capacity }
@@ -91,10 +91,10 @@ impl<S: StoreSet, A: Allocator + Copy> Desk<S, A> {
     {
         match keep(self.alloc, &mut self.set, &mut self.documents, id, document) {
             Ok(()) => Ok(()),
-            Err(ReplaceFault::Memory) => Err(ReplaceFault::Memory),
-            Err(ReplaceFault::Device) => {
+            Err(StoreFault::Memory) => Err(StoreFault::Memory),
+            Err(StoreFault::Device) => {
                 self.is_failed = true;
-                Err(ReplaceFault::Device)
+                Err(StoreFault::Device)
             }
         }
     }
@@ -159,7 +159,7 @@ fn keep<S: StoreSet, A: Allocator + Copy>(
     documents: &mut Documents<A>,
     id: u16,
     document: Document<A>,
-) -> Result<(), ReplaceFault>
+) -> Result<(), StoreFault>
     requires { IsEntry id document }
     ensures ok { OnOk result (documents.new ≡ map.insert documents.old id document) }
     ensures err { OnErr result (documents.new ≡ documents.old) }

@@ -1,12 +1,12 @@
 //! Why a desk refuses, each with its name as it is printed.
 
 ghost use Rattle.std.specs.Prelude.{◌≡◌};
-ghost use Rattle.dm_assembly_desk.specs.Faults.{scan_fault, scan_fault_of, import_fault, import_fault_of, desk_fault_of, load_fault, save_fault, desk_fault_name, scan_fault_name, ask_fault_name, forget_fault_name, export_fault_name, import_fault_name, move_fault_name};
+ghost use Rattle.dm_assembly_desk.specs.Faults.{scan_fault, scan_fault_of, import_fault, import_fault_of, desk_fault_of, move_fault_of, desk_fault_name, scan_fault_name, ask_fault_name, forget_fault_name, export_fault_name, import_fault_name, move_fault_name};
 
 use crate::adding::AddFault;
 use crate::file::FileFault;
 use dm_append_label::LabelFault;
-use dm_store::{LoadFault, ReplaceFault};
+use dm_store::StoreFault;
 
 /// Why no desk was opened.
 #[derive(Clone, Copy, Debug, PartialEq, Eq)]
@@ -150,24 +150,13 @@ impl From<AddFault> for ImportFault {
     }
 }
 
-impl From<LoadFault> for MoveFault {
-    ghost from_gives = { λ given fault. fault ≡ load_fault given };
+impl From<StoreFault> for MoveFault {
+    ghost from_gives = { λ given fault. fault ≡ move_fault_of given };
 
-    fn from(fault: LoadFault) -> Self {
+    fn from(fault: StoreFault) -> Self {
         match fault {
-            LoadFault::Device => MoveFault::Device,
-            LoadFault::Memory => MoveFault::Memory,
-        }
-    }
-}
-
-impl From<ReplaceFault> for MoveFault {
-    ghost from_gives = { λ given fault. fault ≡ save_fault given };
-
-    fn from(fault: ReplaceFault) -> Self {
-        match fault {
-            ReplaceFault::Device => MoveFault::Device,
-            ReplaceFault::Memory => MoveFault::Memory,
+            StoreFault::Device => MoveFault::Device,
+            StoreFault::Memory => MoveFault::Memory,
         }
     }
 }

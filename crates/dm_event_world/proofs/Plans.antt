@@ -1,7 +1,7 @@
 -- Plans of stores and sets that are set for one call, and fine again.
 use Rattle.std.proofs.Common.{arith, ℕ, List, Result}
 use Rattle.dm_store.specs.Saved.{Replaces}
-use Rattle.dm_store.specs.declared.store.ReplaceFault.{ReplaceFault}
+use Rattle.dm_store.specs.declared.store.StoreFault.{StoreFault}
 use Rattle.dm_store.specs.declared.mem_store.NextSave.{NextSave}
 use Rattle.dm_store.specs.declared.mem_store.NextSave.TheVariants as next_save
 use Rattle.dm_print_ledger.specs.Ledger.{PrinterView}
@@ -10,6 +10,6 @@ use Rattle.dm_event_world.specs.inner.Calls.{planned}
 
 -- a store is ready after a save, however it ended
 pub ready_after : (view mid : PrinterView) (plan : NextSave) (bytes : List ℕ)
-    (answer : Result (Unit {0}) ReplaceFault) → IsReady view.saved →
+    (answer : Result (Unit {0}) StoreFault) → IsReady view.saved →
     Replaces (planned view plan).saved bytes answer mid.saved → IsReady (planned mid next_save.Fine).saved
 ready_after view mid plan bytes answer ready replaced = grind arith

@@ -4,7 +4,7 @@ use Rattle.std.specs.Prelude.{IsOk, IsTrue}
 use Rattle.dm_store.specs.Saved.{Done, Faulted, Follows, HeldAfterFault, Replaces, save_plan_of}
 use Rattle.dm_store.specs.declared.fuse.Kept.{Kept}
 use Rattle.dm_store.specs.declared.fuse.Kept.TheVariants.{Old, New}
-use Rattle.dm_store.specs.declared.store.ReplaceFault.TheVariants as replacing
+use Rattle.dm_store.specs.declared.store.StoreFault.TheVariants as replacing
 use Rattle.dm_store.specs.declared.mem_store.NextSave.{NextSave}
 use Rattle.dm_store.specs.declared.mem_store.NextSave.TheVariants as next_save
 use Rattle.dm_print_ledger.specs.Verdicts.{Carries, Saves as SavesLedger, HoldsLedger, open_verdict}

@@ -1,7 +1,7 @@
 -- What the creation of a printer does to a store.
 use Rattle.std.specs.Prelude.{◌≡◌, ◌⊎◌, ℕ, [], ◌∷◌, None, Result, Ok, Err, IsTrue, IsSome, IfOk, MatchBool}
 use Rattle.dm_store.specs.Saved.{Saved, Replaces, LoadsOpen}
-use Rattle.dm_store.specs.declared.store.ReplaceFault.TheVariants as replacing
+use Rattle.dm_store.specs.declared.store.StoreFault.TheVariants as replacing
 use Rattle.dm_print_ledger.specs.declared.range.Range.{Range}
 use Rattle.dm_print_ledger.specs.declared.fault.CreateFault.{CreateFault}
 use Rattle.dm_print_ledger.specs.declared.fault.CreateFault.TheVariants as creating

@@ -20,7 +20,7 @@ use Rattle.dm_print_ledger.specs.declared.fault.PrintFault.TheVariants as printi
 use Rattle.dm_print_ledger.specs.declared.fault.GiveFault.TheVariants as giving
 use Rattle.dm_print_ledger.specs.declared.fault.TakeFault.TheVariants as taking
 use Rattle.dm_append_label.specs.Labels as label
-use Rattle.dm_store.specs.declared.store.ReplaceFault.TheVariants as replacing
+use Rattle.dm_store.specs.declared.store.StoreFault.TheVariants as replacing
 use Rattle.dm_print_ledger.specs.declared.fault.CreateFault.TheVariants as creating
 use Rattle.dm_print_ledger.specs.declared.fault.OpenFault.TheVariants as opening
 

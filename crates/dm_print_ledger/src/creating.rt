@@ -11,7 +11,7 @@ use crate::limits::MOST_BYTES;
 use crate::printer::Printer;
 use crate::range::{Range, is_range};
 use arrayvec::ArrayVec;
-use dm_store::{LoadFault, ReplaceFault, Store};
+use dm_store::{Store, StoreFault};
 use std::alloc::Allocator;
 
 /// No printer was created: why, and the store.
@@ -81,12 +81,12 @@ fn save_first<S: Store>(store: &mut S, ledger: &Ledger) -> Result<(), CreateFaul
     match store.load(MOST_BYTES) {
         Ok(None) => {}
         Ok(Some(_)) => return Err(CreateFault::Exists),
-        Err(LoadFault::Device) => return Err(CreateFault::Device),
-        Err(LoadFault::Memory) => return Err(CreateFault::Memory),
+        Err(StoreFault::Device) => return Err(CreateFault::Device),
+        Err(StoreFault::Memory) => return Err(CreateFault::Memory),
     }
     match store.replace(bytes_of(ledger).as_slice()) {
         Ok(()) => Ok(()),
-        Err(ReplaceFault::Device) => Err(CreateFault::Device),
-        Err(ReplaceFault::Memory) => Err(CreateFault::Memory),
+        Err(StoreFault::Device) => Err(CreateFault::Device),
+        Err(StoreFault::Memory) => Err(CreateFault::Memory),
     }
 }

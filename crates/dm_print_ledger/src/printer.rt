@@ -5,7 +5,7 @@ ghost use Rattle.std.specs.Prelude.{◌≡◌, ◌≤◌, ◌+◌, false};
 use crate::format::bytes_of;
 use crate::ledger::Ledger;
 use crate::limits::GREATEST;
-use dm_store::{MemStore, NextSave, ReplaceFault, Store};
+use dm_store::{MemStore, NextSave, Store, StoreFault};
 use std::alloc::{Allocator, Global};
 use std::marker::Model;
 
@@ -71,8 +71,8 @@ impl<S: Store, A: Allocator + Copy> Printer<S, A> {
                 self.ledger = next;
                 Ok(())
             }
-            Err(ReplaceFault::Memory) => Err(no_memory),
-            Err(ReplaceFault::Device) => {
+            Err(StoreFault::Memory) => Err(no_memory),
+            Err(StoreFault::Device) => {
                 self.is_failed = true;
                 Err(failed)
             }

@@ -9,7 +9,7 @@ use crate::giver::Giver;
 use crate::ledger::Ledger;
 use crate::limits::MOST_BYTES;
 use crate::range::Range;
-use dm_store::{LoadFault, Store};
+use dm_store::{Store, StoreFault};
 use std::marker::Model;
 
 /// What a store holds of a printer, to be looked at: nothing is saved by it, and no printer goes on with it.
@@ -50,8 +50,8 @@ impl Shown {
         match store.load(MOST_BYTES) {
             Ok(None) => Err(OpenFault::Absent),
             Ok(Some(bytes)) => shown_in(bytes.as_slice()),
-            Err(LoadFault::Device) => Err(OpenFault::Device),
-            Err(LoadFault::Memory) => Err(OpenFault::Memory),
+            Err(StoreFault::Device) => Err(OpenFault::Device),
+            Err(StoreFault::Memory) => Err(OpenFault::Memory),
         }
     }
 

@@ -3,8 +3,7 @@
 use Rattle.std.specs.Prelude.{◌≡◌, ◌≢◌, ◌+◌, ◌⊎◌, ◌++◌, ℕ, Bool, List, take, codes, Option, None, Some, option_map, Result, IsOk, IsErr, IfOk, ◌<◌, ◌/◌, ◌%◌, ◌^◌, zero, suc, false, true, [], ◌∷◌, if◌then◌else◌, ⊤}
 use Rattle.std.specs.Fmt.{digit_glyph}
 use Rattle.std.specs.FinMap as map
-use Rattle.dm_store.specs.declared.disk.DiskFault.{DiskFault}
-use Rattle.dm_store.specs.declared.store.LoadFault.{LoadFault}
+use Rattle.dm_store.specs.declared.store.StoreFault.{StoreFault}
 use Rattle.dm_store.specs.Saved.{LoadsOpen, SavesOpen, Saved, Contents, SavedSet}
 
 -- the bytes of the file under a name, or None where no file is
@@ -30,20 +29,20 @@ abbrev pub KeepsAll : DiskState → DiskState → Type 0
 KeepsAll old new = (name : List ℕ) → Keeps old name new
 
 -- A read under this name, up to the byte after the limit. `bytes` gives the list in what was read.
-abbrev pub Reads : {V : Type 0} → (V → List ℕ) → DiskState → List ℕ → ℕ → Result (Option V) LoadFault → Type 0
+abbrev pub Reads : {V : Type 0} → (V → List ℕ) → DiskState → List ℕ → ℕ → Result (Option V) StoreFault → Type 0
 Reads bytes old name limit answer =
     IfOk answer (λ read. option_map bytes read ≡ option_map (take (limit + 1)) (old.seen name))
 
 -- A file is made under the name, in place of the one that is there, and the bytes are written to it. Nothing is said of
 -- what a stop may leave there, nor of what a write that fails leaves.
-pub record Writes (old : DiskState) (name bytes : List ℕ) (answer : Result (Unit {0}) DiskFault) (new : DiskState)
+pub record Writes (old : DiskState) (name bytes : List ℕ) (answer : Result (Unit {0}) StoreFault) (new : DiskState)
     : Type 0 where
   pub others : (other : List ℕ) → other ≢ name → Keeps old other new
   pub done : IsOk answer → new.seen name ≡ Some bytes
 
 -- The bytes of the file are brought to the disk. The file's entry in its folder is not: what a stop may leave under the
 -- name is as before. A sync that fails may lose what was written, unless it was on the disk before.
-pub record Syncs (old : DiskState) (name : List ℕ) (answer : Result (Unit {0}) DiskFault)
+pub record Syncs (old : DiskState) (name : List ℕ) (answer : Result (Unit {0}) StoreFault)
     (new : DiskState) : Type 0 where
   pub others : (other : List ℕ) → other ≢ name → Keeps old other new
   pub kept : IsOk answer ⊎ old.is_synced name → Keeps old name new
@@ -51,7 +50,7 @@ pub record Syncs (old : DiskState) (name : List ℕ) (answer : Result (Unit {0})
 
 -- The file gets another name, in place of the file that had it. If its bytes are on the disk, a stop leaves under the
 -- new name what it left before, or these bytes; if they are not, nothing is said. Nothing is said of the old name.
-pub record Renames (old : DiskState) (from to : List ℕ) (answer : Result (Unit {0}) DiskFault) (new : DiskState)
+pub record Renames (old : DiskState) (from to : List ℕ) (answer : Result (Unit {0}) StoreFault) (new : DiskState)
     : Type 0 where
   pub others : (other : List ℕ) → other ≢ from → other ≢ to → Keeps old other new
   pub done : IsOk answer → new.seen to ≡ old.seen from
@@ -60,18 +59,23 @@ pub record Renames (old : DiskState) (from to : List ℕ) (answer : Result (Unit
   pub left : old.is_synced from
       → (content : Content) → new.may_leave to content → old.may_leave to content ⊎ (content ≡ old.seen from)
 
--- No file has the name any longer. A stop leaves under it what it left before, or no file.
-pub record Removes (old : DiskState) (name : List ℕ) {F : Type 0} (answer : Result (Unit {0}) F) (new : DiskState)
-    : Type 0 where
-  pub others : (other : List ℕ) → other ≢ name → Keeps old other new
-  pub done : IsOk answer → new.seen name ≡ None
-  pub failed : IsErr answer → (new.seen name ≡ old.seen name) ⊎ (new.seen name ≡ None)
+-- This content is put under the name: bytes, or no file. A stop leaves there what it left before, or this content. Of
+-- a draft nothing is said.
+pub record Puts (old : DiskState) (name draft : List ℕ) (wanted : Content) (answer : Result (Unit {0}) StoreFault)
+    (new : DiskState) : Type 0 where
+  pub others : (other : List ℕ) → other ≢ name → other ≢ draft → Keeps old other new
+  pub done : IsOk answer → new.seen name ≡ wanted
+  pub failed : IsErr answer → (new.seen name ≡ old.seen name) ⊎ (new.seen name ≡ wanted)
   pub synced : IsOk answer ⊎ old.is_synced name → new.is_synced name
-  pub left : (content : Content) → new.may_leave name content → old.may_leave name content ⊎ (content ≡ None)
+  pub left : (content : Content) → new.may_leave name content → old.may_leave name content ⊎ (content ≡ wanted)
+
+-- no file has the name any longer
+abbrev pub Removes : DiskState → List ℕ → Result (Unit {0}) StoreFault → DiskState → Type 0
+Removes old name answer new = Puts old name name None answer new
 
 -- The entry of the name in its folder is brought to the disk, or the want of one. If the file's bytes are there too, a
 -- stop then leaves just what a reader finds.
-pub record SyncsEntry (old : DiskState) (name : List ℕ) (answer : Result (Unit {0}) DiskFault) (new : DiskState)
+pub record SyncsEntry (old : DiskState) (name : List ℕ) (answer : Result (Unit {0}) StoreFault) (new : DiskState)
     : Type 0 where
   pub done : IsOk answer → old.is_synced name
       → (content : Content) → new.may_leave name content → content ≡ old.seen name
@@ -80,23 +84,12 @@ pub record SyncsEntry (old : DiskState) (name : List ℕ) (answer : Result (Unit
 abbrev pub IsSettled : DiskState → List ℕ → Type 0
 IsSettled disk name = (content : Content) → disk.may_leave name content → content ≡ disk.seen name
 
--- A save of these bytes under a name by way of a draft, done or not. A stop after it, or in it, leaves what it might
--- have left before, or these bytes; and once the save is done, these bytes alone. No third name is touched.
-pub record SavesFile (old : DiskState) (name draft bytes : List ℕ) {F : Type 0} (answer : Result (Unit {0}) F)
+-- A save of this content under a name by way of a draft, or a remove, done or not. A stop in it, or after it, leaves
+-- what it might have left before, or this content; and once it is done, this content alone. No third name is touched.
+pub record SavesFile (old : DiskState) (name draft : List ℕ) (wanted : Content) (answer : Result (Unit {0}) StoreFault)
     (new : DiskState) : Type 0 where
-  pub others : (other : List ℕ) → other ≢ name → other ≢ draft → Keeps old other new
-  pub done : IsOk answer → new.seen name ≡ Some bytes
-  pub failed : IsErr answer → (new.seen name ≡ old.seen name) ⊎ (new.seen name ≡ Some bytes)
-  pub left : (content : Content) → new.may_leave name content → old.may_leave name content ⊎ (content ≡ Some bytes)
-  pub lasting : IsOk answer → (content : Content) → new.may_leave name content → content ≡ Some bytes
-  pub synced : IsOk answer ⊎ old.is_synced name → new.is_synced name
-
--- A remove of the file under a name, done or not. A stop after it, or in it, leaves what it might have left before, or
--- no file; and once the remove is done, no file.
-pub record RemovesFile (old : DiskState) (name : List ℕ) {F : Type 0} (answer : Result (Unit {0}) F) (new : DiskState)
-    : Type 0 where
-  pub removes : Removes old name answer new
-  pub lasting : IsOk answer → (content : Content) → new.may_leave name content → content ≡ None
+  pub puts : Puts old name draft wanted answer new
+  pub lasting : IsOk answer → (content : Content) → new.may_leave name content → content ≡ wanted
 
 -- the name of the draft that a save under this name is written to first
 abbrev pub draft_of : List ℕ → List ℕ
@@ -118,7 +111,7 @@ key_path folder key = path_in folder (key_name key)
 
 -- The entries of a folder are brought to the disk. If the bytes of a key's file are there too, a stop then leaves just
 -- what a reader finds.
-abbrev pub SettlesFolder : DiskState → List ℕ → Result (Unit {0}) DiskFault → DiskState → Type 0
+abbrev pub SettlesFolder : DiskState → List ℕ → Result (Unit {0}) StoreFault → DiskState → Type 0
 SettlesFolder old folder answer new = IsOk answer → (key : ℕ) → key < 2 ^ 16 → old.is_synced (key_path folder key)
     → (content : Content) → new.may_leave (key_path folder key) content → content ≡ old.seen (key_path folder key)
 

@@ -2,14 +2,10 @@
 use Rattle.std.specs.Prelude.{◌≡◌, ◌+◌, ◌⊎◌, ℕ, Bool, List, take, Option, Some, option_map, Result, Ok, Err, IfOk, IsErrOf, IsTrue, None, IsErr, IsSome, true, false}
 use Rattle.std.specs.Ordering.{nat_cmp}
 use Rattle.std.specs.FinMap as map
-use Rattle.dm_store.specs.declared.store.LoadFault.{LoadFault}
-use Rattle.dm_store.specs.declared.store.ReplaceFault.{ReplaceFault}
-use Rattle.dm_store.specs.declared.set.RemoveFault.{RemoveFault}
+use Rattle.dm_store.specs.declared.store.StoreFault.{StoreFault}
+use Rattle.dm_store.specs.declared.store.StoreFault.TheVariants as faults
 use Rattle.dm_store.specs.declared.mem_store.NextSave.{NextSave}
 use Rattle.dm_store.specs.declared.mem_store.NextSave.TheVariants as nexts
-use Rattle.dm_store.specs.declared.store.LoadFault.TheVariants as loading
-use Rattle.dm_store.specs.declared.store.ReplaceFault.TheVariants as replacing
-use Rattle.dm_store.specs.declared.set.RemoveFault.TheVariants as removing
 
 -- what loads may do: none of them meets a device fault, or each of them may
 pub data LoadPlan : Type 0 where
@@ -45,23 +41,23 @@ Saved = SavedIn (Option (List ℕ))
 
 -- Before and after a load, and its answer. `seen` gives what contracts see of what was loaded: of one that is honest,
 -- this.
-pub record Gives {X V W : Type 0} (seen : V → W) (old : SavedIn X) (wanted : W) (answer : Result V LoadFault)
+pub record Gives {X V W : Type 0} (seen : V → W) (old : SavedIn X) (wanted : W) (answer : Result V StoreFault)
     (new : SavedIn X) : Type 0 where
   pub same : new ≡ old
   pub saved : IsTrue old.is_honest → IfOk answer (λ given. seen given ≡ wanted)
-  pub device : IsErrOf answer loading.Device → old.load_plan ≡ LoadsOpen
-  pub memory : IsErrOf answer loading.Memory → IsTrue old.may_lack_memory
+  pub device : IsErrOf answer faults.Device → old.load_plan ≡ LoadsOpen
+  pub memory : IsErrOf answer faults.Memory → IsTrue old.may_lack_memory
 
 -- The store before and after a load under this limit, and its answer. `bytes` gives the list in what was loaded.
-abbrev pub Loads : {V : Type 0} → (V → List ℕ) → Saved → ℕ → Result (Option V) LoadFault → Saved → Type 0
+abbrev pub Loads : {V : Type 0} → (V → List ℕ) → Saved → ℕ → Result (Option V) StoreFault → Saved → Type 0
 Loads bytes old limit answer new =
     Gives (option_map bytes) old (option_map (take (limit + 1)) old.content) answer new
 
--- how a replace ended
-abbrev pub outcome_of : Result (Unit {0}) ReplaceFault → Outcome
+-- how a replace or a remove ended
+abbrev pub outcome_of : Result (Unit {0}) StoreFault → Outcome
 outcome_of (Ok _) = Done
-outcome_of (Err replacing.Device) = Faulted
-outcome_of (Err replacing.Memory) = Refused
+outcome_of (Err faults.Device) = Faulted
+outcome_of (Err faults.Memory) = Refused
 
 -- the plan allows this end of a save, and goes on to the next plan
 abbrev pub Follows : SavePlan → Outcome → SavePlan → Type 0
@@ -98,12 +94,12 @@ pub record Saves {X : Type 0} (old : SavedIn X) (content : X) (outcome : Outcome
   pub faulted : outcome ≡ Faulted → IsTrue old.is_honest → HeldAfterFault old.save_plan old.content content new.content
 
 -- the store before and after a replace by these bytes, and its answer
-abbrev pub Replaces : Saved → List ℕ → Result (Unit {0}) ReplaceFault → Saved → Type 0
+abbrev pub Replaces : Saved → List ℕ → Result (Unit {0}) StoreFault → Saved → Type 0
 Replaces old bytes answer new = Saves old (Some bytes) (outcome_of answer) new
 
 -- a call was refused for lack of memory only if those of this store or set may be
-abbrev pub MayLackMemory : {X : Type 0} → SavedIn X → Result (Unit {0}) ReplaceFault → Type 0
-MayLackMemory saved answer = IsErrOf answer replacing.Memory → IsTrue saved.may_lack_memory
+abbrev pub MayLackMemory : {X : Type 0} → SavedIn X → Result (Unit {0}) StoreFault → Type 0
+MayLackMemory saved answer = IsErrOf answer faults.Memory → IsTrue saved.may_lack_memory
 
 -- the saved bytes of each key that has any
 abbrev pub Contents : Type 0
@@ -114,37 +110,31 @@ abbrev pub SavedSet : Type 0
 SavedSet = SavedIn Contents
 
 -- The set before and after a call for its keys under this limit, and its answer. `keys` gives the list in the answer.
-abbrev pub ListsKeys : {V : Type 0} → (V → List ℕ) → SavedSet → ℕ → Result V LoadFault → SavedSet → Type 0
+abbrev pub ListsKeys : {V : Type 0} → (V → List ℕ) → SavedSet → ℕ → Result V StoreFault → SavedSet → Type 0
 ListsKeys keys old limit answer new = Gives keys old (take (limit + 1) (map.keys old.content)) answer new
 
 -- The set before and after a load of this key, and its answer. `bytes` gives the list in what was loaded.
-abbrev pub LoadsKey : {V : Type 0} → (V → List ℕ) → SavedSet → ℕ → ℕ → Result (Option V) LoadFault → SavedSet → Type 0
+abbrev pub LoadsKey : {V : Type 0} → (V → List ℕ) → SavedSet → ℕ → ℕ → Result (Option V) StoreFault → SavedSet → Type 0
 LoadsKey bytes old key limit answer new =
     Gives (option_map bytes) old (option_map (take (limit + 1)) (map.get old.content key)) answer new
 
 -- The set before and after what was loaded is settled, and the answer: it may fail where a load may.
-abbrev pub Settles : SavedSet → Result (Unit {0}) LoadFault → SavedSet → Type 0
+abbrev pub Settles : SavedSet → Result (Unit {0}) StoreFault → SavedSet → Type 0
 Settles old answer new = Gives (λ done. done) old tt answer new
 
 -- the set before and after a save of one key's bytes, and its answer
-abbrev pub SavesKey : SavedSet → ℕ → List ℕ → Result (Unit {0}) ReplaceFault → SavedSet → Type 0
+abbrev pub SavesKey : SavedSet → ℕ → List ℕ → Result (Unit {0}) StoreFault → SavedSet → Type 0
 SavesKey old key bytes answer new = Saves old (map.insert old.content key bytes) (outcome_of answer) new
-
--- how a remove ended
-abbrev pub outcome_of_remove : Result (Unit {0}) RemoveFault → Outcome
-outcome_of_remove (Ok _) = Done
-outcome_of_remove (Err removing.Device) = Faulted
-outcome_of_remove (Err removing.Memory) = Refused
 
 -- The set before and after a remove of one key, and its answer. If the key isn't there nothing changes, nor do the
 -- plans, and only an open plan of saves allows a fault, that of the device.
 pub record RemovesKey
-    (old : SavedSet) (key : ℕ) (answer : Result (Unit {0}) RemoveFault) (new : SavedSet) : Type 0 where
-  pub there : IsSome (map.get old.content key) → Saves old (map.remove old.content key) (outcome_of_remove answer) new
+    (old : SavedSet) (key : ℕ) (answer : Result (Unit {0}) StoreFault) (new : SavedSet) : Type 0 where
+  pub there : IsSome (map.get old.content key) → Saves old (map.remove old.content key) (outcome_of answer) new
   pub absent : map.get old.content key ≡ None → new ≡ old
   pub absent_done : map.get old.content key ≡ None → IsErr answer
-      → (answer ≡ Err removing.Device) × (old.save_plan ≡ SavesOpen)
-  pub memory : IsErrOf answer removing.Memory → IsTrue old.may_lack_memory
+      → (answer ≡ Err faults.Device) × (old.save_plan ≡ SavesOpen)
+  pub memory : IsErrOf answer faults.Memory → IsTrue old.may_lack_memory
 
 -- the plans that the settings of a store or a set in memory stand for
 abbrev pub load_plan_of : Bool → LoadPlan

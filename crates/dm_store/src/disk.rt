@@ -2,39 +2,8 @@
 
 ghost use Rattle.std.specs.Prelude.{◌≡◌, ℕ, List, IsTrue, IsErrOf};
 
-use crate::store::LoadFault;
-use std::alloc::{AllocError, Allocator};
-use thiserror::Error;
-
-/// Why a call of a disk was not done.
-#[derive(Clone, Copy, Debug, PartialEq, Eq, Error)]
-pub enum DiskFault {
-    /// The disk did not do what it was asked, or it can't be known whether it did.
-    #[error("the device failed")]
-    Device,
-    /// There was no memory for the call, and nothing was changed.
-    #[error("out of memory")]
-    Memory,
-}
-
-impl From<AllocError> for DiskFault {
-    ghost use Rattle.dm_store.specs.declared.disk.DiskFault.TheVariants.{Memory};
-
-    ghost from_gives = { λ _ fault. fault ≡ Memory };
-
-    fn from(_: AllocError) -> Self {
-        DiskFault::Memory
-    }
-}
-
-impl From<DiskFault> for LoadFault {
-    fn from(fault: DiskFault) -> Self {
-        match fault {
-            DiskFault::Device => LoadFault::Device,
-            DiskFault::Memory => LoadFault::Memory,
-        }
-    }
-}
+use crate::store::StoreFault;
+use std::alloc::Allocator;
 
 /// The calls of a file system that a save needs. Each may fail. Once the machine has stopped, within a call or between
 /// two, each later call fails and changes nothing.
@@ -49,47 +18,51 @@ pub trait Disk: Drop {
 
     /// The bytes of the file under a name, or their first `limit + 1` if they are longer, or `None` if no file is
     /// there.
-    fn read(&mut self, name: &str, limit: usize) -> Result<Option<Vec<u8, Self::Memory>>, LoadFault>
+    fn read(
+        &mut self,
+        name: &str,
+        limit: usize,
+    ) -> Result<Option<Vec<u8, Self::Memory>>, StoreFault>
         ensures honesty { (state self.new).is_honest ≡ (state self.old).is_honest }
         ensures kept { KeepsAll (state self.old) (state self.new) }
         ensures reads { IsTrue (state self.old).is_honest
             → Reads (λ bytes. bytes.items) (state self.old) name.now limit result };
 
     /// Makes a file under the name, in place of what is there, and writes the bytes to it.
-    fn write(&mut self, name: &str, bytes: &[u8]) -> Result<(), DiskFault>
+    fn write(&mut self, name: &str, bytes: &[u8]) -> Result<(), StoreFault>
         ensures honesty { (state self.new).is_honest ≡ (state self.old).is_honest }
-        ensures refused { IsErrOf result DiskFault.Memory → KeepsAll (state self.old) (state self.new) }
+        ensures refused { IsErrOf result StoreFault.Memory → KeepsAll (state self.old) (state self.new) }
         ensures writes { IsTrue (state self.old).is_honest
             → Writes (state self.old) name.now bytes.now result (state self.new) };
 
     /// Brings the bytes of the file to the disk. A sync that fails may lose those that were not there before.
-    fn sync(&mut self, name: &str) -> Result<(), DiskFault>
+    fn sync(&mut self, name: &str) -> Result<(), StoreFault>
         ensures honesty { (state self.new).is_honest ≡ (state self.old).is_honest }
         ensures syncs { IsTrue (state self.old).is_honest
             → Syncs (state self.old) name.now result (state self.new) };
 
     /// Gives the file under `from` the name `to`, in place of the file that had it.
-    fn rename(&mut self, from: &str, to: &str) -> Result<(), DiskFault>
+    fn rename(&mut self, from: &str, to: &str) -> Result<(), StoreFault>
         ensures honesty { (state self.new).is_honest ≡ (state self.old).is_honest }
         ensures renames { IsTrue (state self.old).is_honest
             → Renames (state self.old) from.now to.now result (state self.new) };
 
     /// Takes the name away from the file that has it. It is done, too, if no file has it.
-    fn remove(&mut self, name: &str) -> Result<(), DiskFault>
+    fn remove(&mut self, name: &str) -> Result<(), StoreFault>
         ensures honesty { (state self.new).is_honest ≡ (state self.old).is_honest }
         ensures removes { IsTrue (state self.old).is_honest
             → Removes (state self.old) name.now result (state self.new) };
 
     /// Brings the entry of the name in its folder to the disk, or the want of one. The folder's own entry is not
     /// brought there.
-    fn sync_entry(&mut self, name: &str) -> Result<(), DiskFault>
+    fn sync_entry(&mut self, name: &str) -> Result<(), StoreFault>
         ensures honesty { (state self.new).is_honest ≡ (state self.old).is_honest }
         ensures kept { KeepsAll (state self.old) (state self.new) }
         ensures syncs { IsTrue (state self.old).is_honest
             → SyncsEntry (state self.old) name.now result (state self.new) };
 
     /// The same for what a reader found, which a file system that can't sync folders keeps as it can: that is no fault.
-    fn settle_entry(&mut self, name: &str) -> Result<(), DiskFault>
+    fn settle_entry(&mut self, name: &str) -> Result<(), StoreFault>
         ensures honesty { (state self.new).is_honest ≡ (state self.old).is_honest }
         ensures kept { KeepsAll (state self.old) (state self.new) }
         ensures syncs { IsTrue (state self.old).is_honest
@@ -107,13 +80,13 @@ pub trait Folders: Disk {
 
     /// Makes the folder, if it isn't there, and brings its entry in the folder above it to the disk in either case.
     /// What is said of the files in it rests on that.
-    fn make_folder(&mut self, folder: &str) -> Result<(), DiskFault>
+    fn make_folder(&mut self, folder: &str) -> Result<(), StoreFault>
         ensures honesty { (Self.state self.new).is_honest ≡ (Self.state self.old).is_honest }
         ensures kept { KeepsAll (Self.state self.old) (Self.state self.new) };
 
     /// The keys that have a file in the folder, rising: all, or the first `limit + 1` where there are more. A folder
     /// that isn't there has none.
-    fn keys(&mut self, folder: &str, limit: usize) -> Result<Vec<u16, Self::Memory>, LoadFault>
+    fn keys(&mut self, folder: &str, limit: usize) -> Result<Vec<u16, Self::Memory>, StoreFault>
         ensures honesty { (Self.state self.new).is_honest ≡ (Self.state self.old).is_honest }
         ensures kept { KeepsAll (Self.state self.old) (Self.state self.new) }
         ensures lists { IsTrue (Self.state self.old).is_honest → IfOk result (λ keys.
@@ -121,7 +94,7 @@ pub trait Folders: Disk {
 
     /// Settles the entries of the files of all keys in the folder, as [`Disk::settle_entry`] does with one. A folder
     /// that isn't there has none.
-    fn settle_folder(&mut self, folder: &str) -> Result<(), DiskFault>
+    fn settle_folder(&mut self, folder: &str) -> Result<(), StoreFault>
         ensures honesty { (Self.state self.new).is_honest ≡ (Self.state self.old).is_honest }
         ensures kept { KeepsAll (Self.state self.old) (Self.state self.new) }
         ensures settles { IsTrue (Self.state self.old).is_honest

@@ -1,61 +1,67 @@
 //! A set of stores in a folder of a disk, with a file for each key.
 
-ghost use Rattle.std.specs.Prelude.{◌≡◌, ◌<◌, ◌≢◌, ◌^◌, ℕ, Err, IsErr, IsOk, IsErrOf, IsTrue};
-ghost use Rattle.dm_store.specs.Disk.{Keeps, KeepsAll, SavesFile, RemovesFile, IsSettled, draft_of, key_path};
+ghost use Rattle.std.specs.Prelude.{◌≡◌, ◌<◌, ◌≢◌, ◌^◌, ℕ, None, Some, Err, IsErr, IsOk, IsErrOf, IsTrue};
+ghost use Rattle.dm_store.specs.Disk.{Keeps, KeepsAll, SavesFile, IsSettled, draft_of, key_path};
 
 use crate::disk::{Disk, Folders};
 use crate::file_store::{remove_file, replace_file};
-use crate::filed::Filed;
-use crate::files::new_path_of;
-use crate::key_files::path_of;
-use crate::set::{RemoveFault, StoreSet};
-use crate::store::{LoadFault, ReplaceFault};
+use crate::filed::{AtFolder, Filed};
+use crate::key_files::{path_of, with_end};
+use crate::set::StoreSet;
+use crate::store::StoreFault;
 use std::alloc::Allocator;
 
+// Makes the folder, unless that was done.
+fn make_once<D: Folders>(disk: &mut D, is_made: &mut bool, folder: &str) -> Result<(), StoreFault>
+    ensures honesty { (D.state disk.new).is_honest ≡ (D.state disk.old).is_honest }
+    ensures kept { KeepsAll (D.state disk.old) (D.state disk.new) }
+{
+    if !*is_made {
+        disk.make_folder(folder)?;
+        *is_made = true;
+    }
+    Ok(())
+}
+
 // Puts the bytes into the file of a key, in a folder that is there then.
-fn replace_key<D: Folders, A: Allocator + Copy>(
-    alloc: A,
+fn replace_key<D: Folders>(
     disk: &mut D,
+    is_made: &mut bool,
     folder: &str,
     key: u16,
     bytes: &[u8],
-) -> Result<(), ReplaceFault>
+) -> Result<(), StoreFault>
     ensures honesty { (D.state disk.new).is_honest ≡ (D.state disk.old).is_honest }
-    ensures refused { IsErrOf result ReplaceFault.Memory → KeepsAll (D.state disk.old) (D.state disk.new) }
+    ensures refused { IsErrOf result StoreFault.Memory → KeepsAll (D.state disk.old) (D.state disk.new) }
     ensures saves { IsTrue (D.state disk.old).is_honest
-        → SavesFile (D.state disk.old) (key_path folder.now key) (draft_of (key_path folder.now key)) bytes.now result
-        (D.state disk.new) }
+        → SavesFile (D.state disk.old) (key_path folder.now key) (draft_of (key_path folder.now key)) (Some bytes.now)
+        result (D.state disk.new) }
 {
-    let path = path_of(alloc, folder, key)?;
-    let new_path = new_path_of(alloc, path.as_str())?;
-    if disk.make_folder(folder).is_err() {
-        return Err(ReplaceFault::Device);
-    }
-    replace_file(disk, path.as_str(), new_path.as_str(), bytes)
+    let path = path_of(folder, key)?;
+    let draft = with_end(path.as_str(), ".new")?;
+    make_once(disk, is_made, folder)?;
+    replace_file(disk, path.as_str(), draft.as_str(), bytes)
 }
 
 // Takes the file of a key away.
-fn remove_key<D: Disk, A: Allocator + Copy>(
-    alloc: A,
-    disk: &mut D,
-    folder: &str,
-    key: u16,
-) -> Result<(), RemoveFault>
+fn remove_key<D: Disk>(disk: &mut D, folder: &str, key: u16) -> Result<(), StoreFault>
     ensures honesty { (D.state disk.new).is_honest ≡ (D.state disk.old).is_honest }
-    ensures device { IsErr result → result ≡ Err RemoveFault.Device }
+    ensures device { IsErr result → result ≡ Err StoreFault.Device }
     ensures removes { IsTrue (D.state disk.old).is_honest
-        → RemovesFile (D.state disk.old) (key_path folder.now key) result (D.state disk.new) }
+        → SavesFile (D.state disk.old) (key_path folder.now key) (draft_of (key_path folder.now key)) None result
+        (D.state disk.new) }
+    ensures no_draft { IsTrue (D.state disk.old).is_honest → IsOk result
+        → (D.state disk.new).seen (draft_of (key_path folder.now key)) ≡ None }
 {
-    let Ok(path) = path_of(alloc, folder, key) else {
-        return Err(RemoveFault::Device);
-    };
-    match remove_file(disk, path.as_str()) {
+    let path = path_of(folder, key)?;
+    let draft = with_end(path.as_str(), ".new")?;
+    match remove_file(disk, path.as_str(), draft.as_str()) {
         Ok(()) => Ok(()),
-        Err(_) => Err(RemoveFault::Device),
+        Err(_) => Err(StoreFault::Device),
     }
 }
 
-impl<D: Folders, A: Allocator + Copy> StoreSet for Filed<D, A> {
+impl<D: Folders, A: Allocator> StoreSet for Filed<D, AtFolder, A> {
     ghost use Rattle.dm_store.specs.Saved.{ListsKeys, LoadsKey, Settles, SavesKey, RemovesKey, MayLackMemory};
     ghost use Rattle.dm_store.specs.Disk.{set_in};
 
@@ -63,7 +69,7 @@ impl<D: Folders, A: Allocator + Copy> StoreSet for Filed<D, A> {
 
     ghost state = { λ f. set_in (D.state f.disk) f.path };
 
-    fn keys(&mut self, limit: usize) -> Result<Vec<u16, D::Memory>, LoadFault>
+    fn keys(&mut self, limit: usize) -> Result<Vec<u16, D::Memory>, StoreFault>
         ensures lists { ListsKeys (λ keys. keys.items)
             (set_in (D.state self.old.disk) self.old.path) limit result
             (set_in (D.state self.new.disk) self.new.path) }
@@ -73,18 +79,18 @@ impl<D: Folders, A: Allocator + Copy> StoreSet for Filed<D, A> {
         self.disk.keys(self.path.as_str(), limit)
     }
 
-    fn load(&mut self, key: u16, limit: usize) -> Result<Option<Vec<u8, D::Memory>>, LoadFault>
+    fn load(&mut self, key: u16, limit: usize) -> Result<Option<Vec<u8, D::Memory>>, StoreFault>
         ensures loads { LoadsKey (λ bytes. bytes.items)
             (set_in (D.state self.old.disk) self.old.path) key limit result
             (set_in (D.state self.new.disk) self.new.path) }
         ensures folder { self.new.path ≡ self.old.path }
         ensures kept { KeepsAll (D.state self.old.disk) (D.state self.new.disk) }
     {
-        let path = path_of(self.alloc, self.path.as_str(), key)?;
+        let path = path_of(self.path.as_str(), key)?;
         self.disk.read(path.as_str(), limit)
     }
 
-    fn settle(&mut self) -> Result<(), LoadFault>
+    fn settle(&mut self) -> Result<(), StoreFault>
         ensures settles { Settles (set_in (D.state self.old.disk) self.old.path) result
             (set_in (D.state self.new.disk) self.new.path) }
         ensures folder { self.new.path ≡ self.old.path }
@@ -94,42 +100,44 @@ impl<D: Folders, A: Allocator + Copy> StoreSet for Filed<D, A> {
             → (D.state self.old.disk).is_synced (key_path self.old.path key)
             → IsSettled (D.state self.new.disk) (key_path self.new.path key) }
     {
-        self.disk
-            .settle_folder(self.path.as_str())
-            .map_err(LoadFault::from)
+        self.disk.settle_folder(self.path.as_str())
     }
 
-    fn replace(&mut self, key: u16, bytes: &[u8]) -> Result<(), ReplaceFault>
+    fn replace(&mut self, key: u16, bytes: &[u8]) -> Result<(), StoreFault>
         ensures replaces { SavesKey (set_in (D.state self.old.disk) self.old.path) key bytes.now
             result (set_in (D.state self.new.disk) self.new.path) }
         ensures memory { MayLackMemory (set_in (D.state self.old.disk) self.old.path) result }
         ensures folder { self.new.path ≡ self.old.path }
-        ensures refused { IsErrOf result ReplaceFault.Memory
+        ensures refused { IsErrOf result StoreFault.Memory
             → KeepsAll (D.state self.old.disk) (D.state self.new.disk) }
         // Whenever the machine stops, in this save or after it, the old content of the key is left or the new, and the
         // new once it is done. No file but the key's and its draft is touched.
         ensures saves { IsTrue (D.state self.old.disk).is_honest
             → SavesFile (D.state self.old.disk) (key_path self.old.path key)
-            (draft_of (key_path self.old.path key)) bytes.now result (D.state self.new.disk) }
+            (draft_of (key_path self.old.path key)) (Some bytes.now) result (D.state self.new.disk) }
         ensures others { IsTrue (D.state self.old.disk).is_honest → (other : ℕ) → other < 2 ^ 16 → other ≢ key
             → Keeps (D.state self.old.disk) (key_path self.old.path other) (D.state self.new.disk) }
     {
-        replace_key(self.alloc, &mut self.disk, self.path.as_str(), key, bytes)
+        let is_made = &mut self.kind.is_made;
+        replace_key(&mut self.disk, is_made, self.path.as_str(), key, bytes)
     }
 
-    fn remove(&mut self, key: u16) -> Result<(), RemoveFault>
+    fn remove(&mut self, key: u16) -> Result<(), StoreFault>
         ensures removes { RemovesKey (set_in (D.state self.old.disk) self.old.path) key result
             (set_in (D.state self.new.disk) self.new.path) }
         ensures folder { self.new.path ≡ self.old.path }
         // It is never refused for lack of memory.
-        ensures device { IsErr result → result ≡ Err RemoveFault.Device }
+        ensures device { IsErr result → result ≡ Err StoreFault.Device }
         // Whenever the machine stops, in this remove or after it, the old content of the key is left or none, and none
-        // once it is done. No file but the key's is touched.
+        // once it is done. No file but the key's and its draft is touched.
         ensures file { IsTrue (D.state self.old.disk).is_honest
-            → RemovesFile (D.state self.old.disk) (key_path self.old.path key) result (D.state self.new.disk) }
+            → SavesFile (D.state self.old.disk) (key_path self.old.path key)
+            (draft_of (key_path self.old.path key)) None result (D.state self.new.disk) }
+        ensures no_draft { IsTrue (D.state self.old.disk).is_honest → IsOk result
+            → (D.state self.new.disk).seen (draft_of (key_path self.old.path key)) ≡ None }
         ensures others { IsTrue (D.state self.old.disk).is_honest → (other : ℕ) → other < 2 ^ 16 → other ≢ key
             → Keeps (D.state self.old.disk) (key_path self.old.path other) (D.state self.new.disk) }
     {
-        remove_key(self.alloc, &mut self.disk, self.path.as_str(), key)
+        remove_key(&mut self.disk, self.path.as_str(), key)
     }
 }

@@ -1,62 +1,76 @@
 //! A store in a file of a disk.
 
-ghost use Rattle.std.specs.Prelude.{◌≡◌, ◌≢◌, ℕ, List, Some, IfOk, IsErrOf, IsSome, IsTrue};
-ghost use Rattle.dm_store.specs.Disk.{KeepsAll, SavesFile, RemovesFile, IsSettled, draft_of};
+ghost use Rattle.std.specs.Prelude.{◌≡◌, ◌≢◌, ℕ, List, None, Some, Err, IfOk, IsOk, IsErrOf, IsSome, IsTrue};
+ghost use Rattle.dm_store.specs.Disk.{Keeps, KeepsAll, SavesFile, IsSettled, draft_of};
 
-use crate::disk::{Disk, DiskFault};
-use crate::filed::Filed;
-use crate::files::new_path_of;
-use crate::store::{LoadFault, ReplaceFault, Store};
+use crate::disk::Disk;
+use crate::filed::{AtFile, Filed};
+use crate::key_files::with_end;
+use crate::store::{Store, StoreFault};
 use std::alloc::Allocator;
 
-// Puts the file at `new_path`, which was just written, in the place of the file at `path`.
-fn put_in_place<D: Disk>(disk: &mut D, path: &str, new_path: &str) -> Result<(), DiskFault>
-    requires { path.now ≢ new_path.now }
+// Puts the draft, which was just written, in the place of the file at `path`.
+fn put_in_place<D: Disk>(disk: &mut D, path: &str, draft: &str) -> Result<(), StoreFault>
+    requires { path.now ≢ draft.now }
     ensures honesty { (D.state disk.new).is_honest ≡ (D.state disk.old).is_honest }
     ensures saves { IsTrue (D.state disk.old).is_honest
-        → (bytes : List ℕ) → (D.state disk.old).seen new_path.now ≡ Some bytes
-        → SavesFile (D.state disk.old) path.now new_path.now bytes result (D.state disk.new) }
+        → (bytes : List ℕ) → (D.state disk.old).seen draft.now ≡ Some bytes
+        → SavesFile (D.state disk.old) path.now draft.now (Some bytes) result (D.state disk.new) }
 {
-    disk.sync(new_path)?;
-    disk.rename(new_path, path)?;
+    disk.sync(draft)?;
+    disk.rename(draft, path)?;
     disk.sync_entry(path)
 }
 
-// Puts the bytes into the file at `path` by way of the file at `new_path`.
+// Takes the draft of a save that met a fault away, if that can be done, and answers the fault.
+fn drop_draft<D: Disk>(disk: &mut D, draft: &str) -> Result<(), StoreFault>
+    ensures fault { result ≡ Err StoreFault.Device }
+    ensures honesty { (D.state disk.new).is_honest ≡ (D.state disk.old).is_honest }
+    ensures others { IsTrue (D.state disk.old).is_honest → (other : List ℕ) → other ≢ draft.now
+        → Keeps (D.state disk.old) other (D.state disk.new) }
+{
+    let _ = disk.remove(draft);
+    Err(StoreFault::Device)
+}
+
+// Puts the bytes into the file at `path` by way of a draft.
 pub(crate) fn replace_file<D: Disk>(
     disk: &mut D,
     path: &str,
-    new_path: &str,
+    draft: &str,
     bytes: &[u8],
-) -> Result<(), ReplaceFault>
-    requires { path.now ≢ new_path.now }
+) -> Result<(), StoreFault>
+    requires { path.now ≢ draft.now }
     ensures honesty { (D.state disk.new).is_honest ≡ (D.state disk.old).is_honest }
-    ensures refused { IsErrOf result ReplaceFault.Memory → KeepsAll (D.state disk.old) (D.state disk.new) }
+    ensures refused { IsErrOf result StoreFault.Memory → KeepsAll (D.state disk.old) (D.state disk.new) }
     ensures saves { IsTrue (D.state disk.old).is_honest
-        → SavesFile (D.state disk.old) path.now new_path.now bytes.now result (D.state disk.new) }
+        → SavesFile (D.state disk.old) path.now draft.now (Some bytes.now) result (D.state disk.new) }
 {
-    match disk.write(new_path, bytes) {
+    match disk.write(draft, bytes) {
         Ok(()) => {}
-        Err(DiskFault::Device) => return Err(ReplaceFault::Device),
-        Err(DiskFault::Memory) => return Err(ReplaceFault::Memory),
+        Err(StoreFault::Device) => return drop_draft(disk, draft),
+        Err(StoreFault::Memory) => return Err(StoreFault::Memory),
     }
-    match put_in_place(disk, path, new_path) {
+    match put_in_place(disk, path, draft) {
         Ok(()) => Ok(()),
-        Err(_) => Err(ReplaceFault::Device),
+        Err(_) => drop_draft(disk, draft),
     }
 }
 
-// Takes the file at `path` away.
-pub(crate) fn remove_file<D: Disk>(disk: &mut D, path: &str) -> Result<(), DiskFault>
+// Takes the file at `path` away, and before it a draft that a stop has left.
+pub(crate) fn remove_file<D: Disk>(disk: &mut D, path: &str, draft: &str) -> Result<(), StoreFault>
+    requires { path.now ≢ draft.now }
     ensures honesty { (D.state disk.new).is_honest ≡ (D.state disk.old).is_honest }
     ensures removes { IsTrue (D.state disk.old).is_honest
-        → RemovesFile (D.state disk.old) path.now result (D.state disk.new) }
+        → SavesFile (D.state disk.old) path.now draft.now None result (D.state disk.new) }
+    ensures no_draft { IsTrue (D.state disk.old).is_honest → IsOk result → (D.state disk.new).seen draft.now ≡ None }
 {
+    disk.remove(draft)?;
     disk.remove(path)?;
     disk.sync_entry(path)
 }
 
-impl<D: Disk, A: Allocator + Copy> Store for Filed<D, A> {
+impl<D: Disk, A: Allocator> Store for Filed<D, AtFile, A> {
     ghost use Rattle.dm_store.specs.Saved.{Loads, Replaces, MayLackMemory, SavesOpen, HeldAfterFault};
     ghost use Rattle.dm_store.specs.Disk.{IsSettled, Content, saved_under};
 
@@ -64,7 +78,7 @@ impl<D: Disk, A: Allocator + Copy> Store for Filed<D, A> {
 
     ghost state = { λ f. saved_under (D.state f.disk) f.path };
 
-    fn load(&mut self, limit: usize) -> Result<Option<Vec<u8, D::Memory>>, LoadFault>
+    fn load(&mut self, limit: usize) -> Result<Option<Vec<u8, D::Memory>>, StoreFault>
         ensures loads { Loads (λ bytes. bytes.items)
             (saved_under (D.state self.old.disk) self.old.path) limit result
             (saved_under (D.state self.new.disk) self.new.path) }
@@ -82,24 +96,24 @@ impl<D: Disk, A: Allocator + Copy> Store for Filed<D, A> {
         Ok(Some(bytes))
     }
 
-    fn replace(&mut self, bytes: &[u8]) -> Result<(), ReplaceFault>
+    fn replace(&mut self, bytes: &[u8]) -> Result<(), StoreFault>
         ensures replaces { Replaces (saved_under (D.state self.old.disk) self.old.path) bytes.now
             result (saved_under (D.state self.new.disk) self.new.path) }
         ensures memory { MayLackMemory (saved_under (D.state self.old.disk) self.old.path) result }
         ensures path { self.new.path ≡ self.old.path }
-        ensures refused { IsErrOf result ReplaceFault.Memory
+        ensures refused { IsErrOf result StoreFault.Memory
             → KeepsAll (D.state self.old.disk) (D.state self.new.disk) }
         // Whenever the machine stops, in this save or after it, the old content is left or the new, and the new once it
         // is done. No file but this one and its draft is touched.
         ensures saves { IsTrue (D.state self.old.disk).is_honest
-            → SavesFile (D.state self.old.disk) self.old.path (draft_of self.old.path) bytes.now result
-            (D.state self.new.disk) }
+            → SavesFile (D.state self.old.disk) self.old.path (draft_of self.old.path) (Some bytes.now)
+            result (D.state self.new.disk) }
         // If no stop would have taken back what a reader found, a stop leaves what a store under an open plan may hold.
         ensures old_or_new { IsTrue (D.state self.old.disk).is_honest → IsSettled (D.state self.old.disk) self.old.path
             → (content : Content) → (D.state self.new.disk).may_leave self.old.path content
             → HeldAfterFault SavesOpen ((D.state self.old.disk).seen self.old.path) (Some bytes.now) content }
     {
-        let new_path = new_path_of(self.alloc, self.path.as_str())?;
-        replace_file(&mut self.disk, self.path.as_str(), new_path.as_str(), bytes)
+        let draft = with_end(self.path.as_str(), ".new")?;
+        replace_file(&mut self.disk, self.path.as_str(), draft.as_str(), bytes)
     }
 }

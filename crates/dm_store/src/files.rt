@@ -1,21 +1,18 @@
-//! Calls on the system's files, and the path of a draft.
+//! Calls on the system's files.
 
-ghost use Rattle.std.specs.Prelude.{◌≡◌, IfOk};
-ghost use Rattle.std.specs.String.{string_bytes};
-ghost use Rattle.dm_store.specs.Disk.{draft_of};
-
-use crate::store::LoadFault;
-use std::alloc::{AllocError, Allocator};
-use std::fs::{File, OpenFile, OpenOptions};
-use std::io::{ErrorKind, Read};
+use crate::store::StoreFault;
+use std::alloc::Allocator;
+use std::fs::{OpenFile, OpenOptions};
+use std::io::{ErrorKind, Read, Write};
+use std::os::unix::fs::{OpenOptionsExt, PermissionsExt};
 use std::rt::Files;
 use std::{fs, io};
 
 // What a load answers to an error of the file system.
-pub(crate) fn load_fault_of(error: &io::Error) -> LoadFault {
+pub(crate) fn load_fault_of(error: &io::Error) -> StoreFault {
     match error.kind() {
-        ErrorKind::OutOfMemory => LoadFault::Memory,
-        _ => LoadFault::Device,
+        ErrorKind::OutOfMemory => StoreFault::Memory,
+        _ => StoreFault::Device,
     }
 }
 
@@ -50,7 +47,7 @@ pub(crate) fn load_file<R: Files, A: Allocator>(
     runtime: &R,
     path: &str,
     limit: usize,
-) -> Result<Option<Vec<u8, A>>, LoadFault> {
+) -> Result<Option<Vec<u8, A>>, StoreFault> {
     match is_plain_file(runtime, path) {
         Ok(true) => {}
         Ok(false) => return Ok(None),
@@ -66,7 +63,7 @@ pub(crate) fn load_file<R: Files, A: Allocator>(
         }
     };
     if !matches!(file.metadata(), Ok(metadata) if metadata.is_file()) {
-        return Err(LoadFault::Device);
+        return Err(StoreFault::Device);
     }
     let mut bytes = Vec::new(alloc);
     let most = (limit as u64).saturating_add(1);
@@ -78,15 +75,34 @@ pub(crate) fn load_file<R: Files, A: Allocator>(
 
 // Makes a file of its own at `path`. What stands there, as a link, a second name of another file, or what a stop has
 // left, is itself removed; what it leads to is not touched.
-pub(crate) fn create_anew<R: Files>(runtime: &R, path: &str) -> io::Result<R::File> {
-    match File::create_new(runtime, path) {
-        Ok(file) => Ok(file),
+fn create_anew<R: Files>(runtime: &R, how: &OpenOptions, path: &str) -> io::Result<R::File> {
+    match how.open(runtime, path) {
         Err(error) if error.kind() == ErrorKind::AlreadyExists => {
             fs::remove_file(runtime, path)?;
-            File::create_new(runtime, path)
+            how.open(runtime, path)
         }
-        Err(error) => Err(error),
+        ended => ended,
     }
+}
+
+// Makes a draft of its own of these bytes, with the mode of the file that it is to replace, if that is there. At no
+// moment may more users read it.
+pub(crate) fn write_draft<R: Files>(runtime: &R, draft: &str, bytes: &[u8]) -> io::Result<R::File> {
+    let path = draft.strip_suffix(".new").unwrap_or(draft);
+    let mut how = OpenOptions::new();
+    how.write(true).create_new(true);
+    let mut file = match fs::metadata(runtime, path) {
+        Ok(replaced) => {
+            how.mode(replaced.permissions().mode());
+            let file = create_anew(runtime, &how, draft)?;
+            file.set_permissions(replaced.permissions())?;
+            file
+        }
+        Err(error) if error.kind() == ErrorKind::NotFound => create_anew(runtime, &how, draft)?,
+        Err(error) => return Err(error),
+    };
+    file.write_all(bytes)?;
+    Ok(file)
 }
 
 // The folder that has the entry `path`, with a slash at its end, so that a pipe that has come there is not opened.
@@ -114,25 +130,15 @@ pub(crate) fn sync_folder_of<R: Files>(runtime: &R, path: &str) -> io::Result<()
     }
 }
 
-// Gives a file a name that nothing has. If something has it, that stays as it is, and the file goes. Where the file
-// system has no second names, it is only looked whether something is there.
+// Gives a file a name that nothing has. If something has it, that stays as it is. Where the file system has no second
+// names, it is only looked whether something is there.
 pub(crate) fn name_new<R: Files>(runtime: &R, from: &str, to: &str) -> io::Result<()> {
     match runtime.hard_link(from, to) {
         Ok(()) => fs::remove_file(runtime, from),
-        Err(error) if error.kind() == ErrorKind::AlreadyExists => {
-            let _ = fs::remove_file(runtime, from);
-            Err(error)
-        }
+        Err(error) if error.kind() == ErrorKind::AlreadyExists => Err(error),
         Err(error) => match fs::symlink_metadata(runtime, to) {
             Err(found) if found.kind() == ErrorKind::NotFound => fs::rename(runtime, from, to),
             _ => Err(error),
         },
     }
-}
-
-// The path of the file that the new bytes go to first.
-pub(crate) fn new_path_of<A: Allocator>(alloc: A, path: &str) -> Result<String<A>, AllocError>
-    ensures { IfOk result (λ new_path. string_bytes new_path ≡ draft_of path.now) }
-{
-    format!(in alloc; "{path}.new")
 }

@@ -3,8 +3,8 @@
 ghost use Rattle.std.specs.Prelude.{◌≡◌, Some, IsTrue, IsNone, ◌↔◌};
 ghost use Rattle.dm_store.specs.Fused.{turn_of_load, turn_of_save, after_call};
 
-use crate::set::{RemoveFault, StoreSet};
-use crate::store::{LoadFault, ReplaceFault, Store};
+use crate::set::StoreSet;
+use crate::store::{Store, StoreFault};
 use std::marker::Model;
 
 /// What the first call that a fuse stops leaves, where that call is a save.
@@ -119,25 +119,25 @@ impl<S: Store> Store for Fuse<S> {
 
     ghost state = { λ fused. with_open_plans (S.state fused.inner) };
 
-    fn load(&mut self, limit: usize) -> Result<Option<Vec<u8, S::Memory>>, LoadFault>
+    fn load(&mut self, limit: usize) -> Result<Option<Vec<u8, S::Memory>>, StoreFault>
         ensures loads { Loads (λ bytes. bytes.items) (with_open_plans (S.state self.old.inner)) limit result
             (with_open_plans (S.state self.new.inner)) }
-        ensures goes { Goes (turn_of_load self.old.left) LoadFault.Device
+        ensures goes { Goes (turn_of_load self.old.left) StoreFault.Device
             (λ answer inner. Loads (λ bytes. bytes.items) (S.state self.old.inner) limit answer (S.state inner))
             self.old.inner result self.new.inner }
         ensures counts { self.new ≡ record self.old { inner = self.new.inner; left = after_call self.old.left } }
     {
         match self.take_load() {
             Turn::Passes => self.inner.load(limit),
-            Turn::Made | Turn::Stopped => Err(LoadFault::Device),
+            Turn::Made | Turn::Stopped => Err(StoreFault::Device),
         }
     }
 
-    fn replace(&mut self, bytes: &[u8]) -> Result<(), ReplaceFault>
+    fn replace(&mut self, bytes: &[u8]) -> Result<(), StoreFault>
         ensures replaces { Replaces (with_open_plans (S.state self.old.inner)) bytes.now result
             (with_open_plans (S.state self.new.inner)) }
         ensures memory { MayLackMemory (with_open_plans (S.state self.old.inner)) result }
-        ensures goes { Goes (turn_of_save self.old.left self.old.kept) ReplaceFault.Device
+        ensures goes { Goes (turn_of_save self.old.left self.old.kept) StoreFault.Device
             (λ answer inner. Replaces (S.state self.old.inner) bytes.now answer (S.state inner))
             self.old.inner result self.new.inner }
         ensures counts { self.new ≡ record self.old { inner = self.new.inner; left = after_call self.old.left } }
@@ -146,9 +146,9 @@ impl<S: Store> Store for Fuse<S> {
             Turn::Passes => self.inner.replace(bytes),
             Turn::Made => {
                 self.inner.replace(bytes)?;
-                Err(ReplaceFault::Device)
+                Err(StoreFault::Device)
             }
-            Turn::Stopped => Err(ReplaceFault::Device),
+            Turn::Stopped => Err(StoreFault::Device),
         }
     }
 }
@@ -161,53 +161,53 @@ impl<S: StoreSet> StoreSet for Fuse<S> {
 
     ghost state = { λ fused. with_open_plans (S.state fused.inner) };
 
-    fn keys(&mut self, limit: usize) -> Result<Vec<u16, S::Memory>, LoadFault>
+    fn keys(&mut self, limit: usize) -> Result<Vec<u16, S::Memory>, StoreFault>
         ensures lists { ListsKeys (λ keys. keys.items) (with_open_plans (S.state self.old.inner)) limit result
             (with_open_plans (S.state self.new.inner)) }
-        ensures goes { Goes (turn_of_load self.old.left) LoadFault.Device
+        ensures goes { Goes (turn_of_load self.old.left) StoreFault.Device
             (λ answer inner. ListsKeys (λ keys. keys.items) (S.state self.old.inner) limit answer (S.state inner))
             self.old.inner result self.new.inner }
         ensures counts { self.new ≡ record self.old { inner = self.new.inner; left = after_call self.old.left } }
     {
         match self.take_load() {
             Turn::Passes => self.inner.keys(limit),
-            Turn::Made | Turn::Stopped => Err(LoadFault::Device),
+            Turn::Made | Turn::Stopped => Err(StoreFault::Device),
         }
     }
 
-    fn load(&mut self, key: u16, limit: usize) -> Result<Option<Vec<u8, S::Memory>>, LoadFault>
+    fn load(&mut self, key: u16, limit: usize) -> Result<Option<Vec<u8, S::Memory>>, StoreFault>
         ensures loads { LoadsKey (λ bytes. bytes.items) (with_open_plans (S.state self.old.inner)) key limit result
             (with_open_plans (S.state self.new.inner)) }
-        ensures goes { Goes (turn_of_load self.old.left) LoadFault.Device
+        ensures goes { Goes (turn_of_load self.old.left) StoreFault.Device
             (λ answer inner. LoadsKey (λ bytes. bytes.items) (S.state self.old.inner) key limit answer (S.state inner))
             self.old.inner result self.new.inner }
         ensures counts { self.new ≡ record self.old { inner = self.new.inner; left = after_call self.old.left } }
     {
         match self.take_load() {
             Turn::Passes => self.inner.load(key, limit),
-            Turn::Made | Turn::Stopped => Err(LoadFault::Device),
+            Turn::Made | Turn::Stopped => Err(StoreFault::Device),
         }
     }
 
-    fn settle(&mut self) -> Result<(), LoadFault>
+    fn settle(&mut self) -> Result<(), StoreFault>
         ensures settles { Settles (with_open_plans (S.state self.old.inner)) result
             (with_open_plans (S.state self.new.inner)) }
-        ensures goes { Goes (turn_of_load self.old.left) LoadFault.Device
+        ensures goes { Goes (turn_of_load self.old.left) StoreFault.Device
             (λ answer inner. Settles (S.state self.old.inner) answer (S.state inner))
             self.old.inner result self.new.inner }
         ensures counts { self.new ≡ record self.old { inner = self.new.inner; left = after_call self.old.left } }
     {
         match self.take_load() {
             Turn::Passes => self.inner.settle(),
-            Turn::Made | Turn::Stopped => Err(LoadFault::Device),
+            Turn::Made | Turn::Stopped => Err(StoreFault::Device),
         }
     }
 
-    fn replace(&mut self, key: u16, bytes: &[u8]) -> Result<(), ReplaceFault>
+    fn replace(&mut self, key: u16, bytes: &[u8]) -> Result<(), StoreFault>
         ensures replaces { SavesKey (with_open_plans (S.state self.old.inner)) key bytes.now result
             (with_open_plans (S.state self.new.inner)) }
         ensures memory { MayLackMemory (with_open_plans (S.state self.old.inner)) result }
-        ensures goes { Goes (turn_of_save self.old.left self.old.kept) ReplaceFault.Device
+        ensures goes { Goes (turn_of_save self.old.left self.old.kept) StoreFault.Device
             (λ answer inner. SavesKey (S.state self.old.inner) key bytes.now answer (S.state inner))
             self.old.inner result self.new.inner }
         ensures counts { self.new ≡ record self.old { inner = self.new.inner; left = after_call self.old.left } }
@@ -216,16 +216,16 @@ impl<S: StoreSet> StoreSet for Fuse<S> {
             Turn::Passes => self.inner.replace(key, bytes),
             Turn::Made => {
                 self.inner.replace(key, bytes)?;
-                Err(ReplaceFault::Device)
+                Err(StoreFault::Device)
             }
-            Turn::Stopped => Err(ReplaceFault::Device),
+            Turn::Stopped => Err(StoreFault::Device),
         }
     }
 
-    fn remove(&mut self, key: u16) -> Result<(), RemoveFault>
+    fn remove(&mut self, key: u16) -> Result<(), StoreFault>
         ensures removes { RemovesKey (with_open_plans (S.state self.old.inner)) key result
             (with_open_plans (S.state self.new.inner)) }
-        ensures goes { Goes (turn_of_save self.old.left self.old.kept) RemoveFault.Device
+        ensures goes { Goes (turn_of_save self.old.left self.old.kept) StoreFault.Device
             (λ answer inner. RemovesKey (S.state self.old.inner) key answer (S.state inner))
             self.old.inner result self.new.inner }
         ensures counts { self.new ≡ record self.old { inner = self.new.inner; left = after_call self.old.left } }
@@ -234,9 +234,9 @@ impl<S: StoreSet> StoreSet for Fuse<S> {
             Turn::Passes => self.inner.remove(key),
             Turn::Made => {
                 self.inner.remove(key)?;
-                Err(RemoveFault::Device)
+                Err(StoreFault::Device)
             }
-            Turn::Stopped => Err(RemoveFault::Device),
+            Turn::Stopped => Err(StoreFault::Device),
         }
     }
 }

@@ -1,11 +1,11 @@
 //! The names of the files of a set in a folder.
 
-ghost use Rattle.std.specs.Prelude.{◌≡◌, ◌<◌, ◌^◌, ◌/◌, ◌%◌, ◌∷◌, [], ℕ, Some, IfOk, IfSome, false};
+ghost use Rattle.std.specs.Prelude.{◌≡◌, ◌<◌, ◌^◌, ◌/◌, ◌%◌, ◌∷◌, ◌++◌, [], ℕ, Some, Err, IsErr, IfOk, IfSome, false};
 ghost use Rattle.std.specs.Fmt.{digit_glyph};
-ghost use Rattle.std.specs.String.{string_bytes};
 ghost use Rattle.dm_store.specs.Disk.{key_name, key_path, path_in};
 
-use std::alloc::{AllocError, Allocator};
+use crate::store::StoreFault;
+use arrayvec::ArrayString;
 
 // The value of a lower-case hexadecimal digit.
 fn digit_of(byte: u8) -> Option<u16>
@@ -47,18 +47,44 @@ fn glyph_of(digit: u16) -> char
     })
 }
 
+// The name of a key's file.
+#[tactic(auto, using(std::proofs::lemmas::Str::encode_ascii), unfolding(crate::specs::Disk::key_name))]
+fn name_of(key: u16) -> ArrayString<4>
+    ensures { result.bytes ≡ key_name key }
+{
+    let mut name = ArrayString::new();
+    name.push(glyph_of(key / 256 / 16));
+    name.push(glyph_of(key / 256 % 16));
+    name.push(glyph_of(key % 256 / 16));
+    name.push(glyph_of(key % 256 % 16));
+    name
+}
+
+/// A path that takes no memory. The system takes no longer one.
+pub type PathText = ArrayString<4095>;
+
+// A path with more at its end.
+pub(crate) fn with_end(path: &str, end: &str) -> Result<PathText, StoreFault>
+    ensures whole { IfOk result (λ whole. whole.bytes ≡ path.now ++ end.now) }
+    ensures device { IsErr result → result ≡ Err StoreFault.Device }
+{
+    let Ok(mut whole) = PathText::from(path) else {
+        return Err(StoreFault::Device);
+    };
+    match whole.try_push_str(end) {
+        Ok(()) => Ok(whole),
+        Err(_) => Err(StoreFault::Device),
+    }
+}
+
 /// The path of a key's file in a folder.
 ///
 /// # Errors
-/// Where the allocator refuses its memory.
-#[tactic(auto, using(std::proofs::lemmas::Str::encode_ascii), unfolding(crate::specs::Disk::key_name))]
-pub fn path_of<A: Allocator>(alloc: A, folder: &str, key: u16) -> Result<String<A>, AllocError>
-    ensures { IfOk result (λ path. string_bytes path ≡ key_path folder.now key) }
+/// `Device` where it is longer than any that the system takes.
+pub fn path_of(folder: &str, key: u16) -> Result<PathText, StoreFault>
+    ensures path { IfOk result (λ path. path.bytes ≡ key_path folder.now key) }
+    ensures device { IsErr result → result ≡ Err StoreFault.Device }
 {
-    let mut path = format!(in alloc; "{folder}/")?;
-    path.push(glyph_of(key / 256 / 16))?;
-    path.push(glyph_of(key / 256 % 16))?;
-    path.push(glyph_of(key % 256 / 16))?;
-    path.push(glyph_of(key % 256 % 16))?;
-    Ok(path)
+    let start = with_end(folder, "/")?;
+    with_end(start.as_str(), name_of(key).as_str())
 }

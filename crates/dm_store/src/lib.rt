@@ -38,13 +38,13 @@ mod real_disk;
 mod set;
 mod store;
 
-pub use disk::{Disk, DiskFault, Folders};
-pub use filed::{FileSet, FileStore, Filed};
+pub use disk::{Disk, Folders};
+pub use filed::{AtFile, AtFolder, FileSet, FileStore, Filed};
 pub use fuse::{Fuse, FuseSet, FuseStore, Kept};
-pub use key_files::{key_of, path_of};
+pub use key_files::{PathText, key_of, path_of};
 pub use key_map::KeyMap;
 pub use mem_set::{MemSet, SavedBytes};
 pub use mem_store::{MemStore, NextSave};
 pub use real_disk::RealDisk;
-pub use set::{RemoveFault, StoreSet};
-pub use store::{LoadFault, ReplaceFault, Store};
+pub use set::StoreSet;
+pub use store::{Store, StoreFault};

@@ -1,12 +1,12 @@
 //! A set of stores in memory.
 
-ghost use Rattle.std.specs.Prelude.{◌≡◌, ◌+◌, ◌↔◌, false, option_map, IsErrOf, IsSome};
+ghost use Rattle.std.specs.Prelude.{◌≡◌, ◌↔◌, false, option_map, IsErrOf, IsSome};
 ghost use Rattle.std.specs.FinMap as map;
 
 use crate::key_map::KeyMap;
-use crate::mem_store::{NextSave, copy_of};
-use crate::set::{RemoveFault, StoreSet};
-use crate::store::{LoadFault, ReplaceFault};
+use crate::mem_store::NextSave;
+use crate::set::StoreSet;
+use crate::store::StoreFault;
 use std::alloc::{Allocator, Global};
 use std::marker::Model;
 use std::mem;
@@ -110,45 +110,47 @@ impl<A: Allocator + Copy> StoreSet for MemSet<A> {
 
     ghost state = { λ set. set };
 
-    fn keys(&mut self, limit: usize) -> Result<Vec<u16, A>, LoadFault>
+    fn keys(&mut self, limit: usize) -> Result<Vec<u16, A>, StoreFault>
         ensures lists { ListsKeys (λ keys. keys.items) self.old limit result self.new }
-        ensures device { IsErrOf result LoadFault.Device ↔ (self.old.load_plan ≡ LoadsOpen) }
+        ensures device { IsErrOf result StoreFault.Device ↔ (self.old.load_plan ≡ LoadsOpen) }
     {
         if self.fails_loads {
-            return Err(LoadFault::Device);
+            return Err(StoreFault::Device);
         }
         let keys = self.held.first_keys(self.alloc, limit.saturating_add(1))?;
         Ok(keys)
     }
 
-    fn load(&mut self, key: u16, limit: usize) -> Result<Option<Vec<u8, A>>, LoadFault>
+    fn load(&mut self, key: u16, limit: usize) -> Result<Option<Vec<u8, A>>, StoreFault>
         ensures loads { LoadsKey (λ bytes. bytes.items) self.old key limit result self.new }
-        ensures device { IsErrOf result LoadFault.Device ↔ (self.old.load_plan ≡ LoadsOpen) }
+        ensures device { IsErrOf result StoreFault.Device ↔ (self.old.load_plan ≡ LoadsOpen) }
         // Nothing that isn't there takes memory.
-        ensures memory { IsErrOf result LoadFault.Memory → IsSome (map.get self.old.content key) }
+        ensures memory { IsErrOf result StoreFault.Memory → IsSome (map.get self.old.content key) }
     {
         if self.fails_loads {
-            return Err(LoadFault::Device);
+            return Err(StoreFault::Device);
         }
         let Some(saved) = self.held.get(key) else {
             return Ok(None);
         };
-        Ok(Some(copy_of(self.alloc, saved.as_slice(), limit)?))
+        let bytes = saved.as_slice();
+        let shown = bytes.get(..=limit).unwrap_or(bytes);
+        Ok(Some(Vec::from_slice(self.alloc, shown)?))
     }
 
-    fn settle(&mut self) -> Result<(), LoadFault>
+    fn settle(&mut self) -> Result<(), StoreFault>
         ensures settles { Settles self.old result self.new }
-        ensures device { IsErrOf result LoadFault.Device ↔ (self.old.load_plan ≡ LoadsOpen) }
+        ensures device { IsErrOf result StoreFault.Device ↔ (self.old.load_plan ≡ LoadsOpen) }
         // It takes no memory.
-        ensures memory { result ≢ Err LoadFault.Memory }
+        ensures memory { result ≢ Err StoreFault.Memory }
     {
         if self.fails_loads {
-            return Err(LoadFault::Device);
+            return Err(StoreFault::Device);
         }
         Ok(())
     }
 
-    fn replace(&mut self, key: u16, bytes: &[u8]) -> Result<(), ReplaceFault> {
+    fn replace(&mut self, key: u16, bytes: &[u8]) -> Result<(), StoreFault> {
         let copy = Vec::from_slice(self.alloc, bytes)?;
         if self.next_save != NextSave::FaultOld {
             let saved = SavedBytes::new(copy);
@@ -156,14 +158,14 @@ impl<A: Allocator + Copy> StoreSet for MemSet<A> {
         }
         match mem::replace(&mut self.next_save, NextSave::Fine) {
             NextSave::Fine => Ok(()),
-            NextSave::FaultOld | NextSave::FaultNew => Err(ReplaceFault::Device),
+            NextSave::FaultOld | NextSave::FaultNew => Err(StoreFault::Device),
         }
     }
 
-    fn remove(&mut self, key: u16) -> Result<(), RemoveFault>
+    fn remove(&mut self, key: u16) -> Result<(), StoreFault>
         ensures removes { RemovesKey self.old key result self.new }
         // It takes no memory.
-        ensures memory { result ≢ Err RemoveFault.Memory }
+        ensures memory { result ≢ Err StoreFault.Memory }
     {
         if self.held.get(key).is_none() {
             return Ok(());
@@ -174,7 +176,7 @@ impl<A: Allocator + Copy> StoreSet for MemSet<A> {
         }
         match next {
             NextSave::Fine => Ok(()),
-            NextSave::FaultOld | NextSave::FaultNew => Err(RemoveFault::Device),
+            NextSave::FaultOld | NextSave::FaultNew => Err(StoreFault::Device),
         }
     }
 }

@@ -1,9 +1,9 @@
 //! A store in memory.
 
-ghost use Rattle.std.specs.Prelude.{◌≡◌, ◌+◌, ◌↔◌, false, None, Some, option_map, take, IfOk, IsErrOf, IsSome};
+ghost use Rattle.std.specs.Prelude.{◌≡◌, ◌↔◌, false, None, Some, option_map, IsErrOf, IsSome};
 
-use crate::store::{LoadFault, ReplaceFault, Store};
-use std::alloc::{AllocError, Allocator, Global};
+use crate::store::{Store, StoreFault};
+use std::alloc::{Allocator, Global};
 use std::marker::Model;
 use std::mem;
 
@@ -92,22 +92,6 @@ impl<A: Allocator + Copy> MemStore<A> {
     }
 }
 
-// A copy of the bytes, or of the first `limit + 1` where they are longer.
-pub(crate) fn copy_of<A: Allocator + Copy>(
-    alloc: A,
-    bytes: &[u8],
-    limit: usize,
-) -> Result<Vec<u8, A>, AllocError>
-    ensures { IfOk result (λ copy. copy.items ≡ take (limit + 1) bytes.now) }
-{
-    let shown = if limit < bytes.len() {
-        &bytes[..limit + 1]
-    } else {
-        bytes
-    };
-    Vec::from_slice(alloc, shown)
-}
-
 impl<A: Allocator + Copy> Store for MemStore<A> {
     ghost use Rattle.dm_store.specs.Saved.{Loads, LoadsOpen};
 
@@ -115,29 +99,30 @@ impl<A: Allocator + Copy> Store for MemStore<A> {
 
     ghost state = { λ store. store };
 
-    fn load(&mut self, limit: usize) -> Result<Option<Vec<u8, A>>, LoadFault>
+    fn load(&mut self, limit: usize) -> Result<Option<Vec<u8, A>>, StoreFault>
         ensures loads { Loads (λ bytes. bytes.items) self.old limit result self.new }
-        ensures device { IsErrOf result LoadFault.Device ↔ (self.old.load_plan ≡ LoadsOpen) }
+        ensures device { IsErrOf result StoreFault.Device ↔ (self.old.load_plan ≡ LoadsOpen) }
         // Nothing that isn't there takes memory.
-        ensures memory { IsErrOf result LoadFault.Memory → IsSome self.old.content }
+        ensures memory { IsErrOf result StoreFault.Memory → IsSome self.old.content }
     {
         if self.fails_loads {
-            return Err(LoadFault::Device);
+            return Err(StoreFault::Device);
         }
         let Some(bytes) = &self.held else {
             return Ok(None);
         };
-        Ok(Some(copy_of(self.alloc, bytes.as_slice(), limit)?))
+        let shown = bytes.get(..=limit).unwrap_or(bytes.as_slice());
+        Ok(Some(Vec::from_slice(self.alloc, shown)?))
     }
 
-    fn replace(&mut self, bytes: &[u8]) -> Result<(), ReplaceFault> {
+    fn replace(&mut self, bytes: &[u8]) -> Result<(), StoreFault> {
         let copy = Vec::from_slice(self.alloc, bytes)?;
         if self.next_save != NextSave::FaultOld {
             self.held = Some(copy);
         }
         match mem::replace(&mut self.next_save, NextSave::Fine) {
             NextSave::Fine => Ok(()),
-            NextSave::FaultOld | NextSave::FaultNew => Err(ReplaceFault::Device),
+            NextSave::FaultOld | NextSave::FaultNew => Err(StoreFault::Device),
         }
     }
 }

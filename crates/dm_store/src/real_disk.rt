@@ -1,32 +1,26 @@
 //! The system's own files. No contract can say what a file holds, so nothing is claimed here: that these calls do what
 //! [`Disk`] says is trusted, and this page is to be read.
 
-use crate::disk::{Disk, DiskFault, Folders};
-use crate::files::{create_anew, load_fault_of, load_file, name_new, sync_folder, sync_folder_of};
-use crate::key_files::key_of;
-use crate::store::LoadFault;
+use crate::disk::{Disk, Folders};
+use crate::files::{load_fault_of, load_file, name_new, sync_folder, sync_folder_of, write_draft};
+use crate::key_files::{key_of, with_end};
+use crate::store::StoreFault;
 use std::alloc::{Allocator, Global};
 use std::fs::{OpenFile, read_dir};
-use std::io::{ErrorKind, Write};
+use std::io::ErrorKind;
 use std::rt::Files;
 use std::{fs, io};
 
 // How many names a folder may have.
 const MOST_NAMES: usize = 131_072;
 
-// A file that was written, and is open until the next call. A sync through it sees each fault of its writes.
-#[derive(Drop)]
-struct Written<F: Drop, A: Allocator> {
-    name: String<A>,
-    file: F,
-}
-
 /// The system's own files. It claims nothing: it is not honest.
 #[derive(Drop)]
 pub struct RealDisk<'a, R: Files, A: Allocator + Copy = Global> {
     alloc: A,
     runtime: &'a R,
-    written: Option<Written<R::File, A>>,
+    // The file that was written last, open until its sync, which so sees each fault of its writes.
+    written: Option<R::File>,
     replaces: bool,
 }
 
@@ -49,25 +43,6 @@ impl<'a, R: Files, A: Allocator + Copy> RealDisk<'a, R, A> {
     }
 }
 
-// Makes a file of its own of these bytes.
-fn write_file<R: Files>(runtime: &R, name: &str, bytes: &[u8]) -> io::Result<R::File> {
-    let mut file = create_anew(runtime, name)?;
-    file.write_all(bytes)?;
-    Ok(file)
-}
-
-// Syncs the file that was written, if it is the one of this name, or else the one that is there.
-fn sync_file<R: Files, A: Allocator>(
-    runtime: &R,
-    written: Option<Written<R::File, A>>,
-    name: &str,
-) -> io::Result<()> {
-    match written {
-        Some(written) if written.name.as_str() == name => written.file.sync_all(),
-        _ => fs::open(runtime, name)?.sync_all(),
-    }
-}
-
 // Makes the folder, if it isn't there.
 fn make_folder<R: Files>(runtime: &R, folder: &str) -> io::Result<()> {
     match fs::create_dir(runtime, folder) {
@@ -81,7 +56,7 @@ fn keys_of<R: Files + Alloc + Clone + Drop, A: Allocator>(
     alloc: A,
     runtime: &R,
     folder: &str,
-) -> Result<Vec<u16, A>, LoadFault> {
+) -> Result<Vec<u16, A>, StoreFault> {
     let mut keys = Vec::new(alloc);
     let entries = match read_dir(runtime, folder) {
         Ok(entries) => entries,
@@ -99,12 +74,12 @@ fn keys_of<R: Files + Alloc + Clone + Drop, A: Allocator>(
             Err(error) => return Err(load_fault_of(&error)),
         };
         if names >= MOST_NAMES {
-            return Err(LoadFault::Device);
+            return Err(StoreFault::Device);
         }
         names += 1;
         if let Some(key) = key_of(entry.file_name().as_bytes()) {
             if keys.push(key).is_err() {
-                return Err(LoadFault::Memory);
+                return Err(StoreFault::Memory);
             }
         }
     }
@@ -123,10 +98,10 @@ fn settled(ended: io::Result<()>) -> io::Result<()> {
 }
 
 // What is answered to an error of the system.
-fn done(ended: io::Result<()>) -> Result<(), DiskFault> {
+fn done(ended: io::Result<()>) -> Result<(), StoreFault> {
     match ended {
         Ok(()) => Ok(()),
-        Err(_) => Err(DiskFault::Device),
+        Err(_) => Err(StoreFault::Device),
     }
 }
 
@@ -137,29 +112,26 @@ impl<R: Files, A: Allocator + Copy> Disk for RealDisk<'_, R, A> {
 
     ghost state = { λ _. unclaimed };
 
-    fn read(&mut self, name: &str, limit: usize) -> Result<Option<Vec<u8, A>>, LoadFault> {
-        self.written = None;
+    fn read(&mut self, name: &str, limit: usize) -> Result<Option<Vec<u8, A>>, StoreFault> {
         load_file(self.alloc, self.runtime, name, limit)
     }
 
-    fn write(&mut self, name: &str, bytes: &[u8]) -> Result<(), DiskFault> {
-        let kept = String::from_str(self.alloc, name)?;
-        self.written = None;
-        match write_file(self.runtime, name, bytes) {
-            Ok(file) => {
-                self.written = Some(Written { name: kept, file });
-                Ok(())
-            }
-            Err(_) => Err(DiskFault::Device),
+    fn write(&mut self, name: &str, bytes: &[u8]) -> Result<(), StoreFault> {
+        self.written = write_draft(self.runtime, name, bytes).ok();
+        match &self.written {
+            Some(_) => Ok(()),
+            None => Err(StoreFault::Device),
         }
     }
 
-    fn sync(&mut self, name: &str) -> Result<(), DiskFault> {
-        done(sync_file(self.runtime, self.written.take(), name))
+    fn sync(&mut self, _name: &str) -> Result<(), StoreFault> {
+        match self.written.take() {
+            Some(file) => done(file.sync_all()),
+            None => Err(StoreFault::Device),
+        }
     }
 
-    fn rename(&mut self, from: &str, to: &str) -> Result<(), DiskFault> {
-        self.written = None;
+    fn rename(&mut self, from: &str, to: &str) -> Result<(), StoreFault> {
         if self.replaces {
             done(fs::rename(self.runtime, from, to))
         } else {
@@ -167,45 +139,37 @@ impl<R: Files, A: Allocator + Copy> Disk for RealDisk<'_, R, A> {
         }
     }
 
-    fn remove(&mut self, name: &str) -> Result<(), DiskFault> {
-        self.written = None;
+    fn remove(&mut self, name: &str) -> Result<(), StoreFault> {
         match fs::remove_file(self.runtime, name) {
             Err(error) if error.kind() == ErrorKind::NotFound => Ok(()),
             ended => done(ended),
         }
     }
 
-    fn sync_entry(&mut self, name: &str) -> Result<(), DiskFault> {
-        self.written = None;
+    fn sync_entry(&mut self, name: &str) -> Result<(), StoreFault> {
         done(sync_folder_of(self.runtime, name))
     }
 
-    fn settle_entry(&mut self, name: &str) -> Result<(), DiskFault> {
-        self.written = None;
+    fn settle_entry(&mut self, name: &str) -> Result<(), StoreFault> {
         done(settled(sync_folder_of(self.runtime, name)))
     }
 }
 
 impl<R: Files + Alloc + Clone + Drop, A: Allocator + Copy> Folders for RealDisk<'_, R, A> {
-    fn make_folder(&mut self, folder: &str) -> Result<(), DiskFault> {
-        self.written = None;
-        if make_folder(self.runtime, folder).is_err() {
-            return Err(DiskFault::Device);
-        }
+    fn make_folder(&mut self, folder: &str) -> Result<(), StoreFault> {
+        done(make_folder(self.runtime, folder))?;
         done(sync_folder_of(self.runtime, folder))
     }
 
-    fn keys(&mut self, folder: &str, limit: usize) -> Result<Vec<u16, A>, LoadFault> {
-        self.written = None;
+    fn keys(&mut self, folder: &str, limit: usize) -> Result<Vec<u16, A>, StoreFault> {
         let mut keys = keys_of(self.alloc, self.runtime, folder)?;
         keys.sort_unstable();
         keys.truncate(limit.saturating_add(1));
         Ok(keys)
     }
 
-    fn settle_folder(&mut self, folder: &str) -> Result<(), DiskFault> {
-        self.written = None;
-        let path = format!(in self.alloc; "{folder}/")?;
+    fn settle_folder(&mut self, folder: &str) -> Result<(), StoreFault> {
+        let path = with_end(folder, "/")?;
         done(settled(sync_folder(self.runtime, path.as_str())))
     }
 }

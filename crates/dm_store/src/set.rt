@@ -1,21 +1,9 @@
-//! What a set of stores promises, and its fault beside those of a store.
+//! What a set of stores promises.
 
 ghost use Rattle.std.specs.Prelude.{◌≡◌};
 
-use crate::store::{LoadFault, ReplaceFault};
+use crate::store::StoreFault;
 use std::alloc::Allocator;
-use thiserror::Error;
-
-/// Why a remove failed.
-#[derive(Clone, Copy, Debug, PartialEq, Eq, Error)]
-pub enum RemoveFault {
-    /// The device failed. From then on a reader finds the key's old bytes, or nothing.
-    #[error("the device failed")]
-    Device,
-    /// There was no memory for the call, and the key holds its old bytes.
-    #[error("out of memory")]
-    Memory,
-}
 
 /// A place for one list of bytes under each key.
 pub trait StoreSet: Drop {
@@ -28,24 +16,24 @@ pub trait StoreSet: Drop {
     ghost state: { Self → SavedSet };
 
     /// The keys under which bytes are saved, rising: all, or the first `limit + 1` where there are more.
-    fn keys(&mut self, limit: usize) -> Result<Vec<u16, Self::Memory>, LoadFault>
+    fn keys(&mut self, limit: usize) -> Result<Vec<u16, Self::Memory>, StoreFault>
         ensures lists { ListsKeys (λ keys. keys.items) (state self.old) limit result (state self.new) };
 
     /// The bytes saved under a key, or their first `limit + 1` where they are longer, or `None` where nothing is saved.
-    fn load(&mut self, key: u16, limit: usize) -> Result<Option<Vec<u8, Self::Memory>>, LoadFault>
+    fn load(&mut self, key: u16, limit: usize) -> Result<Option<Vec<u8, Self::Memory>>, StoreFault>
         ensures loads { LoadsKey (λ bytes. bytes.items) (state self.old) key limit result (state self.new) };
 
     /// Settles what the calls before have found, the keys and the bytes: no stop of the machine takes it back then.
     /// Whoever answers by loads calls it once, after all of them.
-    fn settle(&mut self) -> Result<(), LoadFault>
+    fn settle(&mut self) -> Result<(), StoreFault>
         ensures settles { Settles (state self.old) result (state self.new) };
 
     /// Puts the bytes in place of those saved under a key, if any.
-    fn replace(&mut self, key: u16, bytes: &[u8]) -> Result<(), ReplaceFault>
+    fn replace(&mut self, key: u16, bytes: &[u8]) -> Result<(), StoreFault>
         ensures replaces { SavesKey (state self.old) key bytes.now result (state self.new) }
         ensures memory { MayLackMemory (state self.old) result };
 
     /// Takes away what is saved under a key.
-    fn remove(&mut self, key: u16) -> Result<(), RemoveFault>
+    fn remove(&mut self, key: u16) -> Result<(), StoreFault>
         ensures removes { RemovesKey (state self.old) key result (state self.new) };
 }

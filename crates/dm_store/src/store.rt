@@ -5,45 +5,25 @@ ghost use Rattle.std.specs.Prelude.{◌≡◌};
 use std::alloc::{AllocError, Allocator};
 use thiserror::Error;
 
-/// Why a load gave nothing.
+/// Why a store, a set or a disk did not do what it was asked.
 #[derive(Clone, Copy, Debug, PartialEq, Eq, Error)]
-pub enum LoadFault {
-    /// The device didn't give what it holds.
+pub enum StoreFault {
+    /// The device failed, or it can't be known whether it did. A reader finds from then on what was there before, or
+    /// what was to be there.
     #[error("the device failed")]
     Device,
-    /// There was no memory for the call.
+    /// There was no memory for the call, and what was there is there.
     #[error("out of memory")]
     Memory,
 }
 
-impl From<AllocError> for LoadFault {
-    ghost use Rattle.dm_store.specs.declared.store.LoadFault.TheVariants.{Memory};
+impl From<AllocError> for StoreFault {
+    ghost use Rattle.dm_store.specs.declared.store.StoreFault.TheVariants.{Memory};
 
     ghost from_gives = { λ _ fault. fault ≡ Memory };
 
     fn from(_: AllocError) -> Self {
-        LoadFault::Memory
-    }
-}
-
-/// Why a replace failed.
-#[derive(Clone, Copy, Debug, PartialEq, Eq, Error)]
-pub enum ReplaceFault {
-    /// The device failed. From then on a reader finds the old bytes, or the new ones.
-    #[error("the device failed")]
-    Device,
-    /// There was no memory for the call, and the old bytes are held.
-    #[error("out of memory")]
-    Memory,
-}
-
-impl From<AllocError> for ReplaceFault {
-    ghost use Rattle.dm_store.specs.declared.store.ReplaceFault.TheVariants.{Memory};
-
-    ghost from_gives = { λ _ fault. fault ≡ Memory };
-
-    fn from(_: AllocError) -> Self {
-        ReplaceFault::Memory
+        StoreFault::Memory
     }
 }
 
@@ -58,11 +38,11 @@ pub trait Store: Drop {
     ghost state: { Self → Saved };
 
     /// The saved bytes, or their first `limit + 1` where they are longer, or `None` where nothing is saved.
-    fn load(&mut self, limit: usize) -> Result<Option<Vec<u8, Self::Memory>>, LoadFault>
+    fn load(&mut self, limit: usize) -> Result<Option<Vec<u8, Self::Memory>>, StoreFault>
         ensures loads { Loads (λ bytes. bytes.items) (state self.old) limit result (state self.new) };
 
     /// Puts the bytes in place of the saved ones.
-    fn replace(&mut self, bytes: &[u8]) -> Result<(), ReplaceFault>
+    fn replace(&mut self, bytes: &[u8]) -> Result<(), StoreFault>
         ensures replaces { Replaces (state self.old) bytes.now result (state self.new) }
         ensures memory { MayLackMemory (state self.old) result };
 }

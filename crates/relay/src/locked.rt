@@ -5,7 +5,7 @@ ghost use Rattle.relay.specs.Commands.{locks};
 
 use crate::lock::{Lock, LockFault};
 use crate::place::{Access, Named, Place};
-use dm_store::{Disk, DiskFault, Folders, LoadFault};
+use dm_store::{Disk, Folders, StoreFault};
 use std::cell::{Cell, OnceCell};
 use std::fs::{File, Metadata};
 use std::io::ErrorKind;
@@ -219,29 +219,29 @@ impl<R: AllocGlobal + Files<File = File>, D: Disk> Disk for Locked<'_, R, D> {
 
     ghost state = { λ locked. D.state locked.within };
 
-    fn read(&mut self, name: &str, limit: usize) -> Result<Option<Vec<u8, D::Memory>>, LoadFault> {
+    fn read(&mut self, name: &str, limit: usize) -> Result<Option<Vec<u8, D::Memory>>, StoreFault> {
         if !self.gate.may_load(name) {
-            return Err(LoadFault::Device);
+            return Err(StoreFault::Device);
         }
         let kept = String::from_str(self.gate.rt.alloc(), name);
         self.gate.loaded.set(kept.ok());
         self.within.read(name, limit)
     }
 
-    fn write(&mut self, name: &str, bytes: &[u8]) -> Result<(), DiskFault> {
+    fn write(&mut self, name: &str, bytes: &[u8]) -> Result<(), StoreFault> {
         if !self.gate.may_save() {
-            return Err(DiskFault::Device);
+            return Err(StoreFault::Device);
         }
         self.within.write(name, bytes)
     }
 
-    fn sync(&mut self, name: &str) -> Result<(), DiskFault> {
+    fn sync(&mut self, name: &str) -> Result<(), StoreFault> {
         self.within.sync(name)
     }
 
-    fn rename(&mut self, from: &str, to: &str) -> Result<(), DiskFault> {
+    fn rename(&mut self, from: &str, to: &str) -> Result<(), StoreFault> {
         if !self.gate.may_save() {
-            return Err(DiskFault::Device);
+            return Err(StoreFault::Device);
         }
         let renamed = self.within.rename(from, to);
         if renamed.is_err() {
@@ -250,42 +250,42 @@ impl<R: AllocGlobal + Files<File = File>, D: Disk> Disk for Locked<'_, R, D> {
         renamed
     }
 
-    fn remove(&mut self, name: &str) -> Result<(), DiskFault> {
+    fn remove(&mut self, name: &str) -> Result<(), StoreFault> {
         if !self.gate.may_save() {
-            return Err(DiskFault::Device);
+            return Err(StoreFault::Device);
         }
         self.within.remove(name)
     }
 
-    fn sync_entry(&mut self, name: &str) -> Result<(), DiskFault> {
+    fn sync_entry(&mut self, name: &str) -> Result<(), StoreFault> {
         self.within.sync_entry(name)
     }
 
-    fn settle_entry(&mut self, name: &str) -> Result<(), DiskFault> {
+    fn settle_entry(&mut self, name: &str) -> Result<(), StoreFault> {
         self.within.settle_entry(name)
     }
 }
 
 impl<R: AllocGlobal + Files<File = File>, D: Folders> Folders for Locked<'_, R, D> {
-    fn make_folder(&mut self, folder: &str) -> Result<(), DiskFault> {
+    fn make_folder(&mut self, folder: &str) -> Result<(), StoreFault> {
         if !self.gate.may_save() {
-            return Err(DiskFault::Device);
+            return Err(StoreFault::Device);
         }
         self.within.make_folder(folder)
     }
 
-    fn keys(&mut self, folder: &str, limit: usize) -> Result<Vec<u16, D::Memory>, LoadFault> {
+    fn keys(&mut self, folder: &str, limit: usize) -> Result<Vec<u16, D::Memory>, StoreFault> {
         if !self.gate.may_load(folder) {
-            return Err(LoadFault::Device);
+            return Err(StoreFault::Device);
         }
         let keys = self.within.keys(folder, limit);
         self.gate
             .has_no_list
-            .set(matches!(&keys, Err(LoadFault::Device)));
+            .set(matches!(&keys, Err(StoreFault::Device)));
         keys
     }
 
-    fn settle_folder(&mut self, folder: &str) -> Result<(), DiskFault> {
+    fn settle_folder(&mut self, folder: &str) -> Result<(), StoreFault> {
         self.within.settle_folder(folder)
     }
 }

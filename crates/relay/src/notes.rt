@@ -4,7 +4,7 @@
 use crate::locked::Reason;
 use crate::place::Place;
 use dm_assembly_desk::{JointFile, MOST_JOINT_FILE_BYTES, MoveFault, held_at};
-use dm_store::{FileSet, FileStore, Folders, LoadFault, Store};
+use dm_store::{FileSet, FileStore, Folders, Store, StoreFault};
 use std::alloc::{AllocError, Global};
 use std::io::Read;
 use std::rt::Files;
@@ -51,7 +51,6 @@ pub(crate) fn note_reason<R: AllocGlobal + Eprint>(rt: &R, place: &Place<'_>, re
 
 // The fault of a file of a desk, if it has one: of the joint file, or of one in the folder, whose name is its key.
 fn fault_in<D: Folders>(
-    alloc: Global,
     disk: D,
     place: &Place<'_>,
     path: &str,
@@ -61,15 +60,15 @@ fn fault_in<D: Folders>(
         let Ok(key) = u16::from_str_radix(digits, 16) else {
             return Ok(None);
         };
-        let mut set = FileSet::new(alloc, disk, place.folder.clone()?);
+        let mut set = FileSet::new(disk, place.folder.clone()?);
         return Ok(held_at(&mut set, key).err().map(|fault| fault.name()));
     }
-    let mut joint = FileStore::new(alloc, disk, place.file.clone()?);
+    let mut joint = FileStore::new(disk, place.file.clone()?);
     match joint.load(MOST_JOINT_FILE_BYTES) {
         Ok(Some(bytes)) => Ok(JointFile::read(&bytes).err().map(|fault| fault.name())),
         Ok(None) => Ok(None),
-        Err(LoadFault::Device) => Ok(Some(MoveFault::Device.name())),
-        Err(LoadFault::Memory) => Err(AllocError),
+        Err(StoreFault::Device) => Ok(Some(MoveFault::Device.name())),
+        Err(StoreFault::Memory) => Err(AllocError),
     }
 }
 
@@ -81,7 +80,7 @@ pub(crate) fn note_faulty_file<R: AllocGlobal + Eprint, D: Folders>(
     place: &Place<'_>,
     path: &str,
 ) {
-    if let Ok(Some(name)) = fault_in(rt.alloc(), disk, place, path) {
+    if let Ok(Some(name)) = fault_in(disk, place, path) {
         note(rt, path, name);
     }
 }

@@ -126,9 +126,9 @@ impl<'a, R: AllocGlobal + Input + Eprint + Files<File = File> + Clone, W: Write>
         disks: (D, D),
         reader: &mut I,
     ) -> Result<u8, AllocError> {
-        let (alloc, (file, folder)) = (self.rt.alloc(), disks);
-        let store = FileStore::new(alloc, file, place.file.clone()?);
-        let set = FileSet::new(alloc, folder, place.folder.clone()?);
+        let (file, folder) = disks;
+        let store = FileStore::new(file, place.file.clone()?);
+        let set = FileSet::new(folder, place.folder.clone()?);
         Ok(self.do_over(store, set, reader))
     }
 

@@ -2,9 +2,9 @@
 use Rattle.std.specs.Prelude.{◌≡◌, ◌≤◌, ◌⊎◌, ◌||◌, ◌++◌, ◌+◌, ℕ, Bool, true, List, [], if◌then◌else◌, Option, Some, None, Result, Ok, Err, is_err, IsOk, IsTrue, IsSomeAnd}
 use Rattle.std.specs.FinMap as map
 use Rattle.dm_store.specs.Saved.{Saved, ListsKeys, LoadsOpen, SavedSet, Settles}
-use Rattle.dm_store.specs.declared.store.LoadFault.{LoadFault}
+use Rattle.dm_store.specs.declared.store.StoreFault.{StoreFault}
 use Rattle.dm_assembly_desk.specs.Documents.{Documents, Pages, summary}
-use Rattle.dm_assembly_desk.specs.Faults.{ask_fault_name, desk_fault_name, load_fault, move_fault_name}
+use Rattle.dm_assembly_desk.specs.Faults.{ask_fault_name, desk_fault_name, move_fault_name, move_fault_of}
 use Rattle.dm_assembly_desk.specs.Opening.{HasJointFileFault, HoldsJointFile, SeesKey}
 use Rattle.dm_assembly_desk.specs.declared.fault.AskFault.TheVariants as asks
 use Rattle.dm_assembly_desk.specs.declared.fault.DeskFault.{DeskFault}
@@ -78,8 +78,8 @@ pub data Says (set : SavedSet) (joint : SeenJoint) : Option ℕ → List ℕ →
       → Says set joint (Some id) (unsound_line id (desk_fault_name fault)) 1
   all : {text : List ℕ} {unsound : Bool} → Lists set joint 65536 text unsound
       → Says set joint None text (if unsound then 1 else 0)
-  no_keys : (why : LoadFault) → ListsKeys (λ (keys : List ℕ). keys) set 65536 (Err why) set
-      → Says set joint None (refused_line (move_fault_name (load_fault why))) 1
+  no_keys : (why : StoreFault) → ListsKeys (λ (keys : List ℕ). keys) set 65536 (Err why) set
+      → Says set joint None (refused_line (move_fault_name (move_fault_of why))) 1
 
 -- so it was told; or the output has failed at one of all documents, and a part of some first lines is out
 pub data TellsHeld (set : SavedSet) (joint : SeenJoint) (old : OutputView) (status : ℕ) (new : OutputView)
@@ -93,8 +93,8 @@ pub data TellsHeld (set : SavedSet) (joint : SeenJoint) (old : OutputView) (stat
 -- and what was seen was settled; or it could not be, though all was well, and that was refused
 abbrev pub TellsSettled : SavedSet → SeenJoint → OutputView → ℕ → OutputView → Option ℕ → Type 0
 TellsSettled set joint old status new id = TellsHeld set joint old status new id
-    ⊎ ((mid : OutputView) × (why : LoadFault) × TellsHeld set joint old 0 mid id × Settles set (Err why) set
-    × TellsRefusal (move_fault_name (load_fault why)) mid status new)
+    ⊎ ((mid : OutputView) × (why : StoreFault) × TellsHeld set joint old 0 mid id × Settles set (Err why) set
+    × TellsRefusal (move_fault_name (move_fault_of why)) mid status new)
 
 -- how `held` ends for an identification, or for all: it changes no file, and no other stream
 pub record EndsHeldOf (id : Option ℕ) (old : OnDesk) (status : ℕ) (new : OnDesk) : Type 0 where

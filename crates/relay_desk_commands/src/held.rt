@@ -16,7 +16,7 @@ use dm_append_label::FileId;
 use dm_assembly_desk::{
     AskFault, DeskFault, Held, JointFile, MOST_JOINT_FILE_BYTES, MoveFault, held_at, is_listed,
 };
-use dm_store::{LoadFault, Store, StoreSet};
+use dm_store::{Store, StoreFault, StoreSet};
 use relay_shared::{EndedDesk, Refusal, Streams, refuse, status_after};
 use relay_streams::{Output, WriteFault};
 use std::alloc::Allocator;
@@ -27,7 +27,7 @@ type SeenJoint<'a> = Result<Option<JointFile<'a>>, MoveFault>;
 
 // What the file of an older version is, by what was loaded of it: its bytes, or of a file that is too long the first of
 // them, one more than the greatest has.
-fn joint_in<A: Allocator>(loaded: &Result<Option<Vec<u8, A>>, LoadFault>) -> SeenJoint<'_>
+fn joint_in<A: Allocator>(loaded: &Result<Option<Vec<u8, A>>, StoreFault>) -> SeenJoint<'_>
     ensures { (saved after : Saved) → Loads (λ bytes. bytes.items) saved MOST_JOINT_FILE_BYTES loaded.entry.now after
         → SeesJoint saved result }
 {

@@ -2,7 +2,7 @@
 use Rattle.std.proofs.Common.{◌≡◌, ◌⊎◌, inl, inr, true, false, ℕ, List, Some, Result, Ok, Err, refl, sym, ap, subst, ◌∙◌, arith}
 use Rattle.std.specs.Prelude.{IsTrue}
 use Rattle.dm_store.specs.declared.fuse.Kept.TheVariants.{Old, New}
-use Rattle.dm_store.specs.declared.store.ReplaceFault.TheVariants as replacing
+use Rattle.dm_store.specs.declared.store.StoreFault.TheVariants as replacing
 use Rattle.dm_store.specs.declared.mem_store.NextSave.{NextSave}
 use Rattle.dm_store.specs.declared.mem_store.NextSave.TheVariants as next_save
 use Rattle.dm_store.specs.Saved.{Saved, SavePlan, LoadsFine, SavesFine, HeldAfterFault, Replaces, save_plan_of}

@@ -1,9 +1,7 @@
 //! One call on a store in a file or on a set in a folder, and the name of its answer.
 
 use crate::scripted::Scripted;
-use dm_store::{
-    DiskFault, FileSet, FileStore, LoadFault, RealDisk, RemoveFault, ReplaceFault, Store, StoreSet,
-};
+use dm_store::{FileSet, FileStore, RealDisk, Store, StoreFault, StoreSet};
 use std::alloc::{Allocator, Global};
 use test_helpers::{Refusing, says};
 
@@ -26,15 +24,6 @@ impl Call {
     pub fn is_load(self) -> bool {
         !matches!(self, Call::Replace | Call::ReplaceKey | Call::RemoveKey)
     }
-
-    // What is answered if memory is refused after that many growths, the first of which is the folder's own path. A
-    // remove can't say then whether the key is there.
-    pub fn refused(self, passes: u64) -> &'static str {
-        match self {
-            Call::RemoveKey if passes > 0 => "Device",
-            _ => "Memory",
-        }
-    }
 }
 
 // The allocator of a call.
@@ -53,29 +42,29 @@ pub fn text_of(bytes: &[u8]) -> &'static str {
     "other bytes"
 }
 
-fn loaded<A: Allocator>(answer: Result<Option<Vec<u8, A>>, LoadFault>) -> &'static str {
+fn loaded<A: Allocator>(answer: Result<Option<Vec<u8, A>>, StoreFault>) -> &'static str {
     match answer {
         Ok(Some(bytes)) => text_of(bytes.as_slice()),
         Ok(None) => "nothing",
-        Err(LoadFault::Device) => "Device",
-        Err(LoadFault::Memory) => "Memory",
+        Err(StoreFault::Device) => "Device",
+        Err(StoreFault::Memory) => "Memory",
     }
 }
 
-fn listed<A: Allocator>(answer: Result<Vec<u16, A>, LoadFault>, wanted: &[u16]) -> &'static str {
+fn listed<A: Allocator>(answer: Result<Vec<u16, A>, StoreFault>, wanted: &[u16]) -> &'static str {
     match answer {
         Ok(keys) if keys.as_slice() == wanted => "done",
         Ok(_) => "other keys",
-        Err(LoadFault::Device) => "Device",
-        Err(LoadFault::Memory) => "Memory",
+        Err(StoreFault::Device) => "Device",
+        Err(StoreFault::Memory) => "Memory",
     }
 }
 
-fn replaced(answer: Result<(), ReplaceFault>) -> &'static str {
+fn done(answer: Result<(), StoreFault>) -> &'static str {
     match answer {
         Ok(()) => "done",
-        Err(ReplaceFault::Device) => "Device",
-        Err(ReplaceFault::Memory) => "Memory",
+        Err(StoreFault::Device) => "Device",
+        Err(StoreFault::Memory) => "Memory",
     }
 }
 
@@ -89,10 +78,10 @@ fn of_store<A: Allocator + Copy>(
     let Ok(path) = format!(in memory; "{folder}/0001") else {
         return "Memory";
     };
-    let mut store = FileStore::new(memory, RealDisk::new(memory, files), path);
+    let mut store = FileStore::new(RealDisk::new(memory, files), path);
     match call {
         Call::Load(limit) => loaded(store.load(limit)),
-        _ => replaced(store.replace(b"three")),
+        _ => done(store.replace(b"three")),
     }
 }
 
@@ -106,17 +95,13 @@ fn of_set<A: Allocator + Copy>(
     let Ok(path) = String::from_str(memory, folder) else {
         return "Memory";
     };
-    let mut set = FileSet::new(memory, RealDisk::new(memory, files), path);
+    let mut set = FileSet::new(RealDisk::new(memory, files), path);
     match call {
-        Call::LoadKey(limit) => loaded(StoreSet::load(&mut set, 1, limit)),
-        Call::RemoveKey => match set.remove(1) {
-            Ok(()) => "done",
-            Err(RemoveFault::Device) => "Device",
-            Err(RemoveFault::Memory) => "Memory",
-        },
-        Call::Settle => listed(set.settle().map(|()| Vec::new(memory)), &[]),
+        Call::LoadKey(limit) => loaded(set.load(1, limit)),
+        Call::RemoveKey => done(set.remove(1)),
+        Call::Settle => done(set.settle()),
         Call::Keys(limit, wanted) => listed(set.keys(limit), wanted),
-        _ => replaced(StoreSet::replace(&mut set, 1, b"three")),
+        _ => done(set.replace(1, b"three")),
     }
 }
 
@@ -130,8 +115,6 @@ pub fn answer(files: &Scripted, memory: &Memory, folder: &str, call: Call) -> &'
 
 #[test]
 fn a_fault_says_what_it_is(rt: HostRuntime) {
-    assert!(rt; says(rt.alloc(), &ReplaceFault::Device, "the device failed"));
-    assert!(rt; says(rt.alloc(), &LoadFault::Memory, "out of memory"));
-    assert!(rt; says(rt.alloc(), &RemoveFault::Device, "the device failed"));
-    assert!(rt; says(rt.alloc(), &DiskFault::Memory, "out of memory"));
+    assert!(rt; says(rt.alloc(), &StoreFault::Device, "the device failed"));
+    assert!(rt; says(rt.alloc(), &StoreFault::Memory, "out of memory"));
 }

@@ -1,7 +1,7 @@
 //! What a stop of the machine leaves on the worst disk that the definitions allow: of a save, after a load, and of four
 //! ways to save that are wrong.
 
-use dm_store::{Disk, DiskFault, FileStore, Kept, ReplaceFault, Store};
+use dm_store::{Disk, FileStore, Kept, Store, StoreFault};
 use std::alloc::{AllocError, Global};
 use std::test::Fail;
 use test_helpers::{MemDisk, Stopping};
@@ -36,7 +36,7 @@ fn what_is_left(disk: &MemDisk) -> Option<Leaves> {
 // A disk on which a store has saved the old content, if it could, and whose machine stops at the call after so many.
 fn stopping(alloc: Global, passes: u32, kept: Kept) -> Result<Stopping<MemDisk>, AllocError> {
     let path = String::from_str(alloc, "ledger")?;
-    let mut store = FileStore::new(alloc, MemDisk::new(alloc), path);
+    let mut store = FileStore::new(MemDisk::new(alloc), path);
     let _ended = store.replace(b"old");
     Ok(Stopping::new(store.into_disk(), passes, kept))
 }
@@ -60,12 +60,12 @@ fn a_stop_leaves_the_old_or_the_new(rt: HostRuntime) -> Result<(), Fail> {
     for (passes, kept, wanted) in STOPS.iter() {
         let path = String::from_str(rt.alloc(), "ledger")?;
         let disk = stopping(rt.alloc(), *passes, *kept)?;
-        let mut store = FileStore::new(rt.alloc(), disk, path);
+        let mut store = FileStore::new(disk, path);
         let answer = store.replace(b"new");
-        assert!(rt; answer.err() == (*passes < 4).then_some(ReplaceFault::Device));
+        assert!(rt; answer.err() == (*passes < 4).then_some(StoreFault::Device));
         let disk = store.into_disk().into_inner();
         assert!(rt; what_is_left(&disk) == Some(*wanted));
-        let mut store = FileStore::new(rt.alloc(), disk, String::from_str(rt.alloc(), "ledger")?);
+        let mut store = FileStore::new(disk, String::from_str(rt.alloc(), "ledger")?);
         let is_new =
             matches!(store.load(9), Ok(Some(bytes)) if bytes.as_slice() == b"new".as_slice());
         let left = if is_new { Leaves::New } else { Leaves::Old };
@@ -84,7 +84,7 @@ enum Wrong {
     NoSyncOfFolder,
 }
 
-fn save_wrong<D: Disk>(disk: &mut D, wrong: Wrong) -> Result<(), DiskFault> {
+fn save_wrong<D: Disk>(disk: &mut D, wrong: Wrong) -> Result<(), StoreFault> {
     match wrong {
         Wrong::InPlace => {
             disk.write("ledger", b"new")?;

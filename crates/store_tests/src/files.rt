@@ -4,8 +4,10 @@
 
 use crate::calls::{Call, Memory, answer, text_of};
 use crate::scripted::{Listed, Scripted, Steps};
-use dm_store::{FileStore, RealDisk, ReplaceFault, Store};
+use dm_store::{FileStore, RealDisk, Store, StoreFault};
+use std::fs::Permissions;
 use std::io::ErrorKind;
+use std::os::unix::fs::PermissionsExt;
 use std::process::Abort;
 use std::test::Fail;
 use std::{env, fs, io, process};
@@ -32,10 +34,10 @@ const CASES: &[Case] = &[
     (Call::Load(1), "one", "one", "on", Steps::Any, 9),
     (Call::LoadKey(0), "one", "one", "o", Steps::Any, 9),
     (Call::Load(9), "nothing", "nothing", "nothing", Steps::LoadNothing, 9),
-    (Call::Replace, "one", "three", "done", Steps::Replace, 5),
-    (Call::ReplaceKey, "one", "three", "done", Steps::ReplaceKey, 8),
-    (Call::ReplaceKey, "nothing", "three", "done", Steps::ReplaceKey, 8),
-    (Call::RemoveKey, "one", "nothing", "done", Steps::Remove, 0),
+    (Call::Replace, "one", "three", "done", Steps::Replace, 7),
+    (Call::ReplaceKey, "one", "three", "done", Steps::ReplaceKey, 10),
+    (Call::ReplaceKey, "nothing", "three", "done", Steps::ReplaceNothing, 9),
+    (Call::RemoveKey, "one", "nothing", "done", Steps::Remove, 1),
     (Call::RemoveKey, "nothing", "nothing", "done", Steps::RemoveNothing, 0),
 ];
 
@@ -79,12 +81,13 @@ impl Place<'_> {
         (answer, held(self.rt, self.file))
     }
 
-    // The call of a case with each call on the file system failing, and with none; and where the system syncs no
-    // folders, which is the last that a call does.
+    // The call of a case with each call on the file system failing, which leaves no draft, and with none; and where the
+    // system syncs no folders, which is the last that a call does.
     fn fail_each(&self, rt: &impl Abort, case: &Case) -> io::Result<()> {
         let (call, before, after, done, steps, leaves) = *case;
         let memory = Refusing::new(self.files.alloc(), u64::MAX);
         let count = steps.text().split(',').count();
+        let draft = format!(in self.files.alloc(); "{}.new", self.file)?;
         for passes in 0..=count {
             self.make(before)?;
             self.files.begin(steps, passes, ErrorKind::PermissionDenied);
@@ -94,6 +97,7 @@ impl Place<'_> {
                     self.tried(call, &memory) == ("Device", content),
                     "{passes}"
                 );
+                assert!(rt; held(self.rt, draft.as_str()) == "nothing");
                 self.files.begin(Steps::Any, 0, ErrorKind::PermissionDenied);
             }
             assert!(rt; self.tried(call, &memory) == (done, after), "{passes}");
@@ -117,7 +121,7 @@ impl Place<'_> {
             let memory = Refusing::new(self.files.alloc(), passes);
             let mut tried = self.tried(call, &memory);
             if memory.is_spent() {
-                assert!(rt; tried == (call.refused(passes), before), "{passes}");
+                assert!(rt; tried == ("Memory", before), "{passes}");
                 tried = self.tried(call, &memory);
             }
             assert!(rt; tried == (done, after), "{passes}");
@@ -165,11 +169,24 @@ fn a_new_file_takes_the_place_of_nothing(rt: HostRuntime) -> Result<(), Fail> {
     let path = path_of(&rt, "new")?;
     let draft = format!(in rt.alloc(); "{path}.new")?;
     let disk = RealDisk::of_new_files(rt.alloc(), &rt);
-    let mut store = FileStore::new(rt.alloc(), disk, path.clone()?);
+    let mut store = FileStore::new(disk, path.clone()?);
     assert!(rt; store.replace(b"one") == Ok(()));
-    assert!(rt; store.replace(b"three") == Err(ReplaceFault::Device));
+    assert!(rt; store.replace(b"three") == Err(StoreFault::Device));
     assert!(rt; held(&rt, path.as_str()) == "one");
     assert!(rt; held(&rt, draft.as_str()) == "nothing");
+    fs::remove_file(&rt, path.as_str())?;
+    Ok(())
+}
+
+#[test]
+fn a_save_keeps_the_mode(rt: HostRuntime) -> Result<(), Fail> {
+    let path = path_of(&rt, "mode")?;
+    fs::write(&rt, path.as_str(), "one")?;
+    fs::set_permissions(&rt, path.as_str(), Permissions::from_mode(0o606))?;
+    let mut store = FileStore::new(RealDisk::new(rt.alloc(), &rt), path.clone()?);
+    assert!(rt; store.replace(b"three") == Ok(()));
+    assert!(rt; held(&rt, path.as_str()) == "three");
+    assert!(rt; fs::metadata(&rt, path.as_str())?.permissions().mode() & 0o777 == 0o606);
     fs::remove_file(&rt, path.as_str())?;
     Ok(())
 }

@@ -3,7 +3,7 @@
 
 use std::alloc::{Allocator, Global};
 use std::cell::Cell;
-use std::fs::{File, Metadata, OpenFile, OpenOptions};
+use std::fs::{File, Metadata, OpenFile, OpenOptions, Permissions};
 use std::io;
 use std::io::{ErrorKind, Read, Seek, SeekFrom, Write};
 use std::rc::Rc;
@@ -21,10 +21,13 @@ pub enum Steps {
     Load,
     LoadKey,
     LoadNothing,
-    // The new bytes go to a file beside, two at a time. It is synced, and takes the name; then the folder is synced.
+    // The new bytes go to a file beside, which gets the mode of the old one, two at a time. It is synced, and takes the
+    // name; then the folder is synced.
     Replace,
     // A set makes the folder first, whether it is there or not, and syncs the one above it.
     ReplaceKey,
+    ReplaceNothing,
+    // A draft goes first.
     Remove,
     // If neither the file nor its folder is there, the folder above is synced.
     RemoveNothing,
@@ -43,15 +46,21 @@ impl Steps {
             Steps::LoadKey => "look pages/0001, open pages/0001, look, read, read, read",
             Steps::LoadNothing => "look pages/0001",
             Steps::Replace => {
-                "open pages/0001.new, write, write, write, sync, rename pages/0001.new, \
-                open above/pages/, sync"
+                "look pages/0001, open pages/0001.new, mode, write, write, write, sync, \
+                rename pages/0001.new, open above/pages/, sync"
             }
             Steps::ReplaceKey => {
-                "make above/pages, open above/, sync, open pages/0001.new, write, write, write, \
-                sync, rename pages/0001.new, open above/pages/, sync"
+                "make above/pages, open above/, sync, look pages/0001, open pages/0001.new, mode, \
+                write, write, write, sync, rename pages/0001.new, open above/pages/, sync"
             }
-            Steps::Remove => "remove pages/0001, open above/pages/, sync",
-            Steps::RemoveNothing => "remove pages/0001, open above/pages/, open above/, sync",
+            Steps::ReplaceNothing => {
+                "make above/pages, open above/, sync, look pages/0001, open pages/0001.new, write, \
+                write, write, sync, rename pages/0001.new, open above/pages/, sync"
+            }
+            Steps::Remove => { "remove pages/0001.new, remove pages/0001, open above/pages/, sync" }
+            Steps::RemoveNothing => {
+                "remove pages/0001.new, remove pages/0001, open above/pages/, open above/, sync"
+            }
             Steps::Keys => "list above/pages/, names, names",
             Steps::Settle => "open above/pages/, sync",
         }
@@ -96,10 +105,13 @@ struct Script {
 }
 
 impl Script {
-    // Whether this call may come now.
+    // Whether this call may come now. A draft may be removed after the call that failed.
     fn comes(&self, call: &str, path: &str) -> io::Result<()> {
         let place = self.came.get();
         self.came.set(place.saturating_add(1));
+        if place > self.passes.get() && call == "remove" && path.ends_with(".new") {
+            return Ok(());
+        }
         let steps = self.steps.get().text();
         let is_right = match steps.split(',').nth(place) {
             Some(step) => {
@@ -233,6 +245,11 @@ impl OpenFile for ScriptedFile {
 
     fn sync_data(&self) -> io::Result<()> {
         unsupported()
+    }
+
+    fn set_permissions(&self, mode: Permissions) -> io::Result<()> {
+        self.script.comes("mode", "")?;
+        self.system.set_permissions(mode)
     }
 }
 

@@ -1,12 +1,14 @@
 -- The keys whose files a reader finds in a folder of a disk in memory: each is below one more than the greatest that a
 -- call names.
-use Rattle.std.proofs.Common.{◌≡◌, ◌≢◌, ◌<◌, ◌≤◌, ◌+◌, ◌-◌, ◌^◌, ℕ, zero, suc, Bool, true, false, List, [], ◌∷◌, ◌++◌, None, drop, take, length, get_or, refl, sym, ap, subst, arith, add-one, length-append}
+use Rattle.std.proofs.Common.{◌≡◌, ◌≢◌, ◌<◌, ◌≤◌, ◌+◌, ◌-◌, ◌^◌, ℕ, suc, Bool, true, false, List, [], ◌∷◌, ◌++◌, None, drop, take, ◌∙◌, ⊎_elim, length, get_or, refl, sym, ap, arith, add-one, length-append}
 use Rattle.std.specs.Prelude.{codes, if◌then◌else◌}
 use Rattle.std.specs.Str.{bytes_eq}
 use Rattle.std.proofs.lemmas.List.{drop_at, take_all}
 use Rattle.std.proofs.lemmas.Slice.Eq.{bytes_eq-Decides}
 use Rattle.dm_store.specs.Disk.{Content, held_below, key_name, key_path, with_found}
 use Rattle.dm_store.specs.Saved.{Contents}
+use Rattle.dm_store.proofs.Held.{held_above, held_at, known}
+use Rattle.std.proofs.lemmas.Bool.{cases_lt}
 
 four : (key : ℕ) → length (key_name key) ≡ 4
 unfolding key_name
@@ -52,18 +54,9 @@ unfolding held_below
 one_more found n held next is more = rw add-one (rw is at more)
 
 -- what is found at the keys below n is all that is found, if nothing is found at those from n on
-none_above : (found : ℕ → Content) (n more : ℕ) → ((key : ℕ) → n ≤ key → key < n + more → found key ≡ None)
-    → held_below found (n + more) ≡ held_below found n
-unfolding held_below
-none_above found n zero none = ap (held_below found) (let is : n + 0 ≡ n = omega arith in is)
-none_above found n (suc more) none =
-    let is : n + suc more ≡ suc (n + more) = omega arith in
-    rw (is, none (n + more) (omega arith) (omega arith))
-    (none_above found n more (λ key ge lt. none key ge (omega (arith, lt))))
-
 pub all_found : (found : ℕ → Content) (n : ℕ) → n ≤ 2 ^ 16
     → ((key : ℕ) → key < 2 ^ 16 → n ≤ key → found key ≡ None) → held_below found (2 ^ 16) ≡ held_below found n
-all_found found n le none =
-    let is : n + (2 ^ 16 - n) ≡ 2 ^ 16 = omega arith in
-    subst (λ (m : ℕ). held_below found m ≡ held_below found n) is
-    (none_above found n (2 ^ 16 - n) (λ key ge lt. none key (omega (arith, lt)) ge))
+all_found found n le none = known found found (2 ^ 16) (held_below found n)
+    (λ q lt. ⊎_elim (λ (below : q < n). held_at found n q below)
+    (λ (above : n ≤ q). held_above found n q above ∙ sym (none q lt above)) (cases_lt q n))
+    (λ q above. held_above found n q (omega (arith, le, above)))

@@ -6,12 +6,13 @@ use Rattle.std.specs.List.{starts_with}
 use Rattle.std.specs.Prelude.{IsOk, OnOk, OnErr, codes, if◌then◌else◌, nat_eq, ◌&&◌}
 use Rattle.std.specs.Str.{bytes_eq}
 use Rattle.std.specs.String.{string_bytes}
-use Rattle.dm_store.specs.declared.disk.DiskFault.{DiskFault}
+use Rattle.dm_store.specs.declared.store.StoreFault.{StoreFault}
 use Rattle.test_helpers.specs.declared.mem_disk.DiskCall.{DiskCall}
 use Rattle.test_helpers.specs.declared.mem_disk.DiskCall.TheVariants.{SyncedEntry, SyncedFolder}
 use Rattle.dm_store.specs.Disk.{Content, Keeps, SettlesFolder, SyncsEntry, key_name}
 use Rattle.std.specs.Option.{option_eq}
 use Rattle.test_helpers.specs.DiskCalls.{seen_after, synced_after, leaves_after, disk_after}
+use Rattle.dm_store.proofs.Saving.{keeps_same}
 use Rattle.test_helpers.proofs.SeenIsLeft.{leaves_seen}
 
 same_content : (a b : Content) → option_eq bytes_eq a b ≡ true → a ≡ b
@@ -38,20 +39,19 @@ left_after true false calls name content is_it is_on is = cc
 left_after false on calls name content is_it is_on is = cc
 
 pub noted_kept : {A : Type 0} (calls later : List (DiskCall A)) (call : DiskCall A) (each : List ℕ)
-    (answer : Result (Unit {0}) DiskFault) → Keeps (disk_after calls) each (disk_after (call ∷ calls))
+    (answer : Result (Unit {0}) StoreFault) → Keeps (disk_after calls) each (disk_after (call ∷ calls))
     → OnOk answer (later ≡ call ∷ calls) → OnErr answer (later ≡ calls) →
     Keeps (disk_after calls) each (disk_after later)
 noted_kept {A} calls later call each (Ok done) kept ok err =
     subst (λ (es : List (DiskCall A)). Keeps (disk_after calls) each (disk_after es)) (sym ok) kept
 noted_kept {A} calls later call each (Err fault) kept ok err =
-    subst (λ (es : List (DiskCall A)). Keeps (disk_after calls) each (disk_after es)) (sym err)
-    (record { seen = refl; synced = λ on. on; left = λ content leaves. leaves })
+    subst (λ (es : List (DiskCall A)). Keeps (disk_after calls) each (disk_after es)) (sym err) keeps_same
 
-not_ok : (fault : DiskFault) → IsOk {T = Unit {0}} {E = DiskFault} (Err fault) → ⊥
+not_ok : (fault : StoreFault) → IsOk {T = Unit {0}} {E = StoreFault} (Err fault) → ⊥
 not_ok fault ok = cc
 
 pub noted_entry : {A : Type 0} (calls later : List (DiskCall A)) (n : String A) (name : List ℕ)
-    (answer : Result (Unit {0}) DiskFault) → string_bytes n ≡ name
+    (answer : Result (Unit {0}) StoreFault) → string_bytes n ≡ name
     → OnOk answer (later ≡ SyncedEntry n ∷ calls) → SyncsEntry (disk_after calls) name answer (disk_after later)
 noted_entry {A} calls later n name (Ok done) is ok = record {
   done = λ _ on content leaves.
@@ -66,7 +66,7 @@ in_folder : (start rest : List ℕ) → starts_with nat_eq (start ++ rest) start
 in_folder start rest = (starts_is Decides-eqb (start ++ rest) start _ refl).1 rest refl
 
 pub noted_folder : {A : Type 0} (calls later : List (DiskCall A)) (start : String A) (folder : List ℕ)
-    (answer : Result (Unit {0}) DiskFault) → string_bytes start ≡ folder ++ codes "/"
+    (answer : Result (Unit {0}) StoreFault) → string_bytes start ≡ folder ++ codes "/"
     → OnOk answer (later ≡ SyncedFolder start ∷ calls)
     → SettlesFolder (disk_after calls) folder answer (disk_after later)
 noted_folder {A} calls later start folder (Ok done) is ok = λ _ key lt on content leaves.

@@ -6,7 +6,7 @@ ghost use Rattle.std.specs.Option.{option_eq};
 ghost use Rattle.std.specs.Str.{bytes_eq};
 ghost use Rattle.test_helpers.specs.DiskCalls.{seen_after, synced_after, leaves_after};
 
-use dm_store::{Disk, DiskFault, LoadFault};
+use dm_store::{Disk, StoreFault};
 use std::alloc::{Allocator, Global};
 
 /// A call of a disk that was done.
@@ -155,13 +155,13 @@ fn may_leave_in<A: Allocator>(calls: &[DiskCall<A>], name: &str, content: Option
 pub(crate) fn note<A: Allocator>(
     calls: &mut Vec<DiskCall<A>, A>,
     call: DiskCall<A>,
-) -> Result<(), DiskFault>
+) -> Result<(), StoreFault>
     ensures ok { OnOk result (calls.new.items ≡ call ∷ calls.old.items) }
     ensures err { OnErr result (calls.new.items ≡ calls.old.items) }
 {
     match calls.insert(0, call) {
         Ok(()) => Ok(()),
-        Err(_) => Err(DiskFault::Memory),
+        Err(_) => Err(StoreFault::Memory),
     }
 }
 
@@ -192,7 +192,7 @@ impl<A: Allocator + Copy> Disk for MemDisk<A> {
 
     ghost state = { λ d. disk_after d.calls.items };
 
-    fn read(&mut self, name: &str, limit: usize) -> Result<Option<Vec<u8, A>>, LoadFault> {
+    fn read(&mut self, name: &str, limit: usize) -> Result<Option<Vec<u8, A>>, StoreFault> {
         let Some(bytes) = seen_in(&self.calls, name) else {
             return Ok(None);
         };
@@ -200,32 +200,32 @@ impl<A: Allocator + Copy> Disk for MemDisk<A> {
         Ok(Some(Vec::from_slice(self.alloc, shown)?))
     }
 
-    fn write(&mut self, name: &str, bytes: &[u8]) -> Result<(), DiskFault> {
+    fn write(&mut self, name: &str, bytes: &[u8]) -> Result<(), StoreFault> {
         let written = String::from_str(self.alloc, name)?;
         let copy = Vec::from_slice(self.alloc, bytes)?;
         note(&mut self.calls, DiskCall::Wrote(written, copy))
     }
 
-    fn sync(&mut self, name: &str) -> Result<(), DiskFault> {
+    fn sync(&mut self, name: &str) -> Result<(), StoreFault> {
         let synced = String::from_str(self.alloc, name)?;
         note(&mut self.calls, DiskCall::Synced(synced))
     }
 
-    fn rename(&mut self, from: &str, to: &str) -> Result<(), DiskFault> {
+    fn rename(&mut self, from: &str, to: &str) -> Result<(), StoreFault> {
         if seen_in(&self.calls, from).is_none() {
-            return Err(DiskFault::Device);
+            return Err(StoreFault::Device);
         }
         let old = String::from_str(self.alloc, from)?;
         let new = String::from_str(self.alloc, to)?;
         note(&mut self.calls, DiskCall::Renamed(old, new))
     }
 
-    fn remove(&mut self, name: &str) -> Result<(), DiskFault> {
+    fn remove(&mut self, name: &str) -> Result<(), StoreFault> {
         let removed = String::from_str(self.alloc, name)?;
         note(&mut self.calls, DiskCall::Removed(removed))
     }
 
-    fn sync_entry(&mut self, name: &str) -> Result<(), DiskFault> {
+    fn sync_entry(&mut self, name: &str) -> Result<(), StoreFault> {
         let synced = String::from_str(self.alloc, name)?;
         note(&mut self.calls, DiskCall::SyncedEntry(synced))
     }

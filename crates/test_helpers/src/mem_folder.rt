@@ -5,7 +5,7 @@ ghost use Rattle.dm_store.specs.Disk.{key_path, with_found};
 ghost use Rattle.test_helpers.specs.DiskCalls.{seen_after};
 
 use crate::mem_disk::{DiskCall, MemDisk, note, seen_in};
-use dm_store::{DiskFault, Folders, KeyMap, LoadFault, SavedBytes, key_of, path_of};
+use dm_store::{Folders, KeyMap, SavedBytes, StoreFault, key_of, path_of};
 use std::alloc::{AllocError, Allocator};
 
 // One more than the key whose file has this name in some folder; 0 for any other name.
@@ -52,14 +52,14 @@ fn hold<A: Allocator + Copy>(
 }
 
 impl<A: Allocator + Copy> Folders for MemDisk<A> {
-    fn make_folder(&mut self, _folder: &str) -> Result<(), DiskFault> {
+    fn make_folder(&mut self, _folder: &str) -> Result<(), StoreFault> {
         Ok(())
     }
 
-    fn keys(&mut self, folder: &str, limit: usize) -> Result<Vec<u16, A>, LoadFault> {
+    fn keys(&mut self, folder: &str, limit: usize) -> Result<Vec<u16, A>, StoreFault> {
         let mut held = KeyMap::new(self.alloc);
         for key in 0..bound_of(&self.calls) {
-            let path = path_of(self.alloc, folder, key as u16)?;
+            let path = path_of(folder, key as u16)?;
             let found = seen_in(&self.calls, path.as_str());
             hold(self.alloc, &mut held, key as u16, found)?;
         }
@@ -67,7 +67,7 @@ impl<A: Allocator + Copy> Folders for MemDisk<A> {
         Ok(keys)
     }
 
-    fn settle_folder(&mut self, folder: &str) -> Result<(), DiskFault> {
+    fn settle_folder(&mut self, folder: &str) -> Result<(), StoreFault> {
         let start = format!(in self.alloc; "{folder}/")?;
         note(&mut self.calls, DiskCall::SyncedFolder(start))
     }

@@ -2,7 +2,7 @@
 
 ghost use Rattle.std.specs.Prelude.{◌≡◌, IsErrOf, IsOk};
 
-use dm_store::{Disk, DiskFault, Folders, Kept, LoadFault};
+use dm_store::{Disk, Folders, Kept, StoreFault};
 
 /// A disk whose machine stops: its first calls are made. The next call, at which it stops, is made if it changes the
 /// disk and [`Kept::New`] was asked for; it fails either way. Each later call fails and changes nothing.
@@ -26,13 +26,13 @@ enum Turn {
 
 impl Turn {
     // The answer to a call that is made: the machine may stop within it.
-    fn answer(self, made: Result<(), DiskFault>) -> Result<(), DiskFault>
+    fn answer(self, made: Result<(), StoreFault>) -> Result<(), StoreFault>
         ensures ok { IsOk result → IsOk made }
-        ensures memory { IsErrOf result DiskFault.Memory → IsErrOf made DiskFault.Memory }
+        ensures memory { IsErrOf result StoreFault.Memory → IsErrOf made StoreFault.Memory }
     {
         match self {
             Turn::Passes => made,
-            Turn::Made => Err(DiskFault::Device),
+            Turn::Made => Err(StoreFault::Device),
         }
     }
 }
@@ -58,7 +58,7 @@ impl<D> Stopping<D> {
 }
 
 // Counts a call.
-fn take(left: &mut Option<u32>, kept: Kept) -> Result<Turn, DiskFault> {
+fn take(left: &mut Option<u32>, kept: Kept) -> Result<Turn, StoreFault> {
     match (*left, kept) {
         (Some(0), Kept::New) => {
             *left = None;
@@ -66,7 +66,7 @@ fn take(left: &mut Option<u32>, kept: Kept) -> Result<Turn, DiskFault> {
         }
         (Some(0), Kept::Old) | (None, _) => {
             *left = None;
-            Err(DiskFault::Device)
+            Err(StoreFault::Device)
         }
         (Some(calls), _) => {
             *left = Some(calls - 1);
@@ -80,58 +80,58 @@ impl<D: Disk> Disk for Stopping<D> {
 
     ghost state = { λ stopping. D.state stopping.disk };
 
-    fn read(&mut self, name: &str, limit: usize) -> Result<Option<Vec<u8, D::Memory>>, LoadFault> {
+    fn read(&mut self, name: &str, limit: usize) -> Result<Option<Vec<u8, D::Memory>>, StoreFault> {
         match take(&mut self.left, self.kept) {
             Ok(Turn::Passes) => self.disk.read(name, limit),
-            Ok(Turn::Made) | Err(_) => Err(LoadFault::Device),
+            Ok(Turn::Made) | Err(_) => Err(StoreFault::Device),
         }
     }
 
-    fn write(&mut self, name: &str, bytes: &[u8]) -> Result<(), DiskFault> {
+    fn write(&mut self, name: &str, bytes: &[u8]) -> Result<(), StoreFault> {
         let turn = take(&mut self.left, self.kept)?;
         turn.answer(self.disk.write(name, bytes))
     }
 
-    fn sync(&mut self, name: &str) -> Result<(), DiskFault> {
+    fn sync(&mut self, name: &str) -> Result<(), StoreFault> {
         let turn = take(&mut self.left, self.kept)?;
         turn.answer(self.disk.sync(name))
     }
 
-    fn rename(&mut self, from: &str, to: &str) -> Result<(), DiskFault> {
+    fn rename(&mut self, from: &str, to: &str) -> Result<(), StoreFault> {
         let turn = take(&mut self.left, self.kept)?;
         turn.answer(self.disk.rename(from, to))
     }
 
-    fn remove(&mut self, name: &str) -> Result<(), DiskFault> {
+    fn remove(&mut self, name: &str) -> Result<(), StoreFault> {
         let turn = take(&mut self.left, self.kept)?;
         turn.answer(self.disk.remove(name))
     }
 
-    fn sync_entry(&mut self, name: &str) -> Result<(), DiskFault> {
+    fn sync_entry(&mut self, name: &str) -> Result<(), StoreFault> {
         let turn = take(&mut self.left, self.kept)?;
         turn.answer(self.disk.sync_entry(name))
     }
 
-    fn settle_entry(&mut self, name: &str) -> Result<(), DiskFault> {
+    fn settle_entry(&mut self, name: &str) -> Result<(), StoreFault> {
         let turn = take(&mut self.left, self.kept)?;
         turn.answer(self.disk.settle_entry(name))
     }
 }
 
 impl<D: Folders> Folders for Stopping<D> {
-    fn make_folder(&mut self, folder: &str) -> Result<(), DiskFault> {
+    fn make_folder(&mut self, folder: &str) -> Result<(), StoreFault> {
         let turn = take(&mut self.left, self.kept)?;
         turn.answer(self.disk.make_folder(folder))
     }
 
-    fn keys(&mut self, folder: &str, limit: usize) -> Result<Vec<u16, D::Memory>, LoadFault> {
+    fn keys(&mut self, folder: &str, limit: usize) -> Result<Vec<u16, D::Memory>, StoreFault> {
         match take(&mut self.left, self.kept) {
             Ok(Turn::Passes) => self.disk.keys(folder, limit),
-            Ok(Turn::Made) | Err(_) => Err(LoadFault::Device),
+            Ok(Turn::Made) | Err(_) => Err(StoreFault::Device),
         }
     }
 
-    fn settle_folder(&mut self, folder: &str) -> Result<(), DiskFault> {
+    fn settle_folder(&mut self, folder: &str) -> Result<(), StoreFault> {
         let turn = take(&mut self.left, self.kept)?;
         turn.answer(self.disk.settle_folder(folder))
     }

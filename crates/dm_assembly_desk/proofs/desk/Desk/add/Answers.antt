@@ -2,8 +2,8 @@ use Rattle.std.proofs.Common.{arith, ◌≡◌, ◌≢◌, ◌∙◌, ℕ, false
 use Rattle.std.specs.FinMap.{insert}
 use Rattle.std.proofs.lemmas.List.{length-map}
 use Rattle.dm_store.specs.Saved.{Refused, outcome_of}
-use Rattle.dm_store.specs.declared.store.ReplaceFault.{ReplaceFault}
-use Rattle.dm_store.specs.declared.store.ReplaceFault.TheVariants as replacing
+use Rattle.dm_store.specs.declared.store.StoreFault.{StoreFault}
+use Rattle.dm_store.specs.declared.store.StoreFault.TheVariants as replacing
 use Rattle.dm_assembly_desk.specs.Documents.{Pages, lent_bytes, IsEntry, file, Documents, DeskView}
 use Rattle.dm_assembly_desk.specs.Faults.{keep_fault}
 use Rattle.dm_assembly_desk.specs.Adding.{answer_by, add_kind, added_to, pages_with, reply_of, Adds}
@@ -25,7 +25,7 @@ named : (held : Documents) (id : ℕ) (given : Pages) (kind : Kind) (file_id n a
 named held id given kind file_id n added id_is n_is added_is = cc
 
 -- what is answered where the save was not done
-answered : (fault : ReplaceFault) (done : Result Imported AddFault) →
+answered : (fault : StoreFault) (done : Result Imported AddFault) →
     Err (keep_fault fault) ≡ answer_by done (Err adds.Memory) (Err adds.Save) (outcome_of (Err fault))
 answered fault done = grind arith
 

@@ -1,9 +1,9 @@
 use Rattle.std.proofs.Common.{arith, ◌≡◌, ℕ, true, Result, Ok, Err, refl, sym, subst, rules}
 use Rattle.std.specs.Prelude.{IsSome}
 use Rattle.std.specs.FinMap.{get, remove}
-use Rattle.dm_store.specs.Saved.{Refused, SavedSet, RemovesKey, outcome_of_remove}
-use Rattle.dm_store.specs.declared.set.RemoveFault.{RemoveFault}
-use Rattle.dm_store.specs.declared.set.RemoveFault.TheVariants as removing
+use Rattle.dm_store.specs.Saved.{Refused, SavedSet, RemovesKey, outcome_of}
+use Rattle.dm_store.specs.declared.store.StoreFault.{StoreFault}
+use Rattle.dm_store.specs.declared.store.StoreFault.TheVariants as removing
 use Rattle.dm_assembly_desk.specs.Documents.{Documents, DeskView, IsInOrder}
 use Rattle.dm_assembly_desk.specs.Adding.{answer_by, Ends, Forgets}
 use Rattle.dm_assembly_desk.specs.declared.fault.ForgetFault.{ForgetFault}
@@ -13,10 +13,10 @@ use Rattle.dm_assembly_desk.proofs.Saving.{gone_ends, gone_order, refused_same}
 use Rattle.dm_assembly_desk.proofs.desk.Desk.forget.Goals as goal
 
 -- a document that is held is let go, and the remove has ended so
-lets_go : (old : DeskView) (id : ℕ) (answer : Result (Unit {0}) RemoveFault) (result : Result (Unit {0}) ForgetFault)
+lets_go : (old : DeskView) (id : ℕ) (answer : Result (Unit {0}) StoreFault) (result : Result (Unit {0}) ForgetFault)
     (new : DeskView) → IsSome (get old.held id) →
-    result ≡ answer_by (Ok tt) (Err forgets.Memory) (Err forgets.Save) (outcome_of_remove answer) →
-    Ends id (remove old.held id) (outcome_of_remove answer) old new → Forgets id old result new
+    result ≡ answer_by (Ok tt) (Err forgets.Memory) (Err forgets.Save) (outcome_of answer) →
+    Ends id (remove old.held id) (outcome_of answer) old new → Forgets id old result new
 lets_go old id answer result new some is ends = search rules
 
 pub invariant_of-self : goal.invariant_of-self
@@ -47,7 +47,7 @@ returns-in-Ok-clause-forgotten g c = λ _.
     subst (λ (i : ℕ). Forgets i c.args.self.now (Ok tt) new) c.number-id.ensures.same
     (subst (λ (before : DeskView). Forgets c.number-id.result before (Ok tt) new) c.self.view_is
     (lets_go old c.number-id.result (Ok tt) (Ok tt) new some refl
-    (subst (λ (d : Documents). Ends c.number-id.result (remove old.held c.number-id.result) (outcome_of_remove (Ok tt))
+    (subst (λ (d : Documents). Ends c.number-id.result (remove old.held c.number-id.result) (outcome_of (Ok tt))
     old (desk_of set d old.capacity old.is_failed)) (sym c.remove-in-Ok.ensures.after)
     (gone_ends old c.number-id.result set c.self.invariant c.if-self.false some (Ok tt) c.in-Ok.ensures.removes))))
 

@@ -1,7 +1,7 @@
 use Rattle.std.proofs.Common.{arith, ◌≡◌, ◌∙◌, ◌<◌, ℕ, true, None, Ok, Err, refl, ap, sym, subst, rules}
 use Rattle.std.specs.FinMap.{get, insert, len}
 use Rattle.dm_store.specs.Saved.{Done, Faulted, Refused, SavedSet, SavesKey}
-use Rattle.dm_store.specs.declared.store.ReplaceFault.TheVariants as replacing
+use Rattle.dm_store.specs.declared.store.StoreFault.TheVariants as replacing
 use Rattle.dm_assembly_desk.specs.Documents.{file, Documents, DeskView, IsInOrder}
 use Rattle.dm_assembly_desk.specs.Adding.{Ends}
 use Rattle.dm_assembly_desk.proofs.DeskViews.{desk_of}

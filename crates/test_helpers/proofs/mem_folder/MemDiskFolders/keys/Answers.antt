@@ -11,7 +11,7 @@ loop-key-init g c = c.new-held.ensures
 
 pub loop-key-preserved : goal.loop-key-preserved
 loop-key-preserved g c =
-    let seen = rw (c.deref-in-loop-key.ensures.value, c.as_str.ensures.value, c.in_ok-path.ensures) at
+    let seen = rw (c.deref-in-loop-key.ensures.value, c.as_str.ensures.value, c.in_ok-path.ensures.path) at
     c.seen_in-found.ensures in
     one_more _ c.loop-key.key c.loop-key.held _ c.loop-key.invariant
     (c.in_ok-hold.ensures ∙ ap (with_found c.loop-key.held c.loop-key.key) seen)

@@ -1,5 +1,5 @@
 use Rattle.dm_store.proofs.InFolder.{set_settles}
-use Rattle.dm_store.proofs.file_set.FiledStoreSet.settle.Goals as goal
+use Rattle.dm_store.proofs.file_set.FiledAtFolderStoreSet.settle.Goals as goal
 
 pub returns-clause-settles : goal.returns-clause-settles
 returns-clause-settles g c = rw (← c.self.view_is)

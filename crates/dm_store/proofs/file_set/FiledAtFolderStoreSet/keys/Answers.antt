@@ -1,5 +1,5 @@
 use Rattle.dm_store.proofs.InFolder.{set_lists}
-use Rattle.dm_store.proofs.file_set.FiledStoreSet.keys.Goals as goal
+use Rattle.dm_store.proofs.file_set.FiledAtFolderStoreSet.keys.Goals as goal
 
 pub returns-clause-lists : goal.returns-clause-lists
 returns-clause-lists g c = rw (← c.self.view_is) (rw c.as_str.ensures.value at

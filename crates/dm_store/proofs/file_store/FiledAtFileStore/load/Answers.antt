@@ -1,5 +1,5 @@
 use Rattle.dm_store.proofs.Saving.{keeps_on}
-use Rattle.dm_store.proofs.file_store.FiledStore.load.Goals as goal
+use Rattle.dm_store.proofs.file_store.FiledAtFileStore.load.Goals as goal
 
 pub returns-in_err-bytes-clause-kept : goal.returns-in_err-bytes-clause-kept
 returns-in_err-bytes-clause-kept g c = rw (← c.self.view_is) c.read.ensures.kept
