@@ -1,5 +1,5 @@
 -- The premises of the laws, of the commands of the worked list.
-use Rattle.std.proofs.Common.{◌≡◌, ◌≤◌, ◌<◌, ◌++◌, inl, ℕ, List, [], ◌∷◌, None, Option, Some, length, slice_get, refl, sym, ap, subst, ◌∙◌, arith}
+use Rattle.std.proofs.Common.{◌≡◌, ◌≤◌, ◌<◌, ◌++◌, inl, inr, ℕ, List, [], ◌∷◌, None, Option, Some, length, slice_get, refl, sym, ap, subst, ◌∙◌, arith}
 use Rattle.std.specs.Prelude.{AllPairs, IfSome, IsSomeAnd, IsTrue, codes, is_some, true}
 use Rattle.std.specs.Borrow.{Bor}
 use Rattle.std.specs.List.{AllByRecursion}
@@ -9,19 +9,20 @@ use Rattle.dm_encodation.specs.declared.scheme.Scheme.TheVariants.{Ascii}
 use Rattle.dm_finder_frame.specs.Frame.{GridView}
 use Rattle.dm_symbol.specs.Correction.{IsNear, words_of_grid}
 use Rattle.dm_print_ledger.specs.Ledger.{JobView}
-use Rattle.relay_command.specs.declared.command.Command.TheVariants.{Deliver, Export, Give, Import, Ledger, Print, Scan, Take}
+use Rattle.relay_command.specs.declared.command.Command.TheVariants.{Copy, Deliver, Export, Give, Import, Ledger, Print, Scan, Take}
 use Rattle.relay_command.specs.declared.command.Labels.TheVariants.{OfSide}
 use Rattle.relay_printer_commands.specs.Tickets.{IsTextOf}
+use Rattle.relay_printer_commands.specs.Print.{images_of}
 use Rattle.relay_desk_commands.specs.Desks.{DeskFiles}
 use Rattle.relay_runs.proofs.TicketTexts.{ten_ticket}
 use Rattle.relay_desk_runs.specs.Answered.{grids_scanned}
 use Rattle.relay.specs.Commands.{path_of}
 use Rattle.relay_program_runs.specs.Law.{AreApart, At, LetsOut, Ran, SomeRan, TakesPrinted, passed}
 use Rattle.relay_program_runs.specs.Worked.{Delivers, IsDone, IsWorked, given, no_files}
-use Rattle.relay_program_runs.proofs.Images.{scanned_so}
+use Rattle.relay_program_runs.proofs.Images.{Is12, scanned_so}
 use Rattle.relay_program_runs.proofs.Lists.{all_so}
 use Rattle.relay_program_runs.proofs.Steps.{Step, also, and_made, blank, cut, exits, new, pairs_so, ran, rans_of, run_so, stops, takes_given, there}
-use Rattle.relay_program_runs.proofs.WorkedFacts.{IsIn, PrintedWell, export_done, gave, import_of_all, its_made, keeps_fresh, one_made, print_done, took}
+use Rattle.relay_program_runs.proofs.WorkedFacts.{IsIn, PrintedWell, copy_done, export_done, gave, import_of_all, its_made, keeps_fresh, one_made, print_done, took}
 
 near_itself : (grid : GridView) → IsNear grid grid
 near_itself grid = record {
@@ -49,8 +50,8 @@ delivered : {A : Type 0} {f i : Bor (List ℕ)} {x y : DeskFiles} {o path writte
 delivered r named is =
     record { asks = refl; path_is = named; well = refl; before = refl; after = r.output_is ∙ ap Some is }
 
-module _ {A : Type 0} {f1 f2 f3 f4 f5 f6 f7 f8 f9 f10 f11 f12 t i9 i10 i12 : Bor (List ℕ)}
-    {a1 a2 a3 a4 a5 b1 b2 d1 d2 d3 e1 e2 : DeskFiles} {o1 o2 o3 o4 o5 o6 o7 o8 o9 o10 o11 o12 : List ℕ} {st : ℕ}
+module _ {A : Type 0} {f1 f2 f3 f4 f5 f6 f7 f8 f9 f10 f11 f12 f13 f14 t i9 i10 i11 i14 : Bor (List ℕ)}
+    {a1 a2 a3 a4 a5 b1 b2 d1 d2 d3 d4 e1 e2 e3 : DeskFiles} {o1 o2 o3 o4 o5 o6 o7 o8 o9 o10 o11 o12 o13 o14 : List ℕ} {st : ℕ}
     (r1 : IsDone A (Ledger f1 0 0 99) no_files [] 0 a1 o1)
     (r2 : IsDone A (Ledger f2 2 100 199) no_files [] 0 b1 o2)
     (r3 : IsDone A (Give f3 0 2 0 9) a1 [] 0 a2 o3)
@@ -61,20 +62,24 @@ module _ {A : Type 0} {f1 f2 f3 f4 f5 f6 f7 f8 f9 f10 f11 f12 t i9 i10 i12 : Bor
     (r8 : IsDone A (Scan f8 10) no_files o5 0 d1 o8)
     (r9 : IsDone A (Deliver f9 i9) d1 [] 0 d2 o9)
     (r10 : IsDone A (Export f10 i10) d2 [] 0 d3 o10)
-    (r11 : IsDone A (Import f11 10) no_files o10 0 e1 o11)
-    (r12 : IsDone A (Deliver f12 i12) e1 [] 0 e2 o12)
+    (r11 : IsDone A (Copy f11 i11 1 12 Ascii) d3 [] 0 d4 o11)
+    (r12 : IsDone A (Scan f12 10) no_files o11 0 e1 o12)
+    (r13 : IsDone A (Import f13 10) e1 o10 0 e2 o13)
+    (r14 : IsDone A (Deliver f14 i14) e2 [] 0 e3 o14)
     (n1 : f1.now ≡ codes "a") (n2 : f2.now ≡ codes "b") (n3 : f3.now ≡ codes "a") (n4 : f4.now ≡ codes "b")
     (n5 : f5.now ≡ codes "a") (n6 : f6.now ≡ codes "a") (n7 : f7.now ≡ codes "a") (n8 : f8.now ≡ codes "d")
-    (n9 : f9.now ≡ codes "d") (n10 : f10.now ≡ codes "d") (n11 : f11.now ≡ codes "e") (n12 : f12.now ≡ codes "e")
+    (n9 : f9.now ≡ codes "d") (n10 : f10.now ≡ codes "d") (n11 : f11.now ≡ codes "d") (n12 : f12.now ≡ codes "e")
+    (n13 : f13.now ≡ codes "e") (n14 : f14.now ≡ codes "e")
     (text : IsTextOf t.now ten_ticket) (more : 0 < length o7) (short : length o10 ≤ 1000) (one : o9 ≡ codes "1234")
-    (other : o12 ≡ codes "1234") where
+    (other : o14 ≡ codes "1234") where
   abbrev site : List At
   site = there (codes "a") no_files ∷ there (codes "b") no_files ∷ there (codes "d") no_files
       ∷ there (codes "e") no_files ∷ []
 
   abbrev steps : List (Step A)
   steps = exits 0 r1 n1 ∷ exits 1 r2 n2 ∷ exits 0 r3 n3 ∷ exits 1 r4 n4 ∷ exits 0 r5 n5 ∷ stops 0 r6 n6 ∷ exits 0 r7 n7
-      ∷ exits 2 r8 n8 ∷ exits 2 r9 n9 ∷ exits 2 r10 n10 ∷ exits 3 r11 n11 ∷ exits 3 r12 n12 ∷ []
+      ∷ exits 2 r8 n8 ∷ exits 2 r9 n9 ∷ exits 2 r10 n10 ∷ exits 2 r11 n11 ∷ exits 3 r12 n12 ∷ exits 3 r13 n13
+      ∷ exits 3 r14 n14 ∷ []
 
   apart : AllPairs AreApart (its_made r1 ∷ its_made r2 ∷ [])
   apart = pairs_so AreApart (its_made r1 ∷ its_made r2 ∷ [])
@@ -98,16 +103,29 @@ module _ {A : Type 0} {f1 f2 f3 f4 f5 f6 f7 f8 f9 f10 f11 f12 t i9 i10 i12 : Bor
       (scanned_so A (IsIn printed.it.labels) 10 (given no_files o5) 0 r8.after r8.does printed.it.labels printed.labels
       (ap Some printed.written))
 
-  imports : IfSome (passed (ran r11)).imported (λ bytes. SomeRan
-      (λ other. ((passed other).exported ≡ Some bytes) × IsTrue true)
-      (before_scan ++ ran r8 ∷ ran r9 ∷ ran r10 ∷ []))
-  imports = import_of_all _ 10 (given no_files o10) 0 r11.after o10 refl short r11.does.0
+  copied : (grid : GridView) × ((passed (ran r11)).copied ≡ Some grid) × Is12 A (λ g. g ≡ grid) grid
+      × (o11 ≡ images_of (grid ∷ []))
+  copied = copy_done r11
+
+  abbrev before_copy : List (Ran A)
+  before_copy = before_scan ++ ran r8 ∷ ran r9 ∷ ran r10 ∷ ran r11 ∷ []
+
+  scans_copy : AllByRecursion (λ grid. (own : GridView) × IsNear grid own × SomeRan (LetsOut IsAmong own) before_copy)
+      (grids_scanned r12.does)
+  scans_copy = all_so (λ g. g ≡ copied.0) _ (grids_scanned r12.does)
+      (λ g same. near_one IsAmong before_copy 10 refl (inr (copied.1 ∙ ap Some (sym same), refl)))
+      (scanned_so A (λ g. g ≡ copied.0) 10 (given no_files o11) 0 r12.after r12.does (copied.0 ∷ []) (copied.2, tt)
+      (ap Some copied.3))
+
+  imports : IfSome (passed (ran r13)).imported (λ bytes. SomeRan
+      (λ other. ((passed other).exported ≡ Some bytes) × IsTrue true) (before_copy ++ ran r12 ∷ []))
+  imports = import_of_all _ 10 (given e1 o10) 0 r13.after o10 refl short r13.does.0
       (9, ran r10, refl, (export_done r10, refl))
 
   wrote : IsSomeAnd r7.after.streams.output.contents (λ bytes. 0 < length bytes)
   wrote = subst (λ (o : Option (List ℕ)). IsSomeAnd o (λ bytes. 0 < length bytes)) (sym r7.output_is) more
 
-  pub worked : IsWorked A o12
+  pub worked : IsWorked A o14
   worked = record {
     site = site;
     rans = rans_of steps;
@@ -115,21 +133,23 @@ module _ {A : Type 0} {f1 f2 f3 f4 f5 f6 f7 f8 f9 f10 f11 f12 t i9 i10 i12 : Bor
     asks = record {
       is_new = new site (omega arith, (omega arith, (omega arith, (omega arith, tt)))) (blank, (blank, (blank, (blank, tt))));
       runs = run_so site steps (also refl (also refl (also refl (also refl (also refl (also refl (also refl (also refl
-          (also refl (also refl (also refl (also refl tt))))))))))));
+          (also refl (also refl (also refl (also refl (also refl (also refl tt))))))))))))));
       apart = subst (AllPairs AreApart) (sym (and_made (one_made r1) (and_made (one_made r2) refl))) apart;
       tickets = also tt (also tt (also tt (also (takes_given (ran r1 ∷ ran r2 ∷ ran r3 ∷ []) (ran r4) 2 refl
-          (gave (keeps_fresh r1) r3) (took ten_ticket text refl (keeps_fresh r2) r4).0) (tt, (tt, (tt, (tt, (tt, (tt, (tt, (tt, tt)))))))))));
+          (gave (keeps_fresh r1) r3) (took ten_ticket text refl (keeps_fresh r2) r4).0) (tt, (tt, (tt, (tt, (tt, (tt, (tt, (tt, (tt, (tt, tt)))))))))))));
     };
     printed = also (takes_none refl refl) (also (takes_none refl refl) (also (takes_none refl refl)
         (also (takes_none refl refl) (also (takes_none refl refl) (also (takes_none refl refl)
         (also (takes_none refl refl) (also (record { scans = λ among. scans; imports = λ among. tt })
-        (also (takes_none refl refl) (also (takes_none refl refl)
+        (also (takes_none refl refl) (also (takes_none refl refl) (also (takes_none refl refl)
+        (also (record { scans = λ among. scans_copy; imports = λ among. tt })
         (also (record { scans = λ among. tt; imports = λ among. imports })
-        (also (takes_none refl refl) tt)))))))))));
+        (also (takes_none refl refl) tt)))))))))))));
     takes = (3, ran r4, refl, ap is_some (took ten_ticket text refl (keeps_fresh r2) r4).0);
     cut = (5, cut r6, refl, refl);
     lost = (6, ran r7, refl, (refl, wrote));
     here = (8, ran r9, refl, delivered r9 n9 one);
-    there = (11, ran r12, refl, delivered r12 n12 refl);
+    copies = (10, ran r11, refl, ap is_some copied.1);
+    there = (13, ran r14, refl, delivered r14 n14 refl);
     written_is = other;
   }

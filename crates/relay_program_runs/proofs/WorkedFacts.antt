@@ -1,5 +1,5 @@
 -- What commands that ended well did, over streams whose bytes are known.
-use Rattle.std.proofs.Common.{◌≡◌, ◌⊎◌, ◌≤◌, ◌+◌, ◌++◌, inl, inr, ℕ, Bool, true, false, List, [], ◌∷◌, None, Option, Some, Result, Ok, Err, length, slice_get, take, refl, sym, ap, subst, ◌∙◌, append_assoc, arith}
+use Rattle.std.proofs.Common.{◌≡◌, ◌⊎◌, ◌≤◌, ◌+◌, ◌++◌, inl, inr, ℕ, Bool, true, false, List, [], ◌∷◌, None, Option, Some, Result, Ok, Err, length, slice_get, take, refl, sym, ap, subst, ◌∙◌, append_assoc, append-nil, arith}
 use Rattle.std.specs.Prelude.{IfSome, IsTrue, MatchBool}
 use Rattle.std.specs.Borrow.{Bor}
 use Rattle.std.specs.List.{AllByRecursion}
@@ -17,6 +17,7 @@ use Rattle.dm_encodation.specs.declared.scheme.Scheme.{Scheme}
 use Rattle.dm_encodation.specs.declared.scheme.Scheme.TheVariants.{Ascii}
 use Rattle.dm_finder_frame.specs.Frame.{GridView, IsWholeGrid}
 use Rattle.dm_finder_frame.proofs.FramedGrids.{grid_is_whole}
+use Rattle.dm_pbm_io.specs.Image.{p4}
 use Rattle.dm_store.specs.Saved.{Saved}
 use Rattle.dm_print_ledger.proofs.LedgerLaws.{opening_sound}
 use Rattle.dm_print_ledger.specs.Creating.{SavesFirst, opening}
@@ -27,7 +28,7 @@ use Rattle.dm_print_ledger.specs.declared.fault.TakeFault.TheVariants as take_fa
 use Rattle.dm_print_ledger.specs.Ledger.{JobView, LedgerView, PrinterView, TicketView, givers_with, is_range, ledger_bytes, running}
 use Rattle.dm_print_ledger.specs.Verdicts.{AreLabels, Carries, IsJobOf, IsMade, Takes, giver_of, least, take_verdict, ticket_of, union_of}
 use Rattle.dm_event_history.specs.Relay.{Running}
-use Rattle.relay_command.specs.declared.command.Command.TheVariants.{Export, Give, Ledger, Print, Take}
+use Rattle.relay_command.specs.declared.command.Command.TheVariants.{Copy, Export, Give, Ledger, Print, Take}
 use Rattle.relay_command.specs.declared.command.Labels.TheVariants.{OfSide}
 use Rattle.relay_shared.specs.Command.{StreamsView}
 use Rattle.relay_printer_commands.specs.Tickets.{IsTextOf}
@@ -43,12 +44,14 @@ use Rattle.relay_printer_commands.specs.Printers.EndsTake.{no_ticket, not_opened
 use Rattle.relay_desk_commands.specs.Desks.{DeskFiles, EndsExport, EndsImport, OnDesk}
 use Rattle.relay_desk_commands.specs.Desks.EndsAtDesk.{no_desk, opened}
 use Rattle.relay_desk_commands.specs.Desks.EndsOnId.{no_id, of_id}
+use Rattle.relay_desk_commands.specs.Copy.{EndsCopy}
+use Rattle.relay_desk_commands.specs.Copy.EndsCopyOf.{no_side as no_size, of_side as of_size}
 use Rattle.relay_desk_commands.specs.Desks.EndsImport.{not_read, read}
 use Rattle.relay_runs.proofs.Files.{opened as open_as}
 use Rattle.relay_runs.proofs.TicketTexts.{text_once}
 use Rattle.relay_runs.specs.Answered.{job_ended, ticket_given, ticket_taken}
 use Rattle.relay_runs.specs.Runs.{Keeps}
-use Rattle.relay_desk_runs.specs.Answered.{file_exported, file_imported, if_imported}
+use Rattle.relay_desk_runs.specs.Answered.{file_exported, file_imported, if_imported, label_copied}
 use Rattle.relay_program_runs.specs.Law.{passed}
 use Rattle.relay_program_runs.specs.Passed.{Made, made_where}
 use Rattle.relay_program_runs.specs.Worked.{IsDone, files_of, given, no_files, reading}
@@ -292,6 +295,34 @@ export_done {i = i} {x} {input = input} {o} r = by_ends r.after r.output_is r.do
     by_ends new some (of_id id text_is (opened desk opens (Ok bytes, gives, inl told, same))) =
         ap Some (sym (all_out (Some []) new.streams.output.contents o bytes refl some told.0))
     by_ends new some (of_id id text_is (opened desk opens (Ok bytes, gives, inr told, same))) = absurd (refused_one told.3)
+
+-- a copy that ended well wrote the image of its grid
+pub copy_done : {A : Type 0} {f i : Bor (List ℕ)} {page : ℕ} {x y : DeskFiles} {input o : List ℕ}
+    (r : IsDone A (Copy f i page 12 Ascii) x input 0 y o) → (grid : GridView) × ((passed (ran r)).copied ≡ Some grid)
+    × Is12 A (λ g. g ≡ grid) grid × (o ≡ images_of (grid ∷ []))
+copy_done {A} {i = i} {page} {x} {input = input} {o} r = by_ends r.after r.output_is r.does
+  where
+    by_ends : (new : OnDesk) → new.streams.output.contents ≡ Some o →
+        (ends : EndsCopy (record { id = i; page = page; side = 12; scheme = Ascii }) (given x input) 0 new) →
+        (grid : GridView) × (label_copied ends ≡ Some grid) × Is12 A (λ g. g ≡ grid) grid × (o ≡ images_of (grid ∷ []))
+    by_ends new some (no_id isnt same refuses) = absurd (refused_one refuses.0)
+    by_ends new some (of_id id text_is (no_size isnt same refuses)) = absurd (refused_one refuses.0)
+    by_ends new some (of_id id text_is (of_size size is (no_desk name has refuses))) = absurd (refused_one refuses.0)
+    by_ends new some (of_id id text_is (of_size size is (opened desk opens (Err name, gives, refuses, same)))) =
+        absurd (refused_one refuses.0)
+    by_ends new some (of_id id text_is (of_size size is (opened desk opens (Ok bytes, gives, inr told, same)))) =
+        absurd (refused_one told.3)
+    by_ends new some (of_id id text_is (of_size size is (opened desk opens (Ok bytes, (grid, copies, image), inl told, same)))) =
+        let its : grid.size ≡ size = ap (λ (g : GridView). g.size) copies.sealed.drawn in (
+          grid,
+          refl,
+          record {
+            size = its ∙ same_size size Side12 (is_12 size is);
+            whole = whole_label grid grid.size copies.carries.words copies.carries.drawn;
+            so = refl;
+          },
+          all_out (Some []) new.streams.output.contents o bytes refl some told.0 ∙ image ∙ sym (append-nil (p4 grid)),
+        )
 
 pub import_of_all : (P : List ℕ → Type 0) (capacity : ℕ) (old : OnDesk) (status : ℕ) (new : OnDesk) (input : List ℕ) →
     old.streams.input.remaining ≡ Some input → length input ≤ 1000 →

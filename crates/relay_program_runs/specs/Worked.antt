@@ -64,17 +64,18 @@ pub record Delivers {A : Type 0} (path written : List ℕ) (ran : Ran A) : Type 
 abbrev pub IsLost : {A : Type 0} → Ran A → Type 0
 IsLost ran = (status_of ran.ends ≡ Some 1) × IsSomeAnd ran.after.streams.output.contents (λ bytes. 0 < length bytes)
 
--- Twelve commands, of which all premises of the two laws hold, at all paths. One took a ticket, one was cut short, the
--- output of one was lost, and this is delivered at two desks.
+-- Fourteen commands, of which all premises of the two laws hold, at all paths. One took a ticket, one was cut short, the
+-- output of one was lost, one copied a label, and this is delivered at two desks.
 pub record IsWorked (A : Type 0) (written : List ℕ) : Type 0 where
   pub site : List At
   pub rans : List (Ran A)
-  pub count : length rans ≡ 12
+  pub count : length rans ≡ 14
   pub asks : Asks site rans
   pub printed : Each (TakesPrinted (λ path. IsTrue true)) [] rans
   pub takes : SomeRan (λ ran. IsSome (passed ran).taken) rans
   pub cut : SomeRan (λ ran. status_of ran.ends ≡ None) rans
   pub lost : SomeRan IsLost rans
+  pub copies : SomeRan (λ ran. IsSome (passed ran).copied) rans
   pub here : SomeRan (Delivers (codes "d") (codes "1234")) rans
   pub there : SomeRan (Delivers (codes "e") written) rans
   pub written_is : written ≡ codes "1234"

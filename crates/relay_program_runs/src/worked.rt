@@ -127,7 +127,7 @@ fn end_well(statuses: &[u8], lost: (u8, &[u8]), file: &[u8], one: &[u8], other: 
         && are_documents(one, other)
 }
 
-/// Twelve commands, at two ledgers and two desks. No bytes are answered where memory was refused.
+/// Fourteen commands, at two ledgers and two desks. No bytes are answered where memory was refused.
 #[rattlefmt::skip] // a command a line
 pub fn worked_commands<A: Allocator + Copy>(alloc: A) -> Option<Vec<u8, A>>
     ensures { IfSome result (λ written. IsWorked A written.items) }
@@ -147,12 +147,16 @@ pub fn worked_commands<A: Allocator + Copy>(alloc: A) -> Option<Vec<u8, A>>
     let eight = done(alloc, nothing(alloc), &five.output, Command::Scan { file: "d", capacity: 10 });
     let nine = done(alloc, (eight.store, eight.set), &[], Command::Deliver { file: "d", id: "010b" });
     let ten = done(alloc, (nine.store, nine.set), &[], Command::Export { file: "d", id: "010b" });
-    let eleven = done(alloc, nothing(alloc), &ten.output, Command::Import { file: "e", capacity: 10 });
-    let twelve = done(alloc, (eleven.store, eleven.set), &[], Command::Deliver { file: "e", id: "010b" });
+    let copy = Command::Copy { file: "d", id: "010b", page: 1, side: 12, scheme: Scheme::Ascii };
+    let eleven = done(alloc, (ten.store, ten.set), &[], copy);
+    let twelve = done(alloc, nothing(alloc), &eleven.output, Command::Scan { file: "e", capacity: 10 });
+    let import = Command::Import { file: "e", capacity: 10 };
+    let thirteen = done(alloc, (twelve.store, twelve.set), &ten.output, import);
+    let fourteen = done(alloc, (thirteen.store, thirteen.set), &[], Command::Deliver { file: "e", id: "010b" });
     let statuses = [one.status, two.status, three.status, four.status, five.status, eight.status, nine.status,
-        ten.status, eleven.status, twelve.status];
+        ten.status, eleven.status, twelve.status, thirteen.status, fourteen.status];
     let lost = (seven.status, seven.output.as_slice());
-    if end_well(&statuses, lost, &ten.output, &nine.output, &twelve.output) { Some(twelve.output) } else { None }
+    if end_well(&statuses, lost, &ten.output, &nine.output, &fourteen.output) { Some(fourteen.output) } else { None }
 }
 
 #[test]

@@ -22,10 +22,12 @@ returns-then-end_well g c =
     (done_so c.nothing-3.ensures c.deref.ensures.value (st 5 0 (omega arith)) c.done-eight.ensures)
     (done_so refl refl (st 6 0 (omega arith)) c.done-nine.ensures)
     (done_so refl refl (st 7 0 (omega arith)) c.done-ten.ensures)
-    (done_so c.nothing-4.ensures c.deref-2.ensures.value (st 8 0 (omega arith)) c.done-eleven.ensures)
-    (done_so refl refl (st 9 0 (omega arith)) c.done-twelve.ensures)
-    refl refl refl refl refl refl refl refl refl refl refl refl ten_text
+    (done_so refl refl (st 8 0 (omega arith)) c.done-eleven.ensures)
+    (done_so c.nothing-4.ensures c.deref-2.ensures.value (st 9 0 (omega arith)) c.done-twelve.ensures)
+    (done_so refl c.deref-3.ensures.value (st 10 0 (omega arith)) c.done-thirteen.ensures)
+    (done_so refl refl (st 11 0 (omega arith)) c.done-fourteen.ensures)
+    refl refl refl refl refl refl refl refl refl refl refl refl refl refl ten_text
     (subst (λ (xs : List ℕ). 0 < length xs) c.as_slice.ensures.value well.lost.1)
-    (subst (λ (xs : List ℕ). length xs ≤ 1000) c.deref-3.ensures.value well.short)
-    (sym c.deref-4.ensures.value ∙ well.documents.0)
-    (sym c.deref-5.ensures.value ∙ well.documents.1)
+    (subst (λ (xs : List ℕ). length xs ≤ 1000) c.deref-4.ensures.value well.short)
+    (sym c.deref-5.ensures.value ∙ well.documents.0)
+    (sym c.deref-6.ensures.value ∙ well.documents.1)
