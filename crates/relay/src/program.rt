@@ -65,7 +65,7 @@ fn disk_of<'a, R: AllocGlobal + Files>(rt: &'a R, named: Named) -> RealDisk<'a, 
 // A command at work, and its output: of `read`, `scan` and `world` each line goes out before the next image is waited
 // for or the next event comes; of the others what is written goes out in large pieces.
 #[derive(Drop)]
-struct Work<'a, R, W> {
+struct Work<'a, R, W: Write> {
     rt: &'a R,
     command: Command<'a>,
     // The file of the images that it is over, if one was named and not yet noted.
@@ -90,7 +90,7 @@ impl<'a, R: AllocGlobal + Input + Eprint + Files<File = File> + Clone, W: Write>
     // so itself, it is said here; but for a command that was refused and can't say it, and one that answers to each
     // image.
     fn finish(&mut self, status: u8) -> u8 {
-        let says = if self.output.has_failed {
+        let says = if self.output.has_failed() {
             !refuses_on_errors(self.command) && !answers_each_image(self.command)
         } else {
             status == 0
@@ -115,7 +115,7 @@ impl<'a, R: AllocGlobal + Input + Eprint + Files<File = File> + Clone, W: Write>
         let (rt, alloc) = (self.rt, self.rt.alloc());
         let mut streams = Streams::new(reader, &mut self.output, errors_of(rt, self.images));
         let status = do_command(alloc, store, set, &mut streams, self.command).status;
-        self.images = streams.errors.into_writer().writer.source;
+        self.images = streams.errors.into_writer().into_writer().source;
         self.finish(status)
     }
 
@@ -184,7 +184,7 @@ impl<'a, R: AllocGlobal + Input + Eprint + Files<File = File> + Clone, W: Write>
             self.do_on(file)?
         };
         if status != 0
-            && !self.output.has_failed
+            && !self.output.has_failed()
             && matches!(self.command, Command::Read)
             && let Some(images) = self.images
         {
@@ -206,7 +206,7 @@ impl<'a, R: AllocGlobal + Input + Eprint + Files<File = File> + Clone, W: Write>
         let mut status = 0;
         for images in &files {
             status = status.max(self.do_on_images(images)?);
-            if self.output.has_failed {
+            if self.output.has_failed() {
                 break;
             }
         }
