@@ -71,6 +71,9 @@ const COPY: CopyOptions<'static> = CopyOptions {
 
 const CAPACITY: u16 = 4;
 
+// The images come on the input.
+const NO_IMAGES: [&[u8]; 0] = [];
+
 // The file of printer 0 with the identifications 0 to 9.
 const NEW_LEDGER: &[u8] = b"DMLG\x02\0\0\0\0\x01\0\0\0\x09\0\xff\xf5";
 
@@ -177,7 +180,7 @@ fn filed<A: Allocator + Copy, S: Store, T: StoreSet, R: Read, W: Write, E: Write
         }
         Call::Take => take_command(memory, store, streams, 0, TICKET).status,
         Call::Left => left_command(store, streams).status,
-        Call::Scan(_) => scan_command(memory, store, set, streams, CAPACITY).status,
+        Call::Scan(_) => scan_command(memory, store, set, &NO_IMAGES, streams, CAPACITY).status,
         Call::Deliver => deliver_command(memory, store, set, streams, ID).status,
         Call::Forget(id) => forget_command(memory, store, set, streams, id).status,
         Call::Export(id) => export_command(memory, store, set, streams, id).status,
@@ -202,7 +205,7 @@ fn status_of<A: Allocator + Copy, R: Read, W: Write, E: Write>(
     let status = match call {
         Call::Words => words_command(memory, streams, FORM),
         Call::Draw(is_plain) => draw_command(memory, streams, FORM, is_plain),
-        Call::Read => read_command(memory, streams),
+        Call::Read => read_command(memory, &NO_IMAGES, streams),
         Call::Plan => plan_command(memory, streams, Scheme::Ascii),
         Call::Ticket => ticket_command(streams, TICKET),
         Call::World => world_command(memory, streams),

@@ -1,6 +1,6 @@
 -- What a command does, from the store and the set of the file that it names, and its streams, to the exit status, the
 -- store, the set and the streams: a line for each command. What a command does not need it leaves as it was.
-use Rattle.std.specs.Prelude.{◌≡◌, ℕ, ◌++◌, List, [], Bool, true, false, not, IsTrue, IsFalse, codes, string_bytes}
+use Rattle.std.specs.Prelude.{◌≡◌, ℕ, ◌++◌, List, [], Option, Bool, true, false, not, IsTrue, IsFalse, codes, string_bytes}
 use Rattle.std.specs.Option.{option_copied}
 use Rattle.relay_command.specs.declared.command.Command.{Command}
 use Rattle.relay_command.specs.declared.command.Command.TheVariants.{Words, Draw, Read, Plan, Ticket, Ledger, Print, Give, Take, Left, Scan, Deliver, Forget, Export, Import, Held, Copy, World}
@@ -37,35 +37,37 @@ abbrev pub OnFile : (OnLedger → ℕ → OnLedger → Type 0) → OnDesk → �
 OnFile Ends old status new = Ends (ledger_at old.files.joint old.streams) status (ledger_at new.files.joint new.streams)
     × (new.files.set ≡ old.files.set)
 
--- What a command does over the store at the path that it names and the set beside it; `A` is what it allocates in.
-abbrev pub Does : Type 0 → Command → OnDesk → ℕ → OnDesk → Type 0
-Does A (Words side scheme) old status new = OnStreams (EndsWords (record { side = side; scheme = scheme })) old status new
+-- What a command does over the store at the path that it names and the set beside it, and, of `scan` and `read`, over
+-- the files of images that it is given, by their bytes; `A` is what it allocates in.
+abbrev pub Does : Type 0 → Command → List (Option (List ℕ)) → OnDesk → ℕ → OnDesk → Type 0
+Does A (Words side scheme) images old status new =
+    OnStreams (EndsWords (record { side = side; scheme = scheme })) old status new
     × ReadsPart DOCUMENT_BYTES old.streams new.streams
-Does A (Draw side scheme plain) old status new =
+Does A (Draw side scheme plain) images old status new =
     OnStreams (EndsDraw (record { side = side; scheme = scheme }) plain) old status new
     × ReadsPart DOCUMENT_BYTES old.streams new.streams
-Does A Read old status new = OnStreams EndsRead old status new
-Does A (Plan scheme) old status new =
+Does A Read images old status new = OnStreams (EndsRead images) old status new
+Does A (Plan scheme) images old status new =
     OnStreams (EndsPlan scheme) old status new × ReadsPart DOCUMENT_BYTES old.streams new.streams
-Does A (Ticket ticket) old status new = OnStreams (EndsTicket ticket.now) old status new
-Does A World old status new = OnStreams (EndsWorld A) old status new × LeavesErrors old.streams new.streams
+Does A (Ticket ticket) images old status new = OnStreams (EndsTicket ticket.now) old status new
+Does A World images old status new = OnStreams (EndsWorld A) old status new × LeavesErrors old.streams new.streams
     × ReadsPart INPUT_BYTES old.streams new.streams
-Does A (Ledger file number first last) old status new =
+Does A (Ledger file number first last) images old status new =
     OnFile (EndsLedger number (record { first = first; last = last })) old status new
-Does A (Print file number labels scheme) old status new =
+Does A (Print file number labels scheme) images old status new =
     OnFile (EndsPrint number labels scheme) old status new × ReadsPart DOCUMENT_BYTES old.streams new.streams
-Does A (Give file number to first last) old status new =
+Does A (Give file number to first last) images old status new =
     OnFile (EndsGive number to (record { first = first; last = last })) old status new
-Does A (Take file number ticket) old status new = OnFile (EndsTake number ticket.now) old status new
-Does A (Left file) old status new = OnFile EndsLeft old status new
-Does A (Scan file capacity) old status new = EndsScan A capacity old status new
-Does A (Deliver file id) old status new = EndsDeliver id.now old status new
-Does A (Forget file id) old status new = EndsForget id.now old status new
-Does A (Export file id) old status new = EndsExport id.now old status new
-Does A (Import file capacity) old status new =
+Does A (Take file number ticket) images old status new = OnFile (EndsTake number ticket.now) old status new
+Does A (Left file) images old status new = OnFile EndsLeft old status new
+Does A (Scan file capacity) images old status new = EndsScan A capacity images old status new
+Does A (Deliver file id) images old status new = EndsDeliver id.now old status new
+Does A (Forget file id) images old status new = EndsForget id.now old status new
+Does A (Export file id) images old status new = EndsExport id.now old status new
+Does A (Import file capacity) images old status new =
     EndsImport capacity old status new × ReadsPart IMPORT_BYTES old.streams new.streams
-Does A (Held file id) old status new = EndsHeld (option_copied id) old status new
-Does A (Copy file id page side scheme) old status new =
+Does A (Held file id) images old status new = EndsHeld (option_copied id) old status new
+Does A (Copy file id page side scheme) images old status new =
     EndsCopy (record { id = id; page = page; side = side; scheme = scheme }) old status new
 
 -- the path that a command names, or the empty one if it names none

@@ -25,6 +25,7 @@ mod commands;
 mod line_buffer;
 mod lock;
 mod locked;
+mod named_images;
 mod notes;
 mod place;
 mod program;

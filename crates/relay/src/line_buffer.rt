@@ -4,7 +4,6 @@ ghost use Rattle.std.specs.Prelude.{◌≡◌, ◌≤◌, length, take, OnErr, O
 ghost use Rattle.std.specs.Io.{WritesAtMost};
 ghost use Rattle.std.specs.Io.KnownBytes.{Appends, Keeps, WriteAppends, append_known};
 
-use crate::notes::note;
 use std::alloc::{Allocator, Global};
 use std::io;
 use std::io::{Error, ErrorKind, Write};
@@ -186,15 +185,10 @@ impl<W: Write, A: Allocator> Write for LineBuffer<W, A> {
 #[derive(Drop)]
 pub(crate) struct ErrorWriter<'a, E> {
     pub(crate) to: &'a E,
-    /// The file of the images, if one was named, until it is noted: before the first note of one of them.
-    pub(crate) source: Option<&'a str>,
 }
 
-impl<E: AllocGlobal + Eprint> Write for ErrorWriter<'_, E> {
+impl<E: Eprint> Write for ErrorWriter<'_, E> {
     fn write(&mut self, buf: &[u8]) -> io::Result<usize> {
-        if let Some(source) = self.source.take() {
-            note(self.to, source, "has images that are refused");
-        }
         let Ok(text) = str::from_utf8(buf) else {
             return Err(Error::from(ErrorKind::InvalidData));
         };

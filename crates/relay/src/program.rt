@@ -4,6 +4,7 @@ use crate::closed_streams::HeldPlaces;
 use crate::commands::do_command;
 use crate::line_buffer::{ErrorWriter, LineBuffer};
 use crate::locked::{Gate, Locked};
+use crate::named_images::NamedImages;
 use crate::notes::{note, note_faulty_file, note_folder, note_reason};
 use crate::place::{Access, Named, Place, named_by, refuses_on_errors};
 use dm_store::{FileSet, FileStore, Folders, MemSet, MemStore, RealDisk, Store, StoreSet};
@@ -15,22 +16,15 @@ use std::alloc::AllocError;
 use std::fs::File;
 use std::io::{BufReader, ErrorKind, Read, Write};
 use std::rt::{Env, Files};
-use std::{env, fs, io};
+use std::{env, io};
 
 // How many bytes of its output a command that answers once keeps, before it lets whole lines out.
 const MANY_BYTES: usize = 8192;
 
-// The standard error, a line at a time, for a command over the images of a file, if one was named.
-fn errors_of<'a, R: AllocGlobal + Eprint>(
-    rt: &'a R,
-    source: Option<&'a str>,
-) -> LineBuffer<ErrorWriter<'a, R>> {
-    LineBuffer::new(rt.alloc(), ErrorWriter { to: rt, source }, 0)
-}
-
 // Refuses on the standard error, and gives the exit status.
 fn refuse_on_errors<R: AllocGlobal + Eprint>(rt: &R, name: &str) -> u8 {
-    refuse(&mut Output::new(errors_of(rt, None)), name)
+    let errors = LineBuffer::new(rt.alloc(), ErrorWriter { to: rt }, 0);
+    refuse(&mut Output::new(errors), name)
 }
 
 // Whether a command answers to each image before it waits for the next.
@@ -68,8 +62,7 @@ fn disk_of<'a, R: AllocGlobal + Files>(rt: &'a R, named: Named) -> RealDisk<'a, 
 struct Work<'a, R, W: Write> {
     rt: &'a R,
     command: Command<'a>,
-    // The file of the images that it is over, if one was named and not yet noted.
-    images: Option<&'a str>,
+    images: Vec<NamedImages<'a, R>>,
     output: LineBuffer<W>,
 }
 
@@ -77,12 +70,11 @@ impl<'a, R: AllocGlobal + Input + Eprint + Files<File = File> + Clone, W: Write>
     fn new(rt: &'a R, command: Command<'a>, writer: W) -> Work<'a, R, W> {
         let by_line = answers_each_image(command) || matches!(command, Command::World);
         let least = if by_line { 0 } else { MANY_BYTES };
-        let output = LineBuffer::new(rt.alloc(), writer, least);
         Work {
             rt,
             command,
-            images: None,
-            output,
+            images: Vec::new(rt.alloc()),
+            output: LineBuffer::new(rt.alloc(), writer, least),
         }
     }
 
@@ -113,9 +105,11 @@ impl<'a, R: AllocGlobal + Input + Eprint + Files<File = File> + Clone, W: Write>
     // Does the command over a store and a set, and lets its output out.
     fn do_over<S: Store, T: StoreSet, I: Read>(&mut self, store: S, set: T, reader: &mut I) -> u8 {
         let (rt, alloc) = (self.rt, self.rt.alloc());
-        let mut streams = Streams::new(reader, &mut self.output, errors_of(rt, self.images));
-        let status = do_command(alloc, store, set, &mut streams, self.command).status;
-        self.images = streams.errors.into_writer().into_writer().source;
+        let errors = LineBuffer::new(alloc, ErrorWriter { to: rt }, 0);
+        let mut streams = Streams::new(reader, &mut self.output, errors);
+        let images = self.images.as_slice();
+        let status = do_command(alloc, store, set, images, &mut streams, self.command).status;
+        drop(streams);
         self.finish(status)
     }
 
@@ -171,46 +165,15 @@ impl<'a, R: AllocGlobal + Input + Eprint + Files<File = File> + Clone, W: Write>
         }
     }
 
-    // Does the command over the images of one file, or over the program's input where that is named `-`.
-    fn do_on_images(&mut self, images: &'a str) -> Result<u8, AllocError> {
-        self.images = Some(images);
-        let status = if images == "-" {
-            self.do_on(self.rt.reader())?
-        } else {
-            let Ok(file) = fs::open(self.rt, images) else {
-                note(self.rt, images, "can't be opened");
-                return Ok(self.refuse("Read"));
-            };
-            self.do_on(file)?
-        };
-        if status != 0
-            && !self.output.has_failed()
-            && matches!(self.command, Command::Read)
-            && let Some(images) = self.images
-        {
-            note(self.rt, images, "has images that are refused");
-        }
-        Ok(status)
-    }
-
-    // Does the command over the program's input, or over each file of images in turn, until its output fails: then its
-    // status is 0 if each is.
-    fn do_on_each(&mut self, words: &'a [String]) -> Result<u8, AllocError> {
-        let mut files = Vec::new(self.rt.alloc());
+    // Does the command of the line over the program's input, or over the files of images that the line names.
+    fn do_line(&mut self, words: &'a [String]) -> Result<u8, AllocError> {
+        let rt = self.rt;
         if answers_each_image(self.command) {
-            files = image_files(self.rt.alloc(), words)?;
-        }
-        if files.is_empty() {
-            return self.do_on(self.rt.reader());
-        }
-        let mut status = 0;
-        for images in &files {
-            status = status.max(self.do_on_images(images)?);
-            if self.output.has_failed() {
-                break;
+            for name in image_files(rt.alloc(), words)? {
+                self.images.push(NamedImages { rt, name })?;
             }
         }
-        Ok(status)
+        self.do_on(rt.reader())
     }
 }
 
@@ -259,14 +222,13 @@ pub fn run<R: AllocGlobal + Input + Print + Eprint + Env + Files<File = File> + 
         Ok(words) => words,
         Err(error) => return show_word_fault(rt, &error),
     };
-    match command_line(rt.alloc(), words.as_slice()) {
-        Ok(command) => {
-            let mut work = Work::new(rt, command, io::writer(rt));
-            match work.do_on_each(words.as_slice()) {
-                Ok(status) => status,
-                Err(AllocError) => work.refuse("Memory"),
-            }
-        }
-        Err(fault) => show_fault(rt, &fault),
+    let command = match command_line(rt.alloc(), words.as_slice()) {
+        Ok(command) => command,
+        Err(fault) => return show_fault(rt, &fault),
+    };
+    let mut work = Work::new(rt, command, io::writer(rt));
+    match work.do_line(words.as_slice()) {
+        Ok(status) => status,
+        Err(AllocError) => work.refuse("Memory"),
     }
 }

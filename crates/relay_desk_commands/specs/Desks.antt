@@ -34,7 +34,7 @@ use Rattle.dm_assembly_desk.specs.declared.reply.Imported.{Imported}
 use Rattle.dm_append_label.specs.declared.fault.LabelFault.TheVariants.{Border, Block}
 use Rattle.dm_assembly_desk.specs.declared.fault.ScanFault.TheVariants.{Label}
 use Rattle.relay_shared.specs.Cure.{EndsNote, NotesImage}
-use Rattle.relay_shared.specs.EachImage.{ImageCommand, Said, TellsImages, progress_at, refusal_of}
+use Rattle.relay_shared.specs.EachImage.{ImageCommand, Said, TellsInputs, progress_at, refusal_of}
 
 -- ---- a desk's files
 
@@ -210,15 +210,15 @@ scan_images A = record {
   has_ended = λ at. at.desk.is_failed;
 }
 
--- A desk that was opened before anything was read has scanned the whole input, or the output has refused a line and the
--- images up to that were scanned. Either way each page that was held is held with the same bytes, and what the desk
+-- A desk that was opened before anything was read has scanned all files, or the whole input where there is none, or the
+-- output has refused a line, or a save has failed, and the images up to that were scanned. Either way each page that was held is held with the same bytes, and what the desk
 -- holds is in order with its set.
-abbrev pub ScansAll : Type 0 → DeskView → StreamsView → ℕ → OnDesk → Type 0
-ScansAll A desk old status new = (after : DeskView) × TellsImages (scan_images A)
+abbrev pub ScansAll : Type 0 → List (Option (List ℕ)) → DeskView → StreamsView → ℕ → OnDesk → Type 0
+ScansAll A images desk old status new = (after : DeskView) × TellsInputs (scan_images A) images
     (progress_at (record { desk = desk; errors = old.errors }) old.input old.output) status
     (progress_at (record { desk = after; errors = new.streams.errors }) new.streams.input new.streams.output)
     × KeepsPages desk.held after.held × IsInOrder after × (new.files.set ≡ after.saved)
 
 -- how `scan` ends; if there is no desk, nothing was read
-abbrev pub EndsScan : Type 0 → ℕ → OnDesk → ℕ → OnDesk → Type 0
-EndsScan A capacity = EndsAtDesk RefusesOnOutput capacity (ScansAll A)
+abbrev pub EndsScan : Type 0 → ℕ → List (Option (List ℕ)) → OnDesk → ℕ → OnDesk → Type 0
+EndsScan A capacity images = EndsAtDesk RefusesOnOutput capacity (ScansAll A images)

@@ -1,6 +1,6 @@
 //! `relay scan`: labels gathered at a desk.
 
-ghost use Rattle.std.specs.Prelude.{◌≡◌, false, true, IfSome, MatchResult};
+ghost use Rattle.std.specs.Prelude.{◌≡◌, map, false, true, IfSome, MatchResult};
 ghost use Rattle.std.specs.Io.KnownBytes.{Appends};
 ghost use Rattle.dm_assembly_desk.specs.Documents.{KeepsPages, IsInOrder};
 ghost use Rattle.relay_streams.specs.Streams.{AppendsPart, refused_line};
@@ -14,8 +14,8 @@ use dm_finder_frame::Grid;
 use dm_pbm_io::{Image, ShapeFault, grid_of};
 use dm_store::{Store, StoreSet};
 use relay_shared::{
-    Answered, DONE, EndedDesk, OnImages, REFUSED, Streams, each_image, note_ending, put_accepted,
-    put_image_note,
+    Answered, DONE, EndedDesk, ImageFile, OnImages, REFUSED, Streams, each_input, note_ending,
+    put_accepted, put_image_note,
 };
 use relay_streams::{Output, WriteFault};
 use std::alloc::Allocator;
@@ -96,6 +96,10 @@ impl<T: StoreSet, A: Allocator + Copy> OnImages<A> for Scanning<T, A> {
         }
     }
 
+    fn has_ended<E: Write>(&self, _errors: &Output<E>) -> bool {
+        self.desk.has_failed()
+    }
+
     fn see_unread<E: Write>(&mut self, errors: &mut Output<E>, number: u32, name: &str) {
         put_image_note(errors, number, None, name, "");
     }
@@ -108,19 +112,28 @@ impl<T: StoreSet, A: Allocator + Copy> OnImages<A> for Scanning<T, A> {
     ) };
 }
 
-/// Reads images, one after another, hands the grid of each to the desk, which holds and saves its page, and prints for
+/// Reads the images of all files, or of the input where there is none, one after another, hands the grid of each to the desk, which holds and saves its page, and prints for
 /// each `IIII m/n new`, `again` or `complete`, after the save, or `refused NAME`. A refused image doesn't end the
-/// command; a save that failed does, and so do bytes that are no image, and a plain image. At most 65,536 images are
-/// read. The desk is opened before anything is read. Which image a refusal is of goes to the standard error, as
+/// command; a save that failed does, and so do bytes that are no image, and a plain image, but then the next file
+/// is read. At most 65,536 images of a file are read. The desk is opened before anything is read. Which image a refusal is of goes to the standard error, as
 /// `relay: image N: NAME`, or `relay: image N (IIII): NAME` if its label opens, and then what [`note_ending`] gives.
-pub fn scan_command<A: Allocator + Copy, S: Store, T: StoreSet, R: Read, W: Write, E: Write>(
+pub fn scan_command<
+    A: Allocator + Copy,
+    S: Store,
+    T: StoreSet,
+    F: ImageFile,
+    R: Read,
+    W: Write,
+    E: Write,
+>(
     alloc: A,
     store: S,
     set: T,
+    images: &[F],
     streams: &mut Streams<R, W, E>,
     capacity: u16,
 ) -> EndedDesk<S, T>
-    ensures { EndsScan A capacity (desk_at (S.state store) (T.state set) streams.old) result.status
+    ensures { EndsScan A capacity (map F.remaining images.now) (desk_at (S.state store) (T.state set) streams.old) result.status
         (desk_at (S.state result.store) (T.state result.set) streams.new) }
 {
     let opened = match open_desk(alloc, store, set, &mut streams.output, capacity) {
@@ -129,9 +142,10 @@ pub fn scan_command<A: Allocator + Copy, S: Store, T: StoreSet, R: Read, W: Writ
     };
     let OpenDesk { store, desk } = opened;
     let mut scanning = Scanning { desk };
-    let status = each_image(
+    let status = each_input(
         alloc,
         &mut scanning,
+        images,
         &mut streams.input,
         &mut streams.output,
         &mut streams.errors,

@@ -1,5 +1,5 @@
 -- A scan keeps a desk so.
-use Rattle.std.proofs.Common.{◌++◌, ℕ, Bool, List, [], ◌∷◌, Result, Ok, Err, sym, subst, ◌∙◌}
+use Rattle.std.proofs.Common.{◌++◌, ℕ, Bool, List, [], ◌∷◌, Option, Result, Ok, Err, sym, subst, ◌∙◌}
 use Rattle.std.specs.List.{AllByRecursion}
 use Rattle.dm_finder_frame.specs.Frame.{GridView}
 use Rattle.dm_append_label.specs.Labels.{PageView}
@@ -19,15 +19,18 @@ use Rattle.dm_event_history.specs.Relay.{Label}
 use Rattle.dm_event_history.specs.Headline.{ArePrinted, IsCleanExport}
 use Rattle.dm_event_history.proofs.Stays.{lone_clean, lone_export}
 use Rattle.relay_streams.specs.Streams.{InputView}
-use Rattle.relay_shared.specs.EachImage.{AnswersImages, Comes, EndsImages, Progress, Said, TellsImages}
+use Rattle.relay_shared.specs.EachImage.{AnswersImages, AtImage, Comes, EndsImages, Progress, Said, TellsFile, TellsFiles, TellsImages, TellsInputs}
 use Rattle.relay_shared.specs.EachImage.Comes.{image, unread, too_many}
 use Rattle.relay_shared.specs.EachImage.AnswersImages.{none, another}
 use Rattle.relay_shared.specs.EachImage.EndsImages.{no_image, last_line}
 use Rattle.relay_shared.specs.EachImage.TellsImages.{ended, stopped}
+use Rattle.relay_shared.specs.EachImage.TellsFile.{not_opened, opened as was_opened}
+use Rattle.relay_shared.specs.EachImage.TellsFiles.{last_file, next_file, no_file}
+use Rattle.relay_shared.specs.EachImage.TellsInputs.{of_files, of_input}
 use Rattle.relay_desk_commands.specs.Desks.{AtDesk, EndsScan, ScansPicture, scan_images}
 use Rattle.relay_desk_commands.specs.Desks.ScansPicture.{accepted, refused, no_grid}
 use Rattle.relay_desk_commands.specs.Desks.EndsAtDesk.{no_desk, opened}
-use Rattle.relay_desk_runs.specs.Answered.{grids_at_end, grids_before, grids_of_bytes, grids_of_images, grids_of_picture, grids_scanned, if_saved}
+use Rattle.relay_desk_runs.specs.Answered.{grids_at_end, grids_before, grids_of_bytes, grids_of_file, grids_of_files, grids_of_images, grids_of_inputs, grids_of_picture, grids_scanned, if_saved}
 use Rattle.relay_desk_runs.specs.Printed.{EachScanKeeps, HasNoDocuments, HoldsPrinted, IsClean, IsNearPrinted, IsOfLabel}
 use Rattle.relay_desk_runs.proofs.Saving.{MayBeAdded, ShowsPrinted, adding}
 use Rattle.relay_desk_runs.proofs.Opened.{is_opened, still_clean, unopened}
@@ -131,18 +134,40 @@ module _ (A : Type 0) (labels : List Label) (printed : ArePrinted labels) where
       come takes.comes (before answers clean (first_part _ (grids_before answers) (grids_of_bytes takes.comes) near))
       (last_part _ (grids_before answers) (grids_of_bytes takes.comes) near)
 
+  file : {bytes : Option (List ℕ)} {old new : AtImage (scan_images A)} {status : ℕ}
+      (tells : TellsFile (scan_images A) bytes old status new) → ShowsPrinted labels old.state.desk →
+      Near (grids_of_file tells) → ShowsPrinted labels new.state.desk
+  file (was_opened rest tells) clean near = images tells clean near
+  file (not_opened fault same told) clean near =
+      subst (λ (at : AtDesk). ShowsPrinted labels at.desk) (sym same) clean
+
+  files : {all : List (Option (List ℕ))} {old new : AtImage (scan_images A)} {status : ℕ}
+      (tells : TellsFiles (scan_images A) all old status new) → ShowsPrinted labels old.state.desk →
+      Near (grids_of_files tells) → ShowsPrinted labels new.state.desk
+  files no_file clean near = clean
+  files (last_file tells is_last) clean near = file tells clean near
+  files (next_file tells goes_on others) clean near =
+      files others (file tells clean (first_part _ (grids_of_file tells) (grids_of_files others) near))
+      (last_part _ (grids_of_file tells) (grids_of_files others) near)
+
+  inputs : {all : List (Option (List ℕ))} {start new : Progress (scan_images A)} {status : ℕ}
+      (tells : TellsInputs (scan_images A) all start status new) → ShowsPrinted labels start.state.desk →
+      Near (grids_of_inputs tells) → ShowsPrinted labels new.state.desk
+  inputs (of_input tells) clean near = images tells clean near
+  inputs (of_files same tells) clean near = files tells clean near
+
 -- ---- the command
 
 pub each_scan_keeps : (A : Type 0) → EachScanKeeps A
-each_scan_keeps A labels capacity old status new printed clean how near = by_desk how near
+each_scan_keeps A labels capacity images old status new printed clean how near = by_desk how near
   where
-    by_desk : (ends : EndsScan A capacity old status new) →
+    by_desk : (ends : EndsScan A capacity images old status new) →
         AllByRecursion (IsNearPrinted labels) (grids_scanned ends) → IsClean labels new
     by_desk (no_desk name has refuses) near =
         still_clean labels old new clean (unopened old.files new.files capacity name clean.joint has)
     by_desk (opened desk opens rest) near =
         let o = is_opened labels old.files capacity new.files.joint desk clean.set clean.joint opens in
         record {
-          set = subst (HoldsPrinted labels) (sym rest.4) (images A labels printed rest.1 o.0.shows near).set;
+          set = subst (HoldsPrinted labels) (sym rest.4) (inputs A labels printed rest.1 o.0.shows near).set;
           joint = subst HasNoDocuments (sym o.1) clean.joint;
         }

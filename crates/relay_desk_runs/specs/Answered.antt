@@ -12,11 +12,14 @@ use Rattle.dm_assembly_desk.specs.declared.fault.ImportFault.{ImportFault}
 use Rattle.dm_assembly_desk.specs.declared.fault.ImportFault.TheVariants as imports
 use Rattle.dm_assembly_desk.specs.declared.reply.Imported.{Imported}
 use Rattle.relay_streams.specs.Streams.{InputView}
-use Rattle.relay_shared.specs.EachImage.{AnswersImages, Comes, EndsImages, Progress, Said, TellsImages}
+use Rattle.relay_shared.specs.EachImage.{AnswersImages, AtImage, Comes, EndsImages, Progress, Said, TellsFile, TellsFiles, TellsImages, TellsInputs}
 use Rattle.relay_shared.specs.EachImage.Comes.{image, unread, too_many}
 use Rattle.relay_shared.specs.EachImage.AnswersImages.{none, another}
 use Rattle.relay_shared.specs.EachImage.EndsImages.{no_image, last_line}
 use Rattle.relay_shared.specs.EachImage.TellsImages.{ended, stopped}
+use Rattle.relay_shared.specs.EachImage.TellsFile.{not_opened, opened as was_opened}
+use Rattle.relay_shared.specs.EachImage.TellsFiles.{last_file, next_file, no_file}
+use Rattle.relay_shared.specs.EachImage.TellsInputs.{of_files, of_input}
 use Rattle.relay_desk_commands.specs.Copy.{EndsCopy, GivesCopy}
 use Rattle.relay_desk_commands.specs.Copy.EndsCopyOf.{no_side, of_side}
 use Rattle.relay_desk_commands.specs.declared.copy.CopyOptions.{CopyOptions}
@@ -59,10 +62,26 @@ abbrev pub grids_of_images : {A : Type 0} {start new : Progress (scan_images A)}
 grids_of_images (ended said answers last reads appends is) = grids_before answers ++ grids_at_end last
 grids_of_images (stopped said answers takes failed part is) = grids_before answers ++ grids_of_bytes takes.comes
 
-abbrev pub grids_scanned : {A : Type 0} {capacity : ℕ} {old new : OnDesk} {status : ℕ} →
-    EndsScan A capacity old status new → List GridView
+abbrev pub grids_of_file : {A : Type 0} {bytes : Option (List ℕ)} {old new : AtImage (scan_images A)} {status : ℕ} →
+    TellsFile (scan_images A) bytes old status new → List GridView
+grids_of_file (was_opened rest tells) = grids_of_images tells
+grids_of_file (not_opened fault same told) = []
+
+abbrev pub grids_of_files : {A : Type 0} {files : List (Option (List ℕ))} {old new : AtImage (scan_images A)}
+    {status : ℕ} → TellsFiles (scan_images A) files old status new → List GridView
+grids_of_files no_file = []
+grids_of_files (last_file tells is_last) = grids_of_file tells
+grids_of_files (next_file tells goes_on others) = grids_of_file tells ++ grids_of_files others
+
+abbrev pub grids_of_inputs : {A : Type 0} {files : List (Option (List ℕ))} {start new : Progress (scan_images A)}
+    {status : ℕ} → TellsInputs (scan_images A) files start status new → List GridView
+grids_of_inputs (of_input tells) = grids_of_images tells
+grids_of_inputs (of_files same tells) = grids_of_files tells
+
+abbrev pub grids_scanned : {A : Type 0} {capacity : ℕ} {images : List (Option (List ℕ))} {old new : OnDesk} {status : ℕ} →
+    EndsScan A capacity images old status new → List GridView
 grids_scanned (no_desk name has refuses) = []
-grids_scanned (opened desk opens rest) = grids_of_images rest.1
+grids_scanned (opened desk opens rest) = grids_of_inputs rest.1
 
 -- ---- an import: the file that was taken in, or may have been, since its save failed
 

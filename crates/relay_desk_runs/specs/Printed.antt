@@ -1,5 +1,5 @@
 -- Desks that hold pages of printed labels alone: which commands keep them so, and what they give out.
-use Rattle.std.specs.Prelude.{◌≡◌, ◌<◌, ℕ, IfSome, IsTrue, List, Some, slice_get}
+use Rattle.std.specs.Prelude.{◌≡◌, ◌<◌, ℕ, IfSome, IsTrue, List, Option, Some, slice_get}
 use Rattle.std.specs.List.{AllByRecursion}
 use Rattle.std.specs.FinMap as finite
 use Rattle.dm_finder_frame.specs.Frame.{GridView}
@@ -69,8 +69,8 @@ pub data GivesPrinted (labels : List Label) (text : List ℕ) (old : OnDesk) (st
 -- ---- laws
 
 abbrev pub EachScanKeeps : Type 0 → Type 0
-EachScanKeeps A = (labels : List Label) (capacity : ℕ) (old : OnDesk) (status : ℕ) (new : OnDesk) → ArePrinted labels →
-    IsClean labels old → (ends : EndsScan A capacity old status new) →
+EachScanKeeps A = (labels : List Label) (capacity : ℕ) (images : List (Option (List ℕ))) (old : OnDesk) (status : ℕ)
+    (new : OnDesk) → ArePrinted labels → IsClean labels old → (ends : EndsScan A capacity images old status new) →
     AllByRecursion (IsNearPrinted labels) (grids_scanned ends) → IsClean labels new
 
 abbrev pub EachImportKeeps : Type 0

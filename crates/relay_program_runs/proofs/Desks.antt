@@ -104,19 +104,19 @@ record Clean (labels : List Label) (command : Command) (before : OnDesk) (status
   delivered : IfSome (text_of command) (λ text. GivesPrinted labels text before status after)
 
 module _ (A : Type 0) (labels : List Label) (printed : ArePrinted labels) (one : AreOfOneDocument labels)
-    (before after : OnDesk) (status : ℕ) (clean : IsClean labels before) where
+    (images : List (Option (List ℕ))) (before after : OnDesk) (status : ℕ) (clean : IsClean labels before) where
   same_set : after.files.set ≡ before.files.set → HoldsPrinted labels after.files.set
   same_set same = subst (HoldsPrinted labels) (sym same) clean.set
 
   same_files : after.files ≡ before.files → HoldsPrinted labels after.files.set
   same_files same = same_set (ap (λ (f : DeskFiles). f.set) same)
 
-  effect : (command : Command) (does : Does A command before status after) →
-      AllByRecursion (IsNearPrinted labels) (passed_by A command before status after does).scanned →
-      IfSome (passed_by A command before status after does).imported (IsPrintedFile labels) →
-      Clean labels command before status after (passed_by A command before status after does)
+  effect : (command : Command) (does : Does A command images before status after) →
+      AllByRecursion (IsNearPrinted labels) (passed_by A command images before status after does).scanned →
+      IfSome (passed_by A command images before status after does).imported (IsPrintedFile labels) →
+      Clean labels command before status after (passed_by A command images before status after does)
   effect (Scan file capacity) does near sent = record {
-    set = (each_scan_keeps A labels capacity before status after printed clean does near).set;
+    set = (each_scan_keeps A labels capacity images before status after printed clean does near).set;
     exported = tt;
     copied = tt;
     delivered = tt;
@@ -168,24 +168,26 @@ module _ (A : Type 0) (labels : List Label) (printed : ArePrinted labels) (one :
   effect World does near sent = record { set = same_files does.0.1; exported = tt; copied = tt; delivered = tt }
 
 -- the status that it exited with, or would have
-abbrev status_at : {A : Type 0} {command : Command} {before after : OnDesk} → Ends A command before after → ℕ
+abbrev status_at : {A : Type 0} {command : Command} {images : List (Option (List ℕ))} {before after : OnDesk} →
+    Ends A command images before after → ℕ
 status_at (exited status does) = status
 status_at (cut_short status does) = status
 
-if_exited : {A : Type 0} {command : Command} {before after : OnDesk} (ends : Ends A command before after)
-    (P : ℕ → Type 0) → P (status_at ends) → IfSome (status_of ends) P
+if_exited : {A : Type 0} {command : Command} {images : List (Option (List ℕ))} {before after : OnDesk}
+    (ends : Ends A command images before after) (P : ℕ → Type 0) → P (status_at ends) → IfSome (status_of ends) P
 if_exited (exited status does) P so = so
 if_exited (cut_short status does) P so = tt
 
 clean_at : (A : Type 0) (labels : List Label) (printed : ArePrinted labels) (one : AreOfOneDocument labels)
-    (command : Command) (before after : OnDesk) (ends : Ends A command before after) (clean : IsClean labels before) →
+    (command : Command) {images : List (Option (List ℕ))} (before after : OnDesk) (ends : Ends A command images before after)
+    (clean : IsClean labels before) →
     AllByRecursion (IsNearPrinted labels) (passed_at ends).scanned →
     IfSome (passed_at ends).imported (IsPrintedFile labels) →
     Clean labels command before (status_at ends) after (passed_at ends)
-clean_at A labels printed one command before after (exited status does) clean near sent =
-    effect A labels printed one before after status clean command does near sent
-clean_at A labels printed one command before after (cut_short status does) clean near sent =
-    effect A labels printed one before after status clean command does near sent
+clean_at A labels printed one command {images} before after (exited status does) clean near sent =
+    effect A labels printed one images before after status clean command does near sent
+clean_at A labels printed one command {images} before after (cut_short status does) clean near sent =
+    effect A labels printed one images before after status clean command does near sent
 
 -- ---- what is so once commands ran
 

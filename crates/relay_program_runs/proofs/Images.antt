@@ -18,17 +18,18 @@ use Rattle.dm_pbm_io.proofs.TakenBack.{taken_back}
 use Rattle.dm_assembly_desk.specs.declared.fault.ScanFault.{ScanFault}
 use Rattle.dm_assembly_desk.specs.declared.fault.ScanFault.TheVariants as scan_fault
 use Rattle.relay_streams.specs.Streams.{InputView}
-use Rattle.relay_shared.specs.EachImage.{AnswersImages, Comes, EndsImages, Progress, Said, Takes, TellsImages}
+use Rattle.relay_shared.specs.EachImage.{AnswersImages, Comes, EndsImages, Progress, Said, Takes, TellsImages, TellsInputs}
 use Rattle.relay_shared.specs.EachImage.Comes.{image, unread, too_many}
 use Rattle.relay_shared.specs.EachImage.AnswersImages.{none, another}
 use Rattle.relay_shared.specs.EachImage.EndsImages.{no_image, last_line}
 use Rattle.relay_shared.specs.EachImage.TellsImages.{ended, stopped}
+use Rattle.relay_shared.specs.EachImage.TellsInputs.{of_input}
 use Rattle.relay_printer_commands.proofs.Sizes.{same_size}
 use Rattle.relay_printer_commands.specs.Print.{images_of}
 use Rattle.relay_desk_commands.specs.Desks.{AtDesk, EndsScan, OnDesk, ScansPicture, scan_images}
 use Rattle.relay_desk_commands.specs.Desks.ScansPicture.{accepted, refused, no_grid}
 use Rattle.relay_desk_commands.specs.Desks.EndsAtDesk.{no_desk, opened}
-use Rattle.relay_desk_runs.specs.Answered.{grids_at_end, grids_before, grids_of_bytes, grids_of_images, grids_of_picture, grids_scanned, if_saved}
+use Rattle.relay_desk_runs.specs.Answered.{grids_at_end, grids_before, grids_of_bytes, grids_of_images, grids_of_inputs, grids_of_picture, grids_scanned, if_saved}
 
 -- ---- the image of one label
 
@@ -233,9 +234,13 @@ module _ (A : Type 0) (Q : GridView → Type 0) where
         let r = read_before answers in
         both (grids_before answers) (grids_of_bytes takes.comes) r.so (takes_so (grids_before answers) r takes).2.so
 
+    read_inputs : {new : Progress (scan_images A)} {status : ℕ}
+        (tells : TellsInputs (scan_images A) [] start status new) → AllByRecursion Q (grids_of_inputs tells)
+    read_inputs (of_input tells) = read_all tells
+
   -- a scan of the images of these labels takes in these alone
-  pub scanned_so : (capacity : ℕ) (old : OnDesk) (status : ℕ) (new : OnDesk) (ends : EndsScan A capacity old status new)
+  pub scanned_so : (capacity : ℕ) (old : OnDesk) (status : ℕ) (new : OnDesk) (ends : EndsScan A capacity [] old status new)
       (grids : List GridView) → AllByRecursion Is12 grids → old.streams.input.remaining ≡ Some (images_of grids) →
       AllByRecursion Q (grids_scanned ends)
   scanned_so capacity old status new (no_desk name has refuses) grids are known = tt
-  scanned_so capacity old status new (opened desk opens rest) grids are known = read_all _ grids are known rest.1
+  scanned_so capacity old status new (opened desk opens rest) grids are known = read_inputs _ grids are known rest.1

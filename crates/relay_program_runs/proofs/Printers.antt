@@ -490,19 +490,21 @@ module _ (A : Type 0) (ranges : List Range) (earlier : List (Ran A)) (site : Lis
 
 -- ---- whatever the command
 
-effect_at : (A : Type 0) (relay : Relay) (command : Command) (before after : OnDesk) (ends : Ends A command before after)
-    (o : Option ℕ) → HoldsSo relay before.files.joint o → Taken relay (passed_at ends).taken →
+effect_at : (A : Type 0) (relay : Relay) (command : Command) {images : List (Option (List ℕ))} (before after : OnDesk)
+    (ends : Ends A command images before after) (o : Option ℕ) → HoldsSo relay before.files.joint o → Taken relay (passed_at ends).taken →
     Effect A relay o command before after (passed_at ends)
-effect_at A relay command before after (exited status does) o holds left =
-    effect A relay before after status command does o holds left
-effect_at A relay command before after (cut_short status does) o holds left =
-    effect A relay before after status command does o holds left
+effect_at A relay command {images} before after (exited status does) o holds left =
+    effect A relay images before after status command does o holds left
+effect_at A relay command {images} before after (cut_short status does) o holds left =
+    effect A relay images before after status command does o holds left
 
-out_at : (A : Type 0) (command : Command) (before after : OnDesk) (ends : Ends A command before after) (job : JobView) →
-    (passed_at ends).printed ≡ Some job →
+out_at : (A : Type 0) (command : Command) {images : List (Option (List ℕ))} (before after : OnDesk)
+    (ends : Ends A command images before after) (job : JobView) → (passed_at ends).printed ≡ Some job →
     AppendsPart before.streams.output.contents after.streams.output.contents (images_of job.labels)
-out_at A command before after (exited status does) job is = out_of A before after status command does job is
-out_at A command before after (cut_short status does) job is = out_of A before after status command does job is
+out_at A command {images} before after (exited status does) job is =
+    out_of A images before after status command does job is
+out_at A command {images} before after (cut_short status does) job is =
+    out_of A images before after status command does job is
 
 -- what is so once it ran: more labels may have left
 pub record OneMore (A : Type 0) (ranges : List Range) (earlier : List (Ran A)) (relay : Relay) (ran : Ran A)

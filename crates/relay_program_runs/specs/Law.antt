@@ -26,28 +26,34 @@ use Rattle.relay_program_runs.specs.Passed.{Made, Passed, made_by, passed_by, te
 -- ---- commands that ran
 
 -- A command exited with this status. Or the machine cut it short: then it left what it may leave if from some point on each
--- call and each write fails, so what its clause allows, and nobody saw the status of that. If a save failed and the machine stopped before the file
--- was read again, the command counts as cut short, since the stop may have undone the save.
-pub data Ends (A : Type 0) (command : Command) (before after : OnDesk) : Type 0 where
-  exited : (status : ℕ) → Does A command before status after → Ends A command before after
-  cut_short : (status : ℕ) → Does A command before status after → Ends A command before after
+-- call and each write fails, so what its clause allows, and nobody saw the status of that. If a save failed and the machine
+-- stopped before the file was read again, the command counts as cut short, since the stop may have undone the save.
+pub data Ends (A : Type 0) (command : Command) (images : List (Option (List ℕ))) (before after : OnDesk) : Type 0 where
+  exited : (status : ℕ) → Does A command images before status after → Ends A command images before after
+  cut_short : (status : ℕ) → Does A command images before status after → Ends A command images before after
 
--- A command with its options; what it found and what it left: the store at its path, the set beside it, and its streams;
--- and how it ended, with the clause of `do_command` that says so. `A` is what it allocates in.
+-- A command with its options; the bytes of each file of images that it was given, where they are known; what it found and
+-- what it left: the store at its path, the set beside it, and its streams; and how it ended, with the clause of `do_command`
+-- that says so. `A` is what it allocates in.
 pub record Ran (A : Type 0) : Type 0 where
   pub command : Command
+  pub images : List (Option (List ℕ))
   pub before : OnDesk
   pub after : OnDesk
-  pub ends : Ends A command before after
+  pub ends : Ends A command images before after
 
-abbrev pub status_of : {A : Type 0} {command : Command} {before after : OnDesk} → Ends A command before after → Option ℕ
+abbrev pub status_of : {A : Type 0} {command : Command} {images : List (Option (List ℕ))} {before after : OnDesk} →
+    Ends A command images before after → Option ℕ
 status_of (exited status does) = Some status
 status_of (cut_short status does) = None
 
 -- what it let out and took in
-abbrev pub passed_at : {A : Type 0} {command : Command} {before after : OnDesk} → Ends A command before after → Passed
-passed_at {A} {command} {before} {after} (exited status does) = passed_by A command before status after does
-passed_at {A} {command} {before} {after} (cut_short status does) = passed_by A command before status after does
+abbrev pub passed_at : {A : Type 0} {command : Command} {images : List (Option (List ℕ))} {before after : OnDesk} →
+    Ends A command images before after → Passed
+passed_at {A} {command} {images} {before} {after} (exited status does) =
+    passed_by A command images before status after does
+passed_at {A} {command} {images} {before} {after} (cut_short status does) =
+    passed_by A command images before status after does
 
 abbrev pub passed : {A : Type 0} → Ran A → Passed
 passed ran = passed_at ran.ends

@@ -41,16 +41,16 @@ nothing = record {
 }
 
 -- by the clause of the command
-abbrev pub passed_by : (A : Type 0) (command : Command) (before : OnDesk) (status : ℕ) (after : OnDesk) →
-    Does A command before status after → Passed
-passed_by A (Print file number labels scheme) before status after does = record nothing { printed = job_ended does.0.0 }
-passed_by A (Give file number to first last) before status after does = record nothing { given = ticket_given does.0 }
-passed_by A (Take file number ticket) before status after does = record nothing { taken = ticket_taken does.0 }
-passed_by A (Scan file capacity) before status after does = record nothing { scanned = grids_scanned does }
-passed_by A (Export file id) before status after does = record nothing { exported = file_exported does }
-passed_by A (Import file capacity) before status after does = record nothing { imported = file_imported does.0 }
-passed_by A (Copy file id page side scheme) before status after does = record nothing { copied = label_copied does }
-passed_by A other before status after does = nothing
+abbrev pub passed_by : (A : Type 0) (command : Command) (images : List (Option (List ℕ))) (before : OnDesk) (status : ℕ)
+    (after : OnDesk) → Does A command images before status after → Passed
+passed_by A (Print file number labels scheme) images before status after does = record nothing { printed = job_ended does.0.0 }
+passed_by A (Give file number to first last) images before status after does = record nothing { given = ticket_given does.0 }
+passed_by A (Take file number ticket) images before status after does = record nothing { taken = ticket_taken does.0 }
+passed_by A (Scan file capacity) images before status after does = record nothing { scanned = grids_scanned does }
+passed_by A (Export file id) images before status after does = record nothing { exported = file_exported does }
+passed_by A (Import file capacity) images before status after does = record nothing { imported = file_imported does.0 }
+passed_by A (Copy file id page side scheme) images before status after does = record nothing { copied = label_copied does }
+passed_by A other images before status after does = nothing
 
 -- ---- ledgers
 

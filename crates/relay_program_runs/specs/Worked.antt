@@ -35,11 +35,11 @@ reading input = record {
 abbrev pub given : DeskFiles → List ℕ → OnDesk
 given files input = record { files = files; streams = reading input }
 
--- The command was done so, left these files, and wrote these bytes.
+-- The command was done so, over this input and no file of images, left these files, and wrote these bytes.
 pub record IsDone (A : Type 0) (command : Command) (files : DeskFiles) (input : List ℕ) (status : ℕ)
     (files_after : DeskFiles) (output : List ℕ) : Type 0 where
   pub after : OnDesk
-  pub does : Does A command (given files input) status after
+  pub does : Does A command [] (given files input) status after
   pub files_are : after.files ≡ files_after
   pub output_is : after.streams.output.contents ≡ Some output
 

@@ -1,14 +1,16 @@
 -- A command over images: it answers to each image on its input by a line, in order, up to the end of the input, a plain
--- image, bytes that are no image, a state in which it reads no more, or the greatest number of images.
-use Rattle.std.specs.Prelude.{◌≡◌, ℕ, ◌⊎◌, true, List, ◌+◌, ◌<◌, ◌≤◌, Bool, false, ◌||◌, if◌then◌else◌, [], Result, MatchResult}
+-- image, bytes that are no image, a state in which it reads no more, or the greatest number of images. Of files that it is
+-- given, each is such an input.
+use Rattle.std.specs.Prelude.{◌≡◌, ℕ, ◌⊎◌, true, List, ◌+◌, ◌<◌, ◌≤◌, Bool, false, ◌||◌, if◌then◌else◌, [], ◌∷◌, Option, max, Result, MatchResult}
 use Rattle.dm_pbm_io.specs.Image.{Picture, Spells, Refuses}
 use Rattle.dm_pbm_io.specs.declared.fault.PbmFault.{PbmFault}
 use Rattle.dm_pbm_io.specs.declared.fault.PbmFault.TheVariants as image_faults
-use Rattle.relay_streams.specs.Streams.{InputView, refused_line, AppendsPart, OutputView}
+use Rattle.relay_streams.specs.Streams.{InputView, input_fault_name, refused_line, AppendsPart, OutputView}
+use Rattle.relay_streams.specs.declared.fault.InputFault.{InputFault}
 use Rattle.std.specs.Io.KnownBytes.{Appends, Consumes, IsAtEnd, Keeps}
 use Rattle.dm_pbm_io.specs.FaultNames.{pbm_fault_name}
 use Rattle.relay_streams.specs.declared.fault.WriteFault.{WriteFault}
-use Rattle.relay_shared.specs.Command.{refusal_name}
+use Rattle.relay_shared.specs.Command.{TellsRefusal, refusal_name}
 use Rattle.relay_shared.specs.declared.images.TheConstants.{MOST_IMAGES}
 use Rattle.relay_shared.specs.declared.images.Answered.{Answered}
 use Rattle.relay_shared.specs.declared.command.Refusal.TheVariants.{TooMany}
@@ -126,3 +128,41 @@ pub data TellsImages (c : ImageCommand) (start : Progress c) (status : ℕ) (new
   stopped : {count : ℕ} {refused last : Bool} {old : Progress c} (said : Said) → AnswersImages c start count refused old
       → Takes c count old said last new → new.output.has_failed ≡ true
       → AppendsPart old.output.contents new.output.contents said.line → status ≡ 1 → TellsImages c start status new
+
+-- ---- the images of files
+
+abbrev pub at_image : {c : ImageCommand} → c.State → OutputView → AtImage c
+at_image now output = record { state = now; output = output }
+
+-- How a command ends over a file of images, by the bytes that it gives: as over an input of them; or it was not opened,
+-- and is refused.
+pub data TellsFile (c : ImageCommand) (bytes : Option (List ℕ)) (old : AtImage c) (status : ℕ) (new : AtImage c)
+    : Type 0 where
+  opened : (rest : InputView)
+      → TellsImages c (progress_at old.state (record { remaining = bytes; has_failed = false }) old.output) status
+      (progress_at new.state rest new.output) → TellsFile c bytes old status new
+  not_opened : (fault : InputFault) → new.state ≡ old.state
+      → TellsRefusal (input_fault_name fault) old.output status new.output → TellsFile c bytes old status new
+
+-- nothing is read after that
+abbrev pub has_stopped : (c : ImageCommand) → AtImage c → Bool
+has_stopped c at = at.output.has_failed || c.has_ended at.state
+
+-- How a command ends over files of images: it goes over one after another, until the output has failed or the command
+-- has ended. The status is the greatest.
+pub data TellsFiles (c : ImageCommand) : List (Option (List ℕ)) → AtImage c → ℕ → AtImage c → Type 0 where
+  no_file : {now : AtImage c} → TellsFiles c [] now 0 now
+  last_file : {file : Option (List ℕ)} {later : List (Option (List ℕ))} {old new : AtImage c} {status : ℕ}
+      → TellsFile c file old status new → has_stopped c new ≡ true → TellsFiles c (file ∷ later) old status new
+  next_file : {file : Option (List ℕ)} {later : List (Option (List ℕ))} {old now new : AtImage c} {status others : ℕ}
+      → TellsFile c file old status now → has_stopped c now ≡ false → TellsFiles c later now others new
+      → TellsFiles c (file ∷ later) old (max status others) new
+
+-- How a command over images ends: over the files that it is given, and it reads nothing else; or over its input, if it is
+-- given none.
+pub data TellsInputs (c : ImageCommand) : List (Option (List ℕ)) → Progress c → ℕ → Progress c → Type 0 where
+  of_input : {start new : Progress c} {status : ℕ} → TellsImages c start status new → TellsInputs c [] start status new
+  of_files : {file : Option (List ℕ)} {later : List (Option (List ℕ))} {start new : Progress c} {status : ℕ}
+      → new.input ≡ start.input
+      → TellsFiles c (file ∷ later) (at_image start.state start.output) status (at_image new.state new.output)
+      → TellsInputs c (file ∷ later) start status new

@@ -1,14 +1,15 @@
-//! Images that follow one another on the input of a command, and the loop that answers to each by a line.
+//! Images that follow one another on the input of a command, or in files that it is given, and the loops that answer to
+//! each by a line.
 
-ghost use Rattle.std.specs.Prelude.{◌≡◌, ℕ, List, true, false, ◌<◌, MatchResult};
+ghost use Rattle.std.specs.Prelude.{◌≡◌, ℕ, List, map, max, true, false, ◌<◌, MatchResult};
 ghost use Rattle.std.specs.Io.KnownBytes.{Consumes, IsAtEnd, Keeps};
-ghost use Rattle.relay_shared.specs.EachImage.{IsAnother, Progress, TellsImages, progress_at};
+ghost use Rattle.relay_shared.specs.EachImage.{IsAnother, Progress, TellsFile, TellsFiles, TellsImages, TellsInputs, at_image, has_stopped, progress_at};
 ghost use Rattle.relay_shared.specs.declared.images.TheConstants.{MOST_IMAGES};
 ghost use Rattle.relay_shared.specs.inner.Steps.{StopsStep, TakesStep};
 
 use crate::command::{Refusal, refuse};
 use dm_pbm_io::Image;
-use relay_streams::{Input, Output, WriteFault};
+use relay_streams::{Input, InputFault, Output, WriteFault};
 use std::alloc::Allocator;
 use std::io::{Read, Write};
 
@@ -77,6 +78,10 @@ pub trait OnImages<A: Allocator + Copy> {
             (record { state = state self.new errors.new; output = output.new }) }
         ensures kept { keeps self.old errors.old self.new errors.new };
 
+    /// Whether it has ended, and reads no more.
+    fn has_ended<E: Write>(&self, errors: &Output<E>) -> bool
+        ensures ended { result ≡ command.has_ended (state self.now errors.now) };
+
     /// Called before the line of an image that could not be read, with its number, from 1, and the refusal's name.
     fn see_unread<E: Write>(&mut self, errors: &mut Output<E>, number: u32, name: &str)
         ensures seen { command.SeesUnread number (state self.old errors.old) name.now (state self.new errors.new) }
@@ -122,8 +127,8 @@ fn next_image<A: Allocator + Copy, C: OnImages<A>, R: Read, W: Write, E: Write>(
     }
 }
 
-/// Reads images, one after another, 65,536 at most, and writes the line that the command answers to each.
-pub fn each_image<A: Allocator + Copy, C: OnImages<A>, R: Read, W: Write, E: Write>(
+// Reads images, one after another, 65,536 at most, and writes the line that the command answers to each.
+fn each_image<A: Allocator + Copy, C: OnImages<A>, R: Read, W: Write, E: Write>(
     alloc: A,
     command: &mut C,
     input: &mut Input<R>,
@@ -151,4 +156,125 @@ pub fn each_image<A: Allocator + Copy, C: OnImages<A>, R: Read, W: Write, E: Wri
         return u8::from(refused);
     }
     refuse(output, Refusal::TooMany.name())
+}
+
+/// A file of images that a command is given by its name, and that is opened when its turn comes.
+pub trait ImageFile {
+    ghost use Rattle.std.specs.Prelude.{◌≡◌, ℕ, IfOk, List, Option};
+
+    type Reader: Read + Drop;
+
+    /// The bytes that it gives, if they are known.
+    ghost remaining: { Self → Option (List ℕ) };
+
+    /// Opens it.
+    ///
+    /// # Errors
+    /// `Read` where it can't be opened; `Memory` where the allocator refuses.
+    fn open(&self) -> Result<Self::Reader, InputFault>
+        ensures { IfOk result (λ reader. Self.Reader.remaining reader ≡ remaining self.now) };
+
+    /// Called after the last line of a file that was opened, with whether any of its lines names a refusal.
+    fn end(&self, refused: bool);
+}
+
+impl<'a> ImageFile for &'a [u8] {
+    ghost use Rattle.std.specs.Prelude.{Some};
+
+    type Reader = &'a [u8];
+
+    ghost remaining = { λ bytes. Some bytes.now };
+
+    fn open(&self) -> Result<&'a [u8], InputFault> {
+        Ok(*self)
+    }
+
+    fn end(&self, _refused: bool) {}
+}
+
+// Answers to each image of a file.
+fn each_of_file<A: Allocator + Copy, C: OnImages<A>, F: ImageFile, W: Write, E: Write>(
+    alloc: A,
+    command: &mut C,
+    file: &F,
+    output: &mut Output<W>,
+    errors: &mut Output<E>,
+) -> u8
+    requires { C.command.has_ended (C.state command.old errors.old) ≡ false }
+    ensures told { TellsFile C.command (F.remaining file.now) (at_image (C.state command.old errors.old) output.old)
+        result (at_image (C.state command.new errors.new) output.new) }
+    ensures kept { C.keeps command.old errors.old command.new errors.new }
+{
+    let reader = match file.open() {
+        Ok(reader) => reader,
+        Err(fault) => return refuse(output, fault.name()),
+    };
+    let mut input = Input::new(reader);
+    let status = each_image(alloc, command, &mut input, output, errors);
+    file.end(status != 0 && !output.has_failed());
+    status
+}
+
+// The greater of two exit statuses.
+fn greater(one: u8, other: u8) -> u8
+    ensures { result ≡ max one other }
+{
+    if one < other { other } else { one }
+}
+
+// Whether the output has failed or the command has ended, so that nothing is read any more.
+fn has_stopped<A: Allocator + Copy, C: OnImages<A>, W: Write, E: Write>(
+    command: &C,
+    output: &Output<W>,
+    errors: &Output<E>,
+) -> bool
+    ensures { result ≡ has_stopped C.command (at_image (C.state command.now errors.now) output.now) }
+{
+    output.has_failed() || command.has_ended(errors)
+}
+
+// Answers to each image of each file in turn, until the output has failed or the command has ended.
+fn each_file<A: Allocator + Copy, C: OnImages<A>, F: ImageFile, W: Write, E: Write>(
+    alloc: A,
+    command: &mut C,
+    files: &[F],
+    output: &mut Output<W>,
+    errors: &mut Output<E>,
+) -> u8
+    requires { C.command.has_ended (C.state command.old errors.old) ≡ false }
+    ensures told { TellsFiles C.command (map F.remaining files.now)
+        (at_image (C.state command.old errors.old) output.old) result
+        (at_image (C.state command.new errors.new) output.new) }
+    ensures kept { C.keeps command.old errors.old command.new errors.new }
+{
+    let mut status = 0;
+    for file in files {
+        status = greater(status, each_of_file(alloc, command, file, output, errors));
+        if has_stopped(command, output, errors) {
+            return status;
+        }
+    }
+    status
+}
+
+/// Answers to each image of these files in turn, until the output has failed or the command has ended; where there is no
+/// file, to those of the input.
+pub fn each_input<A: Allocator + Copy, C: OnImages<A>, F: ImageFile, R: Read, W: Write, E: Write>(
+    alloc: A,
+    command: &mut C,
+    files: &[F],
+    input: &mut Input<R>,
+    output: &mut Output<W>,
+    errors: &mut Output<E>,
+) -> u8
+    requires { C.command.has_ended (C.state command.old errors.old) ≡ false }
+    ensures told { TellsInputs C.command (map F.remaining files.now)
+        (progress_at (C.state command.old errors.old) input.old output.old) result
+        (progress_at (C.state command.new errors.new) input.new output.new) }
+    ensures kept { C.keeps command.old errors.old command.new errors.new }
+{
+    if files.is_empty() {
+        return each_image(alloc, command, input, output, errors);
+    }
+    each_file(alloc, command, files, output, errors)
 }

@@ -1,7 +1,7 @@
-//! What the commands of `relay` share: how a command ends, the document and the images that it reads, the loop over
+//! What the commands of `relay` share: how a command ends, the document and the images that it reads, the loops over
 //! these images, refusals, notes of refused images, and lines that commands of several crates write.
 //!
-//! Proved: which bytes of an input are the document, and when there is none; where the images on an input end; that a
+//! Proved: which bytes of an input are the document, and when there is none; where the images on an input end, and those of each file; that a
 //! line is written whole, in the words of its definition, or that the output has failed and a part of the line is out.
 #![tactic(auto)]
 
@@ -16,5 +16,5 @@ pub use command::{
     status_after_bytes,
 };
 pub use cure::{note_ending, put_image_note};
-pub use images::{Answered, DONE, MOST_IMAGES, OnImages, REFUSED, each_image};
+pub use images::{Answered, DONE, ImageFile, MOST_IMAGES, OnImages, REFUSED, each_input};
 pub use lines::{id_digits, put_accepted, put_imported, word_digits};

@@ -2,7 +2,7 @@
 -- image, or the greatest number of images. What a symbol carries is the standard's (ISO/IEC 16022:2006, 5.2 and 5.6,
 -- Annexes A, E and F), how images follow one another Netpbm's, and where reading ends and what a line shows this
 -- project's own rule.
-use Rattle.std.specs.Prelude.{ℕ, List, [], ◌∷◌, ◌++◌, codes, ◌≡◌, ◌≢◌, Bool, false, true, Err}
+use Rattle.std.specs.Prelude.{ℕ, Option, List, [], ◌∷◌, ◌++◌, codes, ◌≡◌, ◌≢◌, Bool, false, true, Err}
 use Rattle.std.specs.Fmt.{decimal}
 use Rattle.hex.specs.Hex.{encode_lower}
 use Rattle.dm_append_label.specs.Labels.{PageView, id_words, head_at}
@@ -19,7 +19,7 @@ use Rattle.dm_append_label.specs.Opening.{symbol_fault, OpensAs, ReadsPage}
 use Rattle.dm_append_label.specs.declared.fault.LabelFault.{LabelFault}
 use Rattle.dm_append_label.specs.declared.fault.LabelFault.TheVariants.{Block, Border, NotAppended}
 use Rattle.dm_pbm_io.specs.Image.{HasShape, IsGridInside, Picture}
-use Rattle.relay_shared.specs.EachImage.{ImageCommand, Said, TellsImages, progress_at, refusal_of}
+use Rattle.relay_shared.specs.EachImage.{ImageCommand, Said, TellsInputs, progress_at, refusal_of}
 use Rattle.relay_shared.specs.Command.{StreamsView}
 use Rattle.relay_shared.specs.Cure.{NotesChange}
 use Rattle.relay_streams.specs.Streams.{OutputView}
@@ -106,8 +106,8 @@ read_images = record {
   has_ended = λ _. false;
 }
 
--- How `read` ends, from its streams to the exit status and the streams: the lines of its input were written, or the
--- output has failed at one of them.
-abbrev pub EndsRead : StreamsView → ℕ → StreamsView → Type 0
-EndsRead old status new = TellsImages read_images (progress_at old.errors old.input old.output) status
+-- How `read` ends, from its streams to the exit status and the streams: the lines of its files of images were written, by
+-- the bytes of each, or those of its input where it is given none, or the output has failed at one of them.
+abbrev pub EndsRead : List (Option (List ℕ)) → StreamsView → ℕ → StreamsView → Type 0
+EndsRead images old status new = TellsInputs read_images images (progress_at old.errors old.input old.output) status
     (progress_at new.errors new.input new.output)

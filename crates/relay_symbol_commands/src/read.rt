@@ -1,6 +1,6 @@
 //! `relay read`: what the symbols in images carry.
 
-ghost use Rattle.std.specs.Prelude.{◌≡◌, ◌++◌, string_bytes, IfOk, OnOk, false, MatchResult, ◌⊎◌};
+ghost use Rattle.std.specs.Prelude.{◌≡◌, ◌++◌, map, string_bytes, IfOk, OnOk, false, MatchResult, ◌⊎◌};
 ghost use Rattle.relay_shared.specs.Cure.{NotesChange};
 ghost use Rattle.relay_shared.specs.Lines.{hexadecimal};
 ghost use Rattle.relay_symbol_commands.specs.Read.{label_line, line_end, HasLine, HasNoHead, HasPictureLine, RefusesGrid, RefusesPicture, EndsRead, is_of_image, read_images};
@@ -16,7 +16,7 @@ use dm_finder_frame::Grid;
 use dm_pbm_io::{Image, ShapeFault, grid_of};
 use dm_symbol::{Corrected, SymbolReader};
 use relay_shared::{
-    Answered, DONE, OnImages, REFUSED, Streams, each_image, note_ending, put_image_note,
+    Answered, DONE, ImageFile, OnImages, REFUSED, Streams, each_input, note_ending, put_image_note,
 };
 use relay_streams::{Output, WriteFault};
 use std::alloc::{AllocError, Allocator};
@@ -176,6 +176,10 @@ impl<A: Allocator + Copy> OnImages<A> for Reading<A> {
         }
     }
 
+    fn has_ended<E: Write>(&self, _errors: &Output<E>) -> bool {
+        false
+    }
+
     fn see_unread<E: Write>(&mut self, _errors: &mut Output<E>, _number: u32, _name: &str) {}
 
     ghost keeps_itself = { λ _ _. tt };
@@ -187,15 +191,23 @@ impl<A: Allocator + Copy> OnImages<A> for Reading<A> {
 /// wrong W HEX` or `symbol SIDE corrected C wrong W HEX`, or `refused NAME`. A refused image doesn't end the command;
 /// bytes that are no image do, and so does a plain image. At most 65,536 images are read. An image that would be read if
 /// it were changed is named on the standard error, as `relay: image N: NAME`, and then what [`note_ending`] gives.
-pub fn read_command<A: Allocator + Copy, R: Read, W: Write, E: Write>(
+pub fn read_command<A: Allocator + Copy, F: ImageFile, R: Read, W: Write, E: Write>(
     alloc: A,
+    images: &[F],
     streams: &mut Streams<R, W, E>,
 ) -> u8
     ensures status { (result ≡ 0) ⊎ (result ≡ 1) }
-    ensures printed { EndsRead streams.old result streams.new }
+    ensures printed { EndsRead (map F.remaining images.now) streams.old result streams.new }
 {
     let reader = SymbolReader::new();
     let mut reading = Reading { reader };
     let (input, output) = (&mut streams.input, &mut streams.output);
-    each_image(alloc, &mut reading, input, output, &mut streams.errors)
+    each_input(
+        alloc,
+        &mut reading,
+        images,
+        input,
+        output,
+        &mut streams.errors,
+    )
 }

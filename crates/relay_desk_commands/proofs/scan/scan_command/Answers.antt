@@ -8,8 +8,8 @@ returns-in-Err g c =
 
 pub returns : goal.returns
 returns g c =
-    let told = rw c.in-Ok.ensures.1 at c.each_image-status.ensures.told in
-    let kept = c.each_image-status.ensures.kept in
-    let desk = c.each_image-status.new.command.desk in
+    let told = rw c.in-Ok.ensures.1 at c.each_input-status.ensures.told in
+    let kept = c.each_input-status.ensures.kept in
+    let desk = c.each_input-status.new.command.desk in
     rw (← c.streams.view_is) (opened c.in-Ok.opened.desk c.in-Ok.ensures.0
     (desk, told, kept.0, kept.1 c.in-Ok.ensures.2, c.close-set.ensures.state))

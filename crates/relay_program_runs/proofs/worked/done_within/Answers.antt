@@ -27,7 +27,7 @@ returns g c =
     record {
       after = desk_at (g.S.Store.state c.do_command-ended.result.store) (g.T.StoreSet.state c.do_command-ended.result.set)
           c.do_command-ended.new.streams;
-      does = subst (λ (s : StreamsView). Does g.row.A.Denot c.args.command (desk_at (g.S.Store.state c.args.at.0)
+      does = subst (λ (s : StreamsView). Does g.row.A.Denot c.args.command [] (desk_at (g.S.Store.state c.args.at.0)
           (g.T.StoreSet.state c.args.at.1) s) c.do_command-ended.result.status (desk_at
           (g.S.Store.state c.do_command-ended.result.store) (g.T.StoreSet.state c.do_command-ended.result.set)
           c.do_command-ended.new.streams)) streams c.do_command-ended.ensures;

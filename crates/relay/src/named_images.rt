@@ -1,0 +1,62 @@
+//! Files of images that were named on the line.
+
+use crate::notes::note;
+use relay_shared::ImageFile;
+use relay_streams::InputFault;
+use std::fs::File;
+use std::io::{BufReader, Read};
+use std::rt::Files;
+use std::{fs, io};
+
+/// A file of images by its name, or the program's input, where that is `-`.
+#[derive(Drop)]
+pub(crate) struct NamedImages<'a, R> {
+    pub(crate) rt: &'a R,
+    pub(crate) name: &'a str,
+}
+
+/// The program's input, or a file.
+#[derive(Drop)]
+pub(crate) enum Source<I: Drop> {
+    Input(I),
+    File(File),
+}
+
+impl<I: Read + Drop> Read for Source<I> {
+    fn read(&mut self, buf: &mut [u8]) -> io::Result<usize> {
+        match self {
+            Source::Input(input) => input.read(buf),
+            Source::File(file) => file.read(buf),
+        }
+    }
+}
+
+impl<R: AllocGlobal + Input + Eprint + Files<File = File>> ImageFile for NamedImages<'_, R> {
+    ghost use Rattle.std.specs.Prelude.{None};
+
+    type Reader = BufReader<Source<R::Reader>>;
+
+    ghost remaining = { λ _. None };
+
+    fn open(&self) -> Result<BufReader<Source<R::Reader>>, InputFault> {
+        let source = if self.name == "-" {
+            Source::Input(self.rt.reader())
+        } else {
+            let Ok(file) = fs::open(self.rt, self.name) else {
+                note(self.rt, self.name, "can't be opened");
+                return Err(InputFault::Read);
+            };
+            Source::File(file)
+        };
+        match BufReader::new(self.rt.alloc(), source) {
+            Ok(reader) => Ok(reader),
+            Err(_) => Err(InputFault::Memory),
+        }
+    }
+
+    fn end(&self, refused: bool) {
+        if refused {
+            note(self.rt, self.name, "has images that are refused");
+        }
+    }
+}

@@ -1,0 +1,61 @@
+-- From one file of images to all of them.
+use Rattle.std.specs.Prelude.{◌≡◌, ◌≢◌, ◌<◌, ◌≤◌, ◌+◌, ℕ, List, [], ◌∷◌, Option, false, true, drop, get_or, length, map, max}
+use Rattle.std.proofs.Common.{◌∙◌, ap, arith, refl, subst, sym}
+use Rattle.std.proofs.lemmas.List.{drop_all, drop_more}
+use Rattle.std.proofs.Math.Nat.{max-zero}
+use Rattle.relay_streams.specs.Streams.{InputView, OutputView}
+use Rattle.relay_shared.specs.EachImage.{AtImage, ImageCommand, Progress, TellsFile, TellsFiles, TellsImages, TellsInputs, at_image, has_stopped, progress_at}
+use Rattle.relay_shared.specs.EachImage.TellsFile.{opened}
+use Rattle.relay_shared.specs.EachImage.TellsFiles.{last_file, next_file, no_file}
+use Rattle.relay_shared.specs.EachImage.TellsInputs.{of_files}
+
+same_input : (input : InputView) (bytes : Option (List ℕ)) → input.remaining ≡ bytes → input.has_failed ≡ false →
+    input ≡ record { remaining = bytes; has_failed = false }
+same_input input bytes left whole = grind arith
+
+-- a file that was opened was gone over
+pub was_opened : (c : ImageCommand) (bytes : Option (List ℕ)) (now : c.State) (output : OutputView) (input : InputView)
+    {status : ℕ} (new : Progress c) → input.remaining ≡ bytes → input.has_failed ≡ false →
+    TellsImages c (progress_at now input output) status new →
+    TellsFile c bytes (at_image now output) status (at_image new.state new.output)
+was_opened c bytes now output input {status} new left whole tells = opened new.input
+    (subst (λ (i : InputView). TellsImages c (progress_at now i output) status new) (same_input input bytes left whole) tells)
+
+drop_next : {F : Type 0} (files : List F) (done : ℕ) (file : F) → done < length files → file ≡ get_or files done file →
+    drop done files ≡ file ∷ drop (done + 1) files
+drop_next files done file within is =
+    drop_more files done file within ∙ ap (λ one. one ∷ drop (done + 1) files) (sym is)
+
+max_again : (a b c : ℕ) → max (max a b) c ≡ max a (max b c)
+max_again a b c = grind arith
+
+module _ (c : ImageCommand) {F : Type 0} (bytes : F → Option (List ℕ)) (files : List F) (start : AtImage c) where
+  -- After this many files, with this status, whatever the others come to, so do all.
+  abbrev pub Before : ℕ → ℕ → AtImage c → Type 0
+  Before done status now = (others : ℕ) (new : AtImage c) → TellsFiles c (map bytes (drop done files)) now others new →
+      TellsFiles c (map bytes files) start (max status others) new
+
+  module _ (done status one : ℕ) (file : F) (now after : AtImage c) (within : done < length files) (is : file ≡ get_or files done file)
+      (so_far : Before done status now) (tells : TellsFile c (bytes file) now one after) where
+    -- one file more
+    pub one_more_file : has_stopped c after ≡ false → Before (done + 1) (max status one) after
+    one_more_file goes_on others new rest = rw (max_again status one others)
+        (so_far (max one others) new (rw (drop_next files done file within is) (next_file tells goes_on rest)))
+
+    -- nothing is read after that one
+    pub at_last_file : has_stopped c after ≡ true → TellsFiles c (map bytes files) start (max status one) after
+    at_last_file stopped = so_far one after (rw (drop_next files done file within is) (last_file tells stopped))
+
+  -- there is no other
+  pub at_no_file : (done status : ℕ) (now : AtImage c) → length files ≤ done → Before done status now →
+      TellsFiles c (map bytes files) start status now
+  at_no_file done status now all so_far = subst (λ (s : ℕ). TellsFiles c (map bytes files) start s now) (max-zero status)
+      (so_far 0 now (rw (drop_all done files all) no_file))
+
+-- and nothing of the input is read
+pub over_files : (c : ImageCommand) {F : Type 0} (bytes : F → Option (List ℕ)) (files : List F) (now : c.State)
+    (input : InputView) (output : OutputView) (status : ℕ) (new : c.State) (after : OutputView) → files ≢ [] →
+    TellsFiles c (map bytes files) (at_image now output) status (at_image new after) →
+    TellsInputs c (map bytes files) (progress_at now input output) status (progress_at new input after)
+over_files c bytes [] now input output status new after some tells = absurd (some refl)
+over_files c bytes (file ∷ later) now input output status new after some tells = of_files refl tells

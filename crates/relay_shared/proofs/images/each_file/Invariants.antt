@@ -1,0 +1,13 @@
+use Rattle.std.proofs.Common.{◌≡◌, false}
+use Rattle.relay_shared.specs.EachImage.{at_image}
+use Rattle.relay_shared.proofs.Files.{Before}
+use Rattle.relay_shared.proofs.images.each_file.Given as goal
+
+abbrev pub invariant-loop-file : goal.invariant-loop-file
+invariant-loop-file g l = record {
+  told : Before g.C.OnImages.command g.F.ImageFile.remaining l.files
+      (at_image (g.C.OnImages.state l.initial.command l.initial.errors) l.initial.output) l.file-index l.status
+      (at_image (g.C.OnImages.state l.command l.errors) l.output);
+  running : g.C.OnImages.command.has_ended (g.C.OnImages.state l.command l.errors) ≡ false;
+  kept : g.C.OnImages.keeps l.initial.command l.initial.errors l.command l.errors;
+}
