@@ -13,9 +13,9 @@ _relay() {
     take) words='--file --help --number --ticket' ;;
     left) words='--file --help' ;;
     scan) words='--capacity --file --help' ;;
-    deliver) words='--file --help --id' ;;
+    deliver) words='--file --help --id --to' ;;
     forget) words='--file --help --id' ;;
-    export) words='--file --help --id' ;;
+    export) words='--file --help --id --to' ;;
     import) words='--capacity --file --help' ;;
     held) words='--file --help --id' ;;
     copy) words='--file --help --id --page --scheme --side' ;;

@@ -29,6 +29,7 @@ mod named_images;
 mod notes;
 mod place;
 mod program;
+mod saved_output;
 
 pub use commands::do_command;
 pub use program::run;

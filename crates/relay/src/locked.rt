@@ -58,6 +58,12 @@ fn locks_files(access: Access, found: Found) -> bool
     }
 }
 
+/// Whether the path of a file ends as that of one that is made beside a ledger or a desk.
+pub(crate) fn has_own_ending(place: &Place<'_>) -> bool {
+    let path = place.file.as_str();
+    OWN_ENDINGS.iter().any(|ending| path.ends_with(*ending))
+}
+
 // The plain file of a command, if surely something is there.
 fn file_at<R: Files>(rt: &R, place: &Place<'_>) -> Result<Option<Metadata>, Reason> {
     if place.is_file_lost {
@@ -144,11 +150,7 @@ impl<'a, R: AllocGlobal + Files<File = File>> Gate<'a, R> {
         if !locks_files(access, found) {
             return Ok(None);
         }
-        if !found.is_any
-            && OWN_ENDINGS
-                .iter()
-                .any(|ending| place.file.as_str().ends_with(*ending))
-        {
+        if !found.is_any && has_own_ending(place) {
             return Err(Reason::OwnEnding);
         }
         if matches!(&file, Some(file) if has_second_name(rt, place, file)) {

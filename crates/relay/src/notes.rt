@@ -44,7 +44,7 @@ pub(crate) fn note_reason<R: AllocGlobal + Eprint>(rt: &R, place: &Place<'_>, re
         Reason::NoLock => (lock, "can't be locked"),
         Reason::LostLock => (lock, "was removed or replaced"),
         Reason::NotLocked => (file, "nothing can be saved there"),
-        Reason::Taken => (file, "something has come there meanwhile"),
+        Reason::Taken => (file, "something is there already"),
     };
     note(rt, path, why);
 }

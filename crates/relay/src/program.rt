@@ -7,9 +7,10 @@ use crate::locked::{Gate, Locked};
 use crate::named_images::NamedImages;
 use crate::notes::{note, note_faulty_file, note_folder, note_reason};
 use crate::place::{Access, Named, Place, named_by, refuses_on_errors};
+use crate::saved_output::{new_place, save_new};
 use dm_store::{FileSet, FileStore, Folders, MemSet, MemStore, RealDisk, Store, StoreSet};
 use relay_command::Command;
-use relay_line::{LineFault, command_line, image_files};
+use relay_line::{LineFault, OtherFiles, command_line, other_files};
 use relay_shared::{Streams, refuse};
 use relay_streams::Output;
 use std::alloc::AllocError;
@@ -165,15 +166,53 @@ impl<'a, R: AllocGlobal + Input + Eprint + Files<File = File> + Clone, W: Write>
         }
     }
 
-    // Does the command of the line over the program's input, or over the files of images that the line names.
-    fn do_line(&mut self, words: &'a [String]) -> Result<u8, AllocError> {
+    // Does the command over the program's input, or over these files of images.
+    fn do_with(&mut self, images: Vec<&'a str>) -> Result<u8, AllocError> {
         let rt = self.rt;
-        if answers_each_image(self.command) {
-            for name in image_files(rt.alloc(), words)? {
-                self.images.push(NamedImages { rt, name })?;
-            }
+        for name in images {
+            self.images.push(NamedImages { rt, name })?;
         }
         self.do_on(rt.reader())
+    }
+}
+
+// Does a command and saves its output as a new file, if it was done.
+fn do_saved<'a, R: AllocGlobal + Input + Eprint + Files<File = File> + Clone>(
+    rt: &'a R,
+    command: Command<'a>,
+    path: &'a str,
+) -> Result<u8, AllocError> {
+    let mut work = Work::new(rt, command, Vec::new(rt.alloc()));
+    let status = work.do_with(Vec::new(rt.alloc()))?;
+    if status != 0 {
+        return Ok(status);
+    }
+    let place = new_place(rt, path)?;
+    let Err(reason) = save_new(rt, &place, &work.output.into_writer())? else {
+        return Ok(0);
+    };
+    let status = refuse_on_errors(rt, "Save");
+    if let Some(reason) = reason {
+        note_reason(rt, &place, reason);
+    }
+    Ok(status)
+}
+
+// Does the command of a line, with the other files that the line names.
+fn do_line<'a, R: AllocGlobal + Input + Print + Eprint + Files<File = File> + Clone>(
+    rt: &'a R,
+    command: Command<'a>,
+    files: OtherFiles<'a>,
+) -> u8 {
+    let OtherFiles { images, saved_as } = files;
+    let mut work = Work::new(rt, command, io::writer(rt));
+    let done = match saved_as {
+        Some(path) => do_saved(rt, command, path),
+        None => work.do_with(images),
+    };
+    match done {
+        Ok(status) => status,
+        Err(AllocError) => work.refuse("Memory"),
     }
 }
 
@@ -226,9 +265,8 @@ pub fn run<R: AllocGlobal + Input + Print + Eprint + Env + Files<File = File> + 
         Ok(command) => command,
         Err(fault) => return show_fault(rt, &fault),
     };
-    let mut work = Work::new(rt, command, io::writer(rt));
-    match work.do_line(words.as_slice()) {
-        Ok(status) => status,
-        Err(AllocError) => work.refuse("Memory"),
+    match other_files(rt.alloc(), words.as_slice()) {
+        Ok(files) => do_line(rt, command, files),
+        Err(AllocError) => refuse_on_errors(rt, "Memory"),
     }
 }

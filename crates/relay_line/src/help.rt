@@ -66,7 +66,7 @@ looked at. Each image gives a line:
   refused NAME    none that can be read
 C words were wrong and were corrected, W modules of the finder patterns are
 wrong, and HEX is the bytes in hexadecimal, or `-` for none.
-Where files are named, each is read as if the command were given for it alone.
+Files that are named are read in turn, up to the end of each.
 
 Example:
   relay read < symbol.pbm",
@@ -195,7 +195,7 @@ After `refused Save` nothing more is read; the page may be held. A desk keeps a
 document until it is forgotten. Pages that disagree with those that are held are
 refused, and never joined. An old file of pages at PATH is moved first.
 
-Where files are named, each is read as if the command were given for it alone.
+Files that are named are read in turn, up to the end of each.
 
 The capacity is not remembered: a desk that holds more documents is refused
 `TooMany`. Give it at each `scan` and `import`; other commands take up to 1024.
@@ -206,10 +206,12 @@ Example:
     Page {
         name: "deliver",
         about: "Gives back a document when all its pages are held",
-        usage: "relay deliver --file PATH --id IIII > DOCUMENT",
+        usage: "relay deliver --file PATH --id IIII [--to FILE]",
         more: "\
 Writes the document, which stays at the desk, and nothing else. Where a page is
-missing nothing is written but `refused Incomplete`, on standard error.
+missing nothing is written but `refused Incomplete`, on standard error. With
+`--to` the document is on the disk once the command has ended with 0, and FILE
+must not be there before.
 
 Example:
   relay deliver --file desk --id 0101 > letter",
@@ -227,10 +229,11 @@ Example:
     Page {
         name: "export",
         about: "Writes the pages of a document for another desk",
-        usage: "relay export --file PATH --id IIII > PAGES",
+        usage: "relay export --file PATH --id IIII [--to FILE]",
         more: "\
 The pages stay at the desk. `relay import` takes them in at another. A refusal
-goes to standard error.
+goes to standard error. With `--to` the pages are on the disk once the command
+has ended with 0, and FILE must not be there before.
 
 Example:
   relay export --file desk --id 0101 > 0101.pages",

@@ -13,4 +13,4 @@ mod options;
 mod parse;
 
 pub use fault::LineFault;
-pub use parse::{command_line, image_files};
+pub use parse::{OtherFiles, command_line, other_files};

@@ -55,6 +55,7 @@ fn rows_of(name: &str) -> &'static [Row] {
     const FIRST_HELP: &str = "the first identification, from 0";
     const LAST_HELP: &str = "the last identification, up to 64515";
     const PAGE_HELP: &str = "the page, from 1 to 16";
+    const SAVED_HELP: &str = "save it as this file, in place of the standard output";
     const SIDE: Row = Row("side", "SIDE", Optional, Signed(10, 132), SIDE_HELP);
     const LEAST_SIDE: Row = Row("side", "SIDE", Default("10"), Signed(10, 132), SIDE_HELP);
     const COPY_SIDE: Row = Row("side", "SIDE", Required, Signed(10, 132), SIDE_HELP);
@@ -73,6 +74,7 @@ fn rows_of(name: &str) -> &'static [Row] {
     const ID: Row = Row("id", "IIII", Required, Text, ID_HELP);
     const ANY_ID: Row = Row("id", "IIII", Optional, Text, ID_HELP);
     const PAGE: Row = Row("page", "M", Required, Signed(1, 16), PAGE_HELP);
+    const SAVED: Row = Row("to", "FILE", Optional, NonEmptyString, SAVED_HELP);
     const IMAGES: Row = Row("images", "IMAGES", Words, Text, IMAGES_HELP);
     const REFUSAL: Row = Row("name", "NAME", Word, Text, NAME_HELP);
     const WORDS: &[Row] = &[LEAST_SIDE, SCHEME];
@@ -87,6 +89,7 @@ fn rows_of(name: &str) -> &'static [Row] {
     const LEFT: &[Row] = &[LEDGER];
     const SCAN: &[Row] = &[DESK, CAPACITY, IMAGES];
     const DOCUMENT: &[Row] = &[DESK, ID];
+    const GIVEN: &[Row] = &[DESK, ID, SAVED];
     const IMPORT: &[Row] = &[DESK, CAPACITY];
     const HELD: &[Row] = &[DESK, ANY_ID];
     const COPY: &[Row] = &[DESK, ID, PAGE, COPY_SIDE, SCHEME];
@@ -103,7 +106,8 @@ fn rows_of(name: &str) -> &'static [Row] {
         "take" => TAKE,
         "left" => LEFT,
         "scan" => SCAN,
-        "deliver" | "forget" | "export" => DOCUMENT,
+        "deliver" | "export" => GIVEN,
+        "forget" => DOCUMENT,
         "import" => IMPORT,
         "held" => HELD,
         "copy" => COPY,

@@ -214,23 +214,37 @@ pub fn command_line<'a, S: AsStr>(alloc: Global, words: &'a [S]) -> Result<Comma
     }
 }
 
-/// The files that `read` or `scan` takes images from, in turn, or none where it takes them from its input. The words
-/// are those of a line that `command_line` has taken.
+/// The files that a line names beside that of its command.
+#[derive(Drop)]
+pub struct OtherFiles<'a> {
+    /// Those that `read` or `scan` takes images from, in turn, or none where it takes them from its input.
+    pub images: Vec<&'a str>,
+    /// The one that `deliver` or `export` saves its output as, if it is not the standard output.
+    pub saved_as: Option<&'a str>,
+}
+
+/// The other files of a line that `command_line` has taken.
 ///
 /// # Errors
 /// Memory was refused.
-pub fn image_files<'a, S: AsStr>(
+pub fn other_files<'a, S: AsStr>(
     alloc: Global,
     words: &'a [S],
-) -> Result<Vec<&'a str>, AllocError> {
+) -> Result<OtherFiles<'a>, AllocError> {
     let Ok(matches) = relay(alloc)?.try_get_matches_from(words) else {
         return Err(AllocError);
     };
-    let mut files = Vec::new(alloc);
-    if let Some((_, options)) = matches.subcommand()
-        && let Some(names) = options.get_strs("images")
-    {
-        files.extend_from_slice(names)?;
+    let mut files = OtherFiles {
+        images: Vec::new(alloc),
+        saved_as: None,
+    };
+    if let Some((name, options)) = matches.subcommand() {
+        if let Some(names) = options.get_strs("images") {
+            files.images.extend_from_slice(names)?;
+        }
+        if matches!(name, "deliver" | "export") {
+            files.saved_as = options.get_str("to");
+        }
     }
     Ok(files)
 }
