@@ -17,7 +17,7 @@ use Rattle.relay_desk_commands.specs.Desks.{DeskFiles}
 use Rattle.relay_runs.proofs.TicketTexts.{ten_ticket}
 use Rattle.relay_desk_runs.specs.Answered.{grids_scanned}
 use Rattle.relay.specs.Commands.{path_of}
-use Rattle.relay_program_runs.specs.Law.{AreApart, At, LetsOut, Ran, SomeRan, TakesPrinted, passed}
+use Rattle.relay_program_runs.specs.Law.{AreApart, Asks, At, Each, LetsOut, Ran, SomeRan, TakesPrinted, passed}
 use Rattle.relay_program_runs.specs.Worked.{Delivers, IsDone, IsWorked, given, no_files}
 use Rattle.relay_program_runs.proofs.Images.{Is12, scanned_so}
 use Rattle.relay_program_runs.proofs.Lists.{all_so}
@@ -125,26 +125,32 @@ module _ {A : Type 0} {f1 f2 f3 f4 f5 f6 f7 f8 f9 f10 f11 f12 f13 f14 t i9 i10 i
   wrote : IsSomeAnd r7.after.streams.output.contents (λ bytes. 0 < length bytes)
   wrote = subst (λ (o : Option (List ℕ)). IsSomeAnd o (λ bytes. 0 < length bytes)) (sym r7.output_is) more
 
+  asks : Asks site (rans_of steps)
+  asks = record {
+    is_new = new site (omega arith, (omega arith, (omega arith, (omega arith, tt)))) (blank, (blank, (blank, (blank, tt))));
+    runs = run_so site steps (also refl (also refl (also refl (also refl (also refl (also refl (also refl (also refl
+        (also refl (also refl (also refl (also refl (also refl (also refl tt))))))))))))));
+    apart = subst (AllPairs AreApart) (sym (and_made (one_made r1) (and_made (one_made r2) refl))) apart;
+    tickets = also tt (also tt (also tt (also (takes_given (ran r1 ∷ ran r2 ∷ ran r3 ∷ []) (ran r4) 2 refl
+        (gave (keeps_fresh r1) r3) (took ten_ticket text refl (keeps_fresh r2) r4).0) (tt, (tt, (tt, (tt, (tt, (tt, (tt, (tt, (tt, (tt, tt)))))))))))));
+  }
+
+  all_printed : Each (TakesPrinted IsAmong) [] (rans_of steps)
+  all_printed = also (takes_none refl refl) (also (takes_none refl refl) (also (takes_none refl refl)
+      (also (takes_none refl refl) (also (takes_none refl refl) (also (takes_none refl refl)
+      (also (takes_none refl refl) (also (record { scans = λ among. scans; imports = λ among. tt })
+      (also (takes_none refl refl) (also (takes_none refl refl) (also (takes_none refl refl)
+      (also (record { scans = λ among. scans_copy; imports = λ among. tt })
+      (also (record { scans = λ among. tt; imports = λ among. imports })
+      (also (takes_none refl refl) tt)))))))))))))
+
   pub worked : IsWorked A o14
   worked = record {
     site = site;
     rans = rans_of steps;
     count = refl;
-    asks = record {
-      is_new = new site (omega arith, (omega arith, (omega arith, (omega arith, tt)))) (blank, (blank, (blank, (blank, tt))));
-      runs = run_so site steps (also refl (also refl (also refl (also refl (also refl (also refl (also refl (also refl
-          (also refl (also refl (also refl (also refl (also refl (also refl tt))))))))))))));
-      apart = subst (AllPairs AreApart) (sym (and_made (one_made r1) (and_made (one_made r2) refl))) apart;
-      tickets = also tt (also tt (also tt (also (takes_given (ran r1 ∷ ran r2 ∷ ran r3 ∷ []) (ran r4) 2 refl
-          (gave (keeps_fresh r1) r3) (took ten_ticket text refl (keeps_fresh r2) r4).0) (tt, (tt, (tt, (tt, (tt, (tt, (tt, (tt, (tt, (tt, tt)))))))))))));
-    };
-    printed = also (takes_none refl refl) (also (takes_none refl refl) (also (takes_none refl refl)
-        (also (takes_none refl refl) (also (takes_none refl refl) (also (takes_none refl refl)
-        (also (takes_none refl refl) (also (record { scans = λ among. scans; imports = λ among. tt })
-        (also (takes_none refl refl) (also (takes_none refl refl) (also (takes_none refl refl)
-        (also (record { scans = λ among. scans_copy; imports = λ among. tt })
-        (also (record { scans = λ among. tt; imports = λ among. imports })
-        (also (takes_none refl refl) tt)))))))))))));
+    asks = asks;
+    printed = all_printed;
     takes = (3, ran r4, refl, ap is_some (took ten_ticket text refl (keeps_fresh r2) r4).0);
     cut = (5, cut r6, refl, refl);
     lost = (6, ran r7, refl, (refl, wrote));
@@ -152,4 +158,6 @@ module _ {A : Type 0} {f1 f2 f3 f4 f5 f6 f7 f8 f9 f10 f11 f12 f13 f14 t i9 i10 i
     copies = (10, ran r11, refl, ap is_some copied.1);
     there = (13, ran r14, refl, delivered r14 n14 refl);
     written_is = other;
+    once = λ law. law site (rans_of steps) asks;
+    delivered = λ law. law (λ path. true) site (rans_of steps) asks all_printed;
   }

@@ -1,12 +1,13 @@
 -- Worked lists: commands over stores in memory and streams whose bytes are known. Of one list all premises of the laws
 -- hold. Of each short one all but one hold, and the conclusion fails.
-use Rattle.std.specs.Prelude.{◌≡◌, ◌≢◌, ◌⊎◌, ◌≤◌, ◌<◌, ℕ, All, AllPairs, Err, IsSome, IsSomeAnd, IsTrue, List, [], None, Option, Some, codes, false, length, true}
+use Rattle.std.specs.Prelude.{◌≡◌, ◌≢◌, ◌⊎◌, ◌≤◌, ◌<◌, ℕ, All, AllPairs, Bool, Err, IsSome, IsSomeAnd, IsTrue, List, [], ◌∷◌, None, Option, Some, codes, false, length, slice_get, true}
 use Rattle.std.specs.FinMap as finite
 use Rattle.dm_finder_frame.specs.Frame.{GridView}
+use Rattle.dm_symbol.specs.Correction.{IsNear}
 use Rattle.dm_store.specs.declared.mem_store.NextSave.TheVariants.{Fine}
 use Rattle.dm_store.specs.Fused.{with_open_plans}
 use Rattle.dm_store.specs.Saved.{Saved, SavedSet, in_memory}
-use Rattle.dm_print_ledger.specs.Ledger.{TicketView}
+use Rattle.dm_print_ledger.specs.Ledger.{JobView, TicketView}
 use Rattle.dm_print_ledger.specs.declared.fault.TakeFault.{TakeFault}
 use Rattle.dm_print_ledger.specs.declared.fault.TakeFault.TheVariants as takes
 use Rattle.dm_assembly_desk.specs.declared.fault.ScanFault.{ScanFault}
@@ -16,12 +17,13 @@ use Rattle.dm_assembly_desk.specs.declared.fault.ImportFault.TheVariants as impo
 use Rattle.relay_runs.specs.Answered.{if_taken}
 use Rattle.relay_desk_runs.specs.Answered.{if_imported, if_saved}
 use Rattle.relay_command.specs.declared.command.Command.{Command}
-use Rattle.relay_shared.specs.Command.{StreamsView}
+use Rattle.relay_streams.specs.Streams.{AppendsPart, InputView}
+use Rattle.relay_shared.specs.Command.{ReadsDocument, StreamsView}
 use Rattle.dm_event_history.specs.Headline.{IsApart}
-use Rattle.relay_desk_commands.specs.Desks.{DeskFiles, OnDesk}
+use Rattle.relay_desk_commands.specs.Desks.{DeskFiles, IsTextOfId, OnDesk}
 use Rattle.relay.specs.Commands.{Does, path_of}
 use Rattle.relay_program_runs.specs.Passed.{Made, made_where, text_of}
-use Rattle.relay_program_runs.specs.Law.{AreApart, Asks, At, DeliversPrinted, Each, IsBlank, IsFirstOfItsId, IsNew, Ran, Runs, SomeRan, TakesGiven, TakesPrinted, all_made, at_its_path, passed, status_of}
+use Rattle.relay_program_runs.specs.Law.{AreApart, Asks, At, DeliversPrinted, Each, IsBlank, IsFirstOfItsId, IsNew, LetsOut, NoIdIsPrintedTwice, Prints, Ran, Runs, SomeRan, TakesGiven, TakesPrinted, WhatIsDeliveredWasPrinted, WritesPrinted, all_made, at_its_path, passed, status_of}
 
 -- an input of these bytes, and outputs that nothing was written to
 abbrev pub reading : List ℕ → StreamsView
@@ -79,6 +81,9 @@ pub record IsWorked (A : Type 0) (written : List ℕ) : Type 0 where
   pub here : SomeRan (Delivers (codes "d") (codes "1234")) rans
   pub there : SomeRan (Delivers (codes "e") written) rans
   pub written_is : written ≡ codes "1234"
+  -- the laws are said of it, and ask nothing else
+  pub once : NoIdIsPrintedTwice A → Each IsFirstOfItsId [] rans
+  pub delivered : WhatIsDeliveredWasPrinted A → Each (DeliversPrinted (λ path. IsTrue true)) [] rans
 
 -- The statuses are 0, but this one is 1, after some bytes; the file is short; and this came out, twice.
 pub record EndWell (statuses : List ℕ) (status : ℕ) (some file one other : List ℕ) : Type 0 where
@@ -97,6 +102,27 @@ pub record RefusalsCountNot : Type 0 where
   pub file : (fault : ImportFault) → fault ≢ imports.Save → (file : List ℕ) → if_imported (Err fault) file ≡ None
   pub there : (old : List ℕ) (after : Option (List ℕ)) (ledger : Made) → made_where (Some old) after ledger ≡ []
   pub absent : (before : Option (List ℕ)) (ledger : Made) → made_where before None ledger ≡ []
+
+-- ---- what the words of the laws say at least
+
+-- A command is at the path that it names. A label of a job was let out, and an identification is not printed again, and a
+-- document was read, however the print ended; and what is delivered was printed, however `deliver` ended and whatever is
+-- known of its output. Each grid near one that was let out may be taken in.
+pub record SayAtLeast (A : Type 0) : Type 0 where
+  pub place : (ran : Ran A) (files : DeskFiles) → (at_its_path ran files).path ≡ path_of ran.command
+  pub label : (among : List ℕ → Bool) (ran : Ran A) (job : JobView) (i : ℕ) (grid : GridView) →
+      (passed ran).printed ≡ Some job → slice_get job.labels i ≡ Some grid → LetsOut (λ path. IsTrue (among path)) grid ran
+  pub near : (among : List ℕ → Bool) (earlier : List (Ran A)) (ran : Ran A) (own grid : GridView) → IsNear grid own →
+      SomeRan (LetsOut (λ path. IsTrue (among path)) own) earlier → (passed ran).scanned ≡ grid ∷ [] →
+      (passed ran).imported ≡ None → TakesPrinted (λ path. IsTrue (among path)) earlier ran
+  pub first : (earlier : List (Ran A)) (ran : Ran A) (job : JobView) → IsFirstOfItsId earlier ran →
+      (passed ran).printed ≡ Some job → ¬ SomeRan (λ other. IsSomeAnd (passed other).printed (λ its. its.id ≡ job.id)) earlier
+  pub read : (id : ℕ) (document : List ℕ) (ran : Ran A) → Prints id document ran →
+      (rest : InputView) × ReadsDocument ran.before.streams.input rest document
+  pub written : (earlier : List (Ran A)) (text : List ℕ) (ran : Ran A) → WritesPrinted earlier text ran →
+      (ran.after.streams.output ≡ ran.before.streams.output)
+      ⊎ ((id : ℕ) × (document : List ℕ) × IsTextOfId text id × SomeRan (Prints id document) earlier
+      × AppendsPart ran.before.streams.output.contents ran.after.streams.output.contents document)
 
 -- ---- each premise is needed
 

@@ -1,7 +1,7 @@
-//! The two laws: each function's contract is the law.
+//! The laws: each function's contract is the law.
 
 ghost use Rattle.relay_program_runs.specs.Law.{NoIdIsPrintedTwice, WhatIsDeliveredWasPrinted, WhatIsWrittenWasPrinted};
-ghost use Rattle.relay_program_runs.specs.Worked.{RefusalsCountNot};
+ghost use Rattle.relay_program_runs.specs.Worked.{RefusalsCountNot, SayAtLeast};
 
 use std::alloc::Allocator;
 
@@ -23,4 +23,9 @@ pub fn what_is_written_was_printed<A: Allocator>()
 /// What is refused counts neither as taken in nor as made.
 pub fn refusals()
     ensures { RefusalsCountNot }
+{}
+
+/// The words of the laws say as much as this.
+pub fn at_least<A: Allocator>()
+    ensures { SayAtLeast A }
 {}

@@ -1,0 +1,55 @@
+use Rattle.std.proofs.Common.{◌≡◌, ◌⊎◌, inl, inr, ℕ, List, ◌∷◌, [], None, Option, Some, refl, subst, sym}
+use Rattle.std.specs.List.{AllByRecursion}
+use Rattle.std.specs.Prelude.{IfSome, IsSomeAnd}
+use Rattle.dm_finder_frame.specs.Frame.{GridView}
+use Rattle.dm_symbol.specs.Correction.{IsNear}
+use Rattle.dm_print_ledger.specs.Ledger.{JobView}
+use Rattle.relay_streams.specs.Streams.{AppendsPart, InputView}
+use Rattle.relay_shared.specs.Command.{ReadsDocument}
+use Rattle.relay_desk_commands.specs.Desks.{IsTextOfId}
+use Rattle.relay.specs.Commands.{path_of}
+use Rattle.relay_program_runs.specs.Law.{IsFirstOfItsId, LetsOut, Prints, Ran, SomeRan, TakesPrinted, WritesPrinted, passed, writes, writes_nothing}
+use Rattle.relay_program_runs.proofs.laws.at_least.Goals as goal
+
+as_one : {X : Type 0} (P : X → Type 0) (o : Option X) (x : X) → o ≡ Some x → IfSome o P → P x
+as_one P None x some so = cc (some)
+as_one P (Some y) x some so = (let same : y ≡ x = cc (some) in subst P same so)
+
+some_so : {X : Type 0} (P : X → Type 0) (o : Option X) (x : X) → o ≡ Some x → P x → IsSomeAnd o P
+some_so {X} P o x is so = subst (λ (p : Option X). IsSomeAnd p P) (sym is) so
+
+takes_near : (A : Type 0) (IsAmong : List ℕ → Type 0) (earlier : List (Ran A)) (ran : Ran A) (own grid : GridView) →
+    IsNear grid own → SomeRan (LetsOut IsAmong own) earlier → (passed ran).scanned ≡ grid ∷ [] →
+    (passed ran).imported ≡ None → TakesPrinted IsAmong earlier ran
+takes_near A IsAmong earlier ran own grid near out scanned no_file = record {
+  scans = λ among. subst (AllByRecursion (λ grid. (own : GridView) × IsNear grid own
+      × SomeRan {A = A} (LetsOut IsAmong own) earlier)) (sym scanned) ((own, near, out), tt);
+  imports = λ among. subst (λ (o : Option (List ℕ)). IfSome o (λ bytes. SomeRan {A = A}
+      (λ other. ((passed other).exported ≡ Some bytes) × IsAmong (path_of other.command)) earlier)) (sym no_file) tt;
+}
+
+no_other : (A : Type 0) (earlier : List (Ran A)) (ran : Ran A) (job : JobView) → IsFirstOfItsId earlier ran →
+    (passed ran).printed ≡ Some job → ¬ SomeRan (λ other. IsSomeAnd (passed other).printed (λ its. its.id ≡ job.id)) earlier
+no_other A earlier ran job first is = as_one (λ (j : JobView).
+    ¬ SomeRan {A = A} (λ other. IsSomeAnd (passed other).printed (λ its. its.id ≡ j.id)) earlier) _ job is first
+
+was_read : (A : Type 0) (id : ℕ) (document : List ℕ) (ran : Ran A) → Prints id document ran →
+    (rest : InputView) × ReadsDocument ran.before.streams.input rest document
+was_read A id document ran p = (p.rest, p.read)
+
+was_printed : (A : Type 0) (earlier : List (Ran A)) (text : List ℕ) (ran : Ran A) → WritesPrinted earlier text ran →
+    (ran.after.streams.output ≡ ran.before.streams.output)
+    ⊎ ((id : ℕ) × (document : List ℕ) × IsTextOfId text id × SomeRan (Prints id document) earlier
+    × AppendsPart ran.before.streams.output.contents ran.after.streams.output.contents document)
+was_printed A earlier text ran (writes_nothing same status) = inl same
+was_printed A earlier text ran (writes id document is printed part all) = inr (id, document, is, printed, part)
+
+pub returns : goal.returns
+returns g c = record {
+  place = λ ran files. refl;
+  label = λ among ran job i grid is there. inl (some_so _ _ job is (i, there));
+  near = λ among. takes_near _ _;
+  first = no_other _;
+  read = was_read _;
+  written = was_printed _;
+}
