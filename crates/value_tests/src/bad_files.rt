@@ -3,7 +3,7 @@
 
 use crate::desks::{SECOND, WHOLE, gives, id_of, opened};
 use dm_assembly_desk::{Desk, DeskFault, MoveFault, move_pages};
-use dm_store::{MemSet, MemStore, NextSave, StoreSet};
+use dm_store::{MemSet, MemStore, StoreSet};
 use std::alloc::{AllocError, Global};
 use std::test::Fail;
 
@@ -120,30 +120,5 @@ fn joint_files_are_moved(rt: HostRuntime) -> Result<(), Fail> {
     assert!(rt; set.content(0) == Some(SECOND));
     let desk = opened(&rt, rt.alloc(), set, 2);
     assert!(rt; gives(&desk, id_of(&rt, 2), b"5\x06"));
-    Ok(())
-}
-
-// A joint file of one document, and one of none.
-const ONE: &[u8] = b"DMPG\x01\x00\x01\x01\x01\x02\x00\x02\x00\x0234";
-
-const NO_DOCUMENT: &[u8] = b"DMPG\x01\x00\x00";
-
-#[test]
-fn saves_of_a_move_fail(rt: HostRuntime) -> Result<(), Fail> {
-    let mut set = MemSet::new(rt.alloc());
-    let mut old = holding(rt.alloc(), ONE)?;
-    set.set_next(NextSave::FaultOld);
-    assert!(rt; moved(rt.alloc(), &mut old, &mut set) == Err(MoveFault::Device));
-    assert!(rt; set.content(0).is_none());
-    assert!(rt; moved(rt.alloc(), &mut old, &mut set) == Ok(1));
-    assert!(rt; set.content(0) == Some(SECOND));
-    assert!(rt; old.content() == Some(NO_DOCUMENT));
-    assert!(rt; moved(rt.alloc(), &mut old, &mut set) == Ok(0));
-    let mut again = holding(rt.alloc(), ONE)?;
-    again.set_next(NextSave::FaultOld);
-    assert!(rt; moved(rt.alloc(), &mut again, &mut set) == Err(MoveFault::Device));
-    assert!(rt; again.content() == Some(ONE));
-    assert!(rt; moved(rt.alloc(), &mut again, &mut set) == Ok(0));
-    assert!(rt; again.content() == Some(NO_DOCUMENT));
     Ok(())
 }

@@ -82,31 +82,6 @@ fn documents_are_printed(rt: HostRuntime) -> Result<(), Fail> {
     Ok(())
 }
 
-// A save that fails, how many numbers are free once the printer is opened again, and the next of them.
-const FAILED_SAVES: [(NextSave, u32, u16); 2] = [
-    (NextSave::FaultOld, 10, 0),
-    (NextSave::FaultNew, 9, 1),
-];
-
-// A print whose save fails, and what follows.
-fn save_fails(rt: &impl Abort, alloc: Global, next: NextSave, left: u32, number: u16) {
-    let mut printer = created(rt, alloc, 0, 0, 9);
-    printer.set_next(next);
-    assert!(rt; print(&mut printer, b"1234").err() == Some(PrintFault::Save));
-    assert!(rt; print(&mut printer, b"1234").err() == Some(PrintFault::Failed));
-    let mut printer = opened(rt, alloc, 0, printer.close());
-    assert!(rt; printer.left() == left);
-    let printed = print(&mut printer, b"1234").map(|job| job.id().number());
-    assert!(rt; printed == Ok(number));
-}
-
-#[test]
-fn stores_fail(rt: HostRuntime) {
-    for (next, left, number) in FAILED_SAVES {
-        save_fails(&rt, rt.alloc(), next, left, number);
-    }
-}
-
 #[test]
 fn nothing_is_created_over_what_a_failed_save_left(rt: HostRuntime) {
     let range = Range { first: 0, last: 9 };
