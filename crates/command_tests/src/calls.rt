@@ -52,22 +52,21 @@ pub enum Call {
     Joint,
 }
 
-const FORM: Form = Form {
-    side: 10,
-    scheme: Scheme::Ascii,
-};
+#[rattlefmt::skip]
+const FORM: Form = Form { side: 10, scheme: Scheme::Ascii };
+
+// The numbers of printer 0, and those of them that it gives.
+const NUMBERS: Range = Range { first: 0, last: 9 };
+
+const GIVEN: Range = Range { first: 5, last: 9 };
 
 // Two identifications of printer 1, for printer 0.
 const TICKET: &str = "00010000000000140015";
 
 const ID: &str = "0101";
 
-const COPY: CopyOptions<'static> = CopyOptions {
-    id: ID,
-    page: 2,
-    side: 12,
-    scheme: Scheme::Ascii,
-};
+#[rattlefmt::skip]
+const COPY: CopyOptions<'static> = CopyOptions { id: ID, page: 2, side: 12, scheme: Scheme::Ascii };
 
 const CAPACITY: u16 = 4;
 
@@ -141,31 +140,24 @@ impl Call {
 
     /// Whether its lines go to the standard error, since its output is not of lines.
     pub fn writes_no_lines(self) -> bool {
-        matches!(
-            self,
-            Call::Draw(_)
-                | Call::Print
-                | Call::PrintAuto
-                | Call::Deliver
-                | Call::Export(_)
-                | Call::Copy
-        )
+        match self {
+            Call::Draw(_) | Call::Print | Call::PrintAuto => true,
+            Call::Deliver | Call::Export(_) | Call::Copy => true,
+            _ => false,
+        }
     }
 }
 
 // A call on a printer or a desk: over any store and set, since what is over those of a machine is proved in more time.
 fn filed<A: Allocator + Copy, S: Store, T: StoreSet, R: Read, W: Write, E: Write>(
     memory: A,
-    store: S,
+    mut store: S,
     set: T,
     streams: &mut Streams<R, W, E>,
     call: Call,
 ) -> u8 {
     match call {
-        Call::Ledger => {
-            let range = Range { first: 0, last: 9 };
-            ledger_command(memory, store, streams, 0, range).status
-        }
+        Call::Ledger => ledger_command(memory, store, streams, 0, NUMBERS).status,
         Call::Print => {
             let labels = Labels::OfSide(12);
             print_command(memory, store, streams, 0, labels, Scheme::Ascii).status
@@ -174,10 +166,7 @@ fn filed<A: Allocator + Copy, S: Store, T: StoreSet, R: Read, W: Write, E: Write
             let labels = Labels::AtMost(2);
             print_command(memory, store, streams, 0, labels, Scheme::Ascii).status
         }
-        Call::Give => {
-            let range = Range { first: 5, last: 9 };
-            give_command(memory, store, streams, 0, 1, range).status
-        }
+        Call::Give => give_command(memory, store, streams, 0, 1, GIVEN).status,
         Call::Take => take_command(memory, store, streams, 0, TICKET).status,
         Call::Left => left_command(store, streams).status,
         Call::Scan(_) => scan_command(memory, store, set, &NO_IMAGES, streams, CAPACITY).status,
@@ -187,10 +176,7 @@ fn filed<A: Allocator + Copy, S: Store, T: StoreSet, R: Read, W: Write, E: Write
         Call::Import(_) => import_command(memory, store, set, streams, CAPACITY).status,
         Call::Held(id) => held_command(store, set, streams, id).status,
         Call::Copy => copy_command(memory, store, set, streams, COPY).status,
-        _ => {
-            let mut store = store;
-            u8::from(store.replace(JOINT).is_err())
-        }
+        _ => u8::from(store.replace(JOINT).is_err()),
     }
 }
 
@@ -260,6 +246,18 @@ impl<R: Read + Drop> CallEnd<R, Vec<u8>, Vec<u8>> {
     }
 }
 
+/// Whether a call whose output took these bytes ended as it does over whole streams.
+pub fn is_whole<R: Read + Drop, W: Write + Drop>(
+    ended: &CallEnd<R, W, Vec<u8>>,
+    taken: &[u8],
+    whole: &Whole,
+) -> bool {
+    ended.status == 0
+        && taken == whole.writer.as_slice()
+        && ended.errors == whole.errors
+        && ended.files == whole.files
+}
+
 /// Streams of a reader, with outputs in memory.
 pub fn streams_of<R: Read>(alloc: Global, reader: R) -> Streams<R, Vec<u8>, Vec<u8>> {
     Streams::new(reader, Vec::new(alloc), Vec::new(alloc))
@@ -270,25 +268,18 @@ pub fn made_over<A: Allocator + Copy, R: Read + Drop, W: Write + Drop, E: Write 
     memory: A,
     alloc: Global,
     machine: Machine,
-    streams: Streams<R, W, E>,
+    mut streams: Streams<R, W, E>,
     call: Call,
 ) -> Result<CallEnd<R, W, E>, Fail> {
-    let mut streams = streams;
     let status = status_of(memory, alloc, &machine, &mut streams, call)?;
     let has_stopped = machine.has_stopped();
     let (mut disk, old) = machine.into_disk();
     let files = files_on(alloc, &mut disk)?;
-    let Streams {
-        input,
-        output,
-        errors,
-        ..
-    } = streams;
     Ok(CallEnd {
         status,
-        reader: input.into_reader(),
-        writer: output.into_writer(),
-        errors: errors.into_writer(),
+        reader: streams.input.into_reader(),
+        writer: streams.output.into_writer(),
+        errors: streams.errors.into_writer(),
         has_stopped,
         old,
         files,

@@ -14,14 +14,8 @@ pub const SET: &str = "pages";
 pub const PAGES: &str = "pages/0000";
 
 // The files that the commands save to here, each before its draft.
-const NAMES: [&str; 6] = [
-    STORE,
-    "store.new",
-    PAGES,
-    "pages/0000.new",
-    "pages/0002",
-    "pages/0002.new",
-];
+#[rattlefmt::skip]
+const NAMES: [&str; 6] = [STORE, "store.new", PAGES, "pages/0000.new", "pages/0002", "pages/0002.new"];
 
 // More bytes than a file has.
 const MOST_BYTES: usize = 999;
@@ -34,18 +28,12 @@ pub type Files = Vec<Content>;
 
 // A copy of a content.
 fn copy_of(alloc: Global, content: Option<&[u8]>) -> Result<Content, AllocError> {
-    match content {
-        Some(bytes) => Ok(Some(bytes.to_vec(alloc)?)),
-        None => Ok(None),
-    }
+    content.map(|bytes| bytes.to_vec(alloc)).transpose()
 }
 
 // The content at a place, lent.
 fn content_at(contents: &[Content], place: usize) -> Option<&[u8]> {
-    match contents.get(place) {
-        Some(Some(bytes)) => Some(bytes.as_slice()),
-        _ => None,
-    }
+    contents.get(place)?.as_deref()
 }
 
 /// What a reader finds on a disk.
@@ -101,10 +89,9 @@ fn left_at(
         content_at(new, file),
         content_at(new, file | 1),
     ] {
+        let half = content.and_then(|bytes| bytes.get(..bytes.len() / 2));
         add(alloc, &mut left, disk, *name, content)?;
-        if let Some(bytes) = content {
-            add(alloc, &mut left, disk, *name, bytes.get(..bytes.len() / 2))?;
-        }
+        add(alloc, &mut left, disk, *name, half)?;
     }
     add(alloc, &mut left, disk, *name, Some(b"\0\0\0\0\0\0\0"))?;
     Ok(left)

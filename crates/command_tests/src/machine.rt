@@ -19,8 +19,7 @@ pub struct Machine {
 
 impl Machine {
     /// A machine that stops at the call of its disk after the first `passes`.
-    pub fn new(alloc: Global, disk: MemDisk, passes: u32, kept: Kept) -> Result<Machine, Fail> {
-        let mut disk = disk;
+    pub fn new(alloc: Global, mut disk: MemDisk, passes: u32, kept: Kept) -> Result<Machine, Fail> {
         let old = files_on(alloc, &mut disk)?;
         let disk = RefCell::new(Stopping::new(disk, passes, kept));
         Ok(Machine { disk, old })
@@ -56,10 +55,7 @@ pub struct MachineDisk<'a> {
 impl<'a> MachineDisk<'a> {
     // The disk of the machine, for a call.
     fn lent(&self) -> Result<RefMut<'a, Stopping<MemDisk>>, StoreFault> {
-        match self.disk.try_borrow_mut() {
-            Ok(disk) => Ok(disk),
-            Err(_) => Err(StoreFault::Device),
-        }
+        self.disk.try_borrow_mut().map_err(|_| StoreFault::Device)
     }
 }
 
@@ -71,49 +67,40 @@ impl Disk for MachineDisk<'_> {
     ghost state = { λ _. unclaimed };
 
     fn read(&mut self, name: &str, limit: usize) -> Result<Option<Vec<u8>>, StoreFault> {
-        let mut disk = self.lent()?;
-        disk.read(name, limit)
+        self.lent()?.read(name, limit)
     }
 
     fn write(&mut self, name: &str, bytes: &[u8]) -> Result<(), StoreFault> {
-        let mut disk = self.lent()?;
-        disk.write(name, bytes)
+        self.lent()?.write(name, bytes)
     }
 
     fn sync(&mut self, name: &str) -> Result<(), StoreFault> {
-        let mut disk = self.lent()?;
-        disk.sync(name)
+        self.lent()?.sync(name)
     }
 
     fn rename(&mut self, from: &str, to: &str) -> Result<(), StoreFault> {
-        let mut disk = self.lent()?;
-        disk.rename(from, to)
+        self.lent()?.rename(from, to)
     }
 
     fn remove(&mut self, name: &str) -> Result<(), StoreFault> {
-        let mut disk = self.lent()?;
-        disk.remove(name)
+        self.lent()?.remove(name)
     }
 
     fn sync_entry(&mut self, name: &str) -> Result<(), StoreFault> {
-        let mut disk = self.lent()?;
-        disk.sync_entry(name)
+        self.lent()?.sync_entry(name)
     }
 }
 
 impl Folders for MachineDisk<'_> {
     fn make_folder(&mut self, folder: &str) -> Result<(), StoreFault> {
-        let mut disk = self.lent()?;
-        disk.make_folder(folder)
+        self.lent()?.make_folder(folder)
     }
 
     fn keys(&mut self, folder: &str, limit: usize) -> Result<Vec<u16>, StoreFault> {
-        let mut disk = self.lent()?;
-        disk.keys(folder, limit)
+        self.lent()?.keys(folder, limit)
     }
 
     fn settle_folder(&mut self, folder: &str) -> Result<(), StoreFault> {
-        let mut disk = self.lent()?;
-        disk.settle_folder(folder)
+        self.lent()?.settle_folder(folder)
     }
 }

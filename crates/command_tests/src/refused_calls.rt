@@ -42,9 +42,8 @@ fn document_of<A: Allocator + Copy>(alloc: A, mut bytes: &[u8]) -> Result<Vec<u8
         .map_err(|fault| fault_if(fault == PbmFault::Memory))?
         .ok_or(Fault::Other)?;
     let grid = grid_of(alloc, &image).map_err(|fault| fault_if(fault == ShapeFault::Memory))?;
-    let symbol = correct_grid(alloc, &grid).map_err(|fault| fault_if(
-        fault == SymbolFault::Memory,
-    ))?;
+    let symbol = correct_grid(alloc, &grid);
+    let symbol = symbol.map_err(|fault| fault_if(fault == SymbolFault::Memory))?;
     decode(alloc, symbol.data(), 0).map_err(|fault| fault_if(fault == DecodeFault::Memory))
 }
 
@@ -52,9 +51,8 @@ fn document_of<A: Allocator + Copy>(alloc: A, mut bytes: &[u8]) -> Result<Vec<u8
 fn resealed<A: Allocator + Copy>(alloc: A, id: FileId) -> Result<Vec<u8, A>, Fault> {
     let bytes = Vec::from_slice(alloc, b"12").map_err(|_| Fault::Memory)?;
     let page = Page::new(id, 1, 2, bytes).ok_or(Fault::Other)?;
-    let grid = seal(alloc, &page, Size::Side12, Scheme::Ascii).map_err(|fault| fault_if(
-        fault == SealFault::Memory,
-    ))?;
+    let grid = seal(alloc, &page, Size::Side12, Scheme::Ascii);
+    let grid = grid.map_err(|fault| fault_if(fault == SealFault::Memory))?;
     if !still_near(alloc, &grid, &[]).map_err(|_| Fault::Memory)? {
         return Err(Fault::Other);
     }
@@ -88,9 +86,8 @@ fn images_and_labels_are_refused_by_name(rt: HostRuntime) -> Result<(), Fail> {
 #[test]
 fn some_faults_ask_for_no_memory(rt: HostRuntime) -> Result<(), Fail> {
     let id = FileId::of_words(1, 1).ok_or("no identification")?;
-    let light = [false; 144];
     let memory = Refusing::new(rt.alloc(), 1);
-    let grid = Grid::of_modules(&memory, 12, &light)?;
+    let grid = Grid::of_modules(&memory, 12, &[false; 144])?;
     assert!(rt; matches!(open_label(&memory, &grid), Err(LabelFault::Border { .. })));
     let page = Page::new(id, 1, 2, Vec::new(&memory)).ok_or("no page")?;
     let sealed = seal(&memory, &page, Size::Side10, Scheme::Ascii);
@@ -109,18 +106,13 @@ the symbol is not a label
 what begins at position 3 is cut off
 out of memory";
 
+#[rattlefmt::skip]
 #[test]
 fn refusals_say_what_is_wrong(rt: HostRuntime) -> Result<(), Fail> {
-    let texts = format!(in rt.alloc();
-        "{}\n{}\n{}\n{}\n{}\n{}\n{}\n{}",
-        SymbolRefusal::Side,
-        SymbolRefusal::Read,
-        SymbolRefusal::TooLong,
-        SymbolRefusal::Memory,
-        ReadRefusal::Shape,
-        ReadRefusal::Label(LabelFault::NotAppended),
-        ReadRefusal::Text(DecodeFault::Cut { at: 3 }),
-        ReadRefusal::Memory,
+    let texts = format!(in rt.alloc(); "{}\n{}\n{}\n{}\n{}\n{}\n{}\n{}",
+        SymbolRefusal::Side, SymbolRefusal::Read, SymbolRefusal::TooLong, SymbolRefusal::Memory,
+        ReadRefusal::Shape, ReadRefusal::Label(LabelFault::NotAppended),
+        ReadRefusal::Text(DecodeFault::Cut { at: 3 }), ReadRefusal::Memory,
     )?;
     assert!(rt; texts.as_str() == TEXTS);
     Ok(())

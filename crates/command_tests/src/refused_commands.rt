@@ -1,6 +1,6 @@
 //! Each command over memory that is refused, growth by growth.
 
-use crate::calls::{CALLS, Call, Whole, alone, alone_whole, streams_of};
+use crate::calls::{CALLS, Call, Whole, alone, alone_whole, is_whole, streams_of};
 use std::alloc::Global;
 use std::process::Abort;
 use std::test::Fail;
@@ -21,13 +21,6 @@ fn is_cut_short(ended: &Whole, whole: &Whole, call: Call) -> bool {
         && ended.files == whole.files
 }
 
-fn is_whole(ended: &Whole, whole: &Whole) -> bool {
-    ended.status == 0
-        && ended.writer == whole.writer
-        && ended.errors == whole.errors
-        && ended.files == whole.files
-}
-
 // Refuses the first growth of a command, the second and so on, until none is, and says how many there were. Where one
 // is refused nothing is done, or a print is cut short, or all is done, since std asks for less where its first growth
 // is refused.
@@ -36,16 +29,13 @@ fn refusals_of(rt: &impl Abort, alloc: Global, call: Call) -> Result<u64, Fail> 
     for passes in 0..MOST_GROWTHS {
         let memory = Refusing::new(alloc, passes);
         let ended = alone(&memory, alloc, streams_of(alloc, call.input()), call)?;
+        let ends_whole = is_whole(&ended, ended.writer.as_slice(), &whole);
         if !memory.is_spent() {
-            assert!(rt; is_whole(&ended, &whole), "{call:?} {passes}");
+            assert!(rt; ends_whole, "{call:?} {passes}");
             return Ok(passes);
         }
-        assert!(rt;
-            ended.is_refused(call, LINE)
-                || is_cut_short(&ended, &whole, call)
-                || is_whole(&ended, &whole),
-            "{call:?} {passes}"
-        );
+        let is_refused = ended.is_refused(call, LINE) || is_cut_short(&ended, &whole, call);
+        assert!(rt; is_refused || ends_whole, "{call:?} {passes}");
     }
     Err("growths without end".into())
 }

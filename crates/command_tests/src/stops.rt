@@ -19,39 +19,13 @@ const MOST_CALLS_OF_A_MOVE: u32 = 24;
 type Look = (Call, &'static [&'static [u8]]);
 
 // The commands that are done before, the one that is stopped, and those that look at what is left, one after another.
-struct Case {
-    before: &'static [Call],
-    call: Call,
-    looks: &'static [Look],
-}
+type Case = (&'static [Call], Call, &'static [Look]);
 
 const PRINTS: &[&[u8]] = &[b"printed 0102 2 left 8\n", b"printed 0103 2 left 7\n"];
 
-#[rattlefmt::skip]
-const PRINTERS: &[Case] = &[
-    Case { before: &[], call: Call::Ledger, looks: &[(Call::Ledger, &[b"left 10\n", b"refused Exists\n"])] },
-    Case { before: &[Call::Ledger, Call::Print], call: Call::Print, looks: &[(Call::Print, PRINTS)] },
-    Case { before: &[Call::Ledger, Call::Print], call: Call::PrintAuto, looks: &[(Call::Print, PRINTS)] },
-    Case {
-        before: &[Call::Ledger, Call::Print],
-        call: Call::Give,
-        looks: &[
-            (
-                Call::Print,
-                &[b"printed 0102 2 left 8\n", b"printed 0102 2 left 3\n"],
-            ),
-            (
-                Call::Give,
-                &[b"ticket 00000000000100050009\n", b"refused NotFree\n"],
-            ),
-        ],
-    },
-    Case {
-        before: &[Call::Ledger],
-        call: Call::Take,
-        looks: &[(Call::Take, &[b"taken left 12\n", b"refused Old\n"])],
-    },
-];
+const PRINTS_AROUND_GIVE: &[&[u8]] = &[b"printed 0102 2 left 8\n", b"printed 0102 2 left 3\n"];
+
+const GIVES: &[&[u8]] = &[b"ticket 00000000000100050009\n", b"refused NotFree\n"];
 
 // What an import of both pages answers where neither is held, or the second alone, the first alone, or both.
 const ADDED_BOTH: &[u8] = b"0101 2 added 0003 complete\n";
@@ -66,39 +40,19 @@ const OTHER_ADDED_NONE: &[u8] = b"0103 2 added 0000 again\n";
 
 const OTHER_IS_HELD: Look = (Call::Import(OTHER), &[OTHER_ADDED_NONE, OTHER_ADDED_NONE]);
 
-const DESKS: &[Case] = &[
-    Case {
-        before: &[],
-        call: Call::Scan(LABELS),
-        looks: &[(Call::Import(BOTH), &[ADDED_BOTH, ADDED_SECOND, ADDED_NONE])],
-    },
-    Case {
-        before: &[Call::Scan(LABEL)],
-        call: Call::Import(BOTH),
-        looks: &[(Call::Import(BOTH), &[ADDED_SECOND, ADDED_NONE])],
-    },
-    Case {
-        before: &[Call::Import(BOTH)],
-        call: Call::Forget("0101"),
-        looks: &[(Call::Import(BOTH), &[ADDED_NONE, ADDED_BOTH])],
-    },
+#[rattlefmt::skip]
+const CASES: &[Case] = &[
+    (&[], Call::Ledger, &[(Call::Ledger, &[b"left 10\n", b"refused Exists\n"])]),
+    (&[Call::Ledger, Call::Print], Call::Print, &[(Call::Print, PRINTS)]),
+    (&[Call::Ledger, Call::Print], Call::PrintAuto, &[(Call::Print, PRINTS)]),
+    (&[Call::Ledger, Call::Print], Call::Give, &[(Call::Print, PRINTS_AROUND_GIVE), (Call::Give, GIVES)]),
+    (&[Call::Ledger], Call::Take, &[(Call::Take, &[b"taken left 12\n", b"refused Old\n"])]),
+    (&[], Call::Scan(LABELS), &[(Call::Import(BOTH), &[ADDED_BOTH, ADDED_SECOND, ADDED_NONE])]),
+    (&[Call::Scan(LABEL)], Call::Import(BOTH), &[(Call::Import(BOTH), &[ADDED_SECOND, ADDED_NONE])]),
+    (&[Call::Import(BOTH)], Call::Forget("0101"), &[(Call::Import(BOTH), &[ADDED_NONE, ADDED_BOTH])]),
     // The documents of the joint file are moved first: the second page of the one, and a page of another.
-    Case {
-        before: &[Call::Joint],
-        call: Call::Import(BOTH),
-        looks: &[
-            (Call::Import(BOTH), &[ADDED_FIRST, ADDED_NONE]),
-            OTHER_IS_HELD,
-        ],
-    },
-    Case {
-        before: &[Call::Joint],
-        call: Call::Forget("0101"),
-        looks: &[
-            (Call::Import(BOTH), &[ADDED_FIRST, ADDED_BOTH]),
-            OTHER_IS_HELD,
-        ],
-    },
+    (&[Call::Joint], Call::Import(BOTH), &[(Call::Import(BOTH), &[ADDED_FIRST, ADDED_NONE]), OTHER_IS_HELD]),
+    (&[Call::Joint], Call::Forget("0101"), &[(Call::Import(BOTH), &[ADDED_FIRST, ADDED_BOTH]), OTHER_IS_HELD]),
 ];
 
 // How many saves a command answers: a scan is of two labels.
@@ -148,14 +102,13 @@ fn has_told(ended: &Whole, call: Call, lines: &[u8]) -> bool {
 }
 
 // After how many of the saves a disk stands, as each look says: bit i for i of them.
-fn saves_on(alloc: Global, disk: MemDisk, looks: &[Look]) -> Result<u8, Fail> {
-    let mut disk = disk;
+fn saves_on(alloc: Global, mut disk: MemDisk, looks: &[Look]) -> Result<u8, Fail> {
     let mut saves = u8::MAX;
     for (call, written) in looks {
         let ended = made(alloc, Machine::whole(alloc, disk)?, *call)?;
         let mut here = 0u8;
-        for (count, line) in written.iter().enumerate() {
-            if has_told(&ended, *call, line) {
+        for (count, lines) in written.iter().enumerate() {
+            if has_told(&ended, *call, lines) {
                 here |= 1u8 << (count % 8);
             }
         }
@@ -166,60 +119,49 @@ fn saves_on(alloc: Global, disk: MemDisk, looks: &[Look]) -> Result<u8, Fail> {
 }
 
 // A stop at a call: whether the command was done before it, and after how many of the saves what is left may stand, as
-// bits; or nothing, where a command ends as it must not, or what was answered is gone.
-fn stop(alloc: Global, case: &Case, passes: u32, kept: Kept) -> Result<Option<(bool, u8)>, Fail> {
-    let disk = disk_after(alloc, case.before)?;
-    let ended = made(alloc, Machine::new(alloc, disk, passes, kept)?, case.call)?;
-    if !ends_well(&ended, case.call) {
-        return Ok(None);
-    }
+// bits. The command ends as it must, and what was answered is there.
+fn stop(
+    rt: &impl Abort,
+    alloc: Global,
+    (before, call, looks): Case,
+    passes: u32,
+    kept: Kept,
+) -> Result<(bool, u8), Fail> {
+    let disk = disk_after(alloc, before)?;
+    let ended = made(alloc, Machine::new(alloc, disk, passes, kept)?, call)?;
+    assert!(rt; ends_well(&ended, call), "{call:?} {passes} {kept:?}");
     let is_done = ended.status == 0;
-    let allowed = (if is_done { 1u8 } else { 3 }) << (answered(ended.told(case.call).0) % 8);
+    let allowed = (if is_done { 1u8 } else { 3 }) << (answered(ended.told(call).0) % 8);
     let left = LeftFiles::on(alloc, &ended.disk, &ended.old, &ended.files)?;
     let mut seen = 0u8;
     for number in 0..left.count() {
-        let saves = allowed & saves_on(alloc, left.way(alloc, number)?, case.looks)?;
-        if saves == 0 {
-            return Ok(None);
-        }
+        let saves = allowed & saves_on(alloc, left.way(alloc, number)?, looks)?;
+        assert!(rt; saves != 0, "{call:?} {passes} {kept:?} {number}");
         seen |= saves;
     }
-    Ok(Some((is_done, seen)))
+    Ok((is_done, seen))
 }
 
 // Stops the command at each call, until it is done; and what is left stands after each number of saves somewhere.
-fn stops(rt: &impl Abort, alloc: Global, case: &Case, kept: Kept) -> Result<(), Fail> {
+fn stops(rt: &impl Abort, alloc: Global, case: Case, kept: Kept) -> Result<(), Fail> {
     let mut seen = 0u8;
     for passes in 0..MOST_CALLS {
-        let ended = stop(alloc, case, passes, kept)?;
-        assert!(rt; ended.is_some(), "{:?} {passes} {kept:?}", case.call);
-        if let Some((is_done, saves)) = ended {
-            seen |= saves;
-            if is_done {
-                let all = u8::MAX >> (7 - saves_of(case.call) % 8);
-                assert!(rt; seen == all, "{:?} {kept:?}", case.call);
-                return Ok(());
-            }
+        let (is_done, saves) = stop(rt, alloc, case, passes, kept)?;
+        seen |= saves;
+        if is_done {
+            let all = u8::MAX >> (7 - saves_of(case.1) % 8);
+            assert!(rt; seen == all, "{:?} {kept:?}", case.1);
+            return Ok(());
         }
     }
     Err("calls without end".into())
 }
 
 #[test]
-fn a_printer_keeps_what_it_answered(rt: HostRuntime) -> Result<(), Fail> {
-    for case in PRINTERS.iter() {
+fn a_command_keeps_what_it_answered(rt: HostRuntime) -> Result<(), Fail> {
+    for case in CASES.iter() {
         for kept in [Kept::Old, Kept::New] {
-            stops(&rt, rt.alloc(), case, kept)?;
-        }
-    }
-    Ok(())
-}
-
-#[test]
-fn a_desk_keeps_what_it_answered(rt: HostRuntime) -> Result<(), Fail> {
-    for case in DESKS.iter() {
-        for kept in [Kept::Old, Kept::New] {
-            stops(&rt, rt.alloc(), case, kept)?;
+            stops(&rt, rt.alloc(), *case, kept)?;
         }
     }
     Ok(())

@@ -1,8 +1,8 @@
 //! Each command over readers and writers that fail, or are interrupted, after each number of bytes.
 
 use crate::calls::{
-    BOTH, CALLS, Call, CallEnd, LABEL, LABELS, Whole, alone, alone_whole, made, made_over,
-    streams_of,
+    BOTH, CALLS, Call, CallEnd, LABEL, LABELS, Whole, alone, alone_whole, is_whole, made,
+    made_over, streams_of,
 };
 use crate::machine::{MOST_CALLS, Machine};
 use dm_store::Kept;
@@ -10,67 +10,42 @@ use relay_shared::Streams;
 use std::alloc::Global;
 use std::io::{Read, Write};
 use std::test::Fail;
-use test_helpers::{FailingReader, FailingWriter, InterruptedReader, InterruptedWriter, MemDisk};
+use test_helpers::{Faulty, FaultyWriter, MemDisk};
 
-// Whether a command ended as it does over whole streams.
-fn is_whole<R: Read + Drop, W: Write + Drop>(
-    ended: &CallEnd<R, W, Vec<u8>>,
-    taken: &[u8],
-    whole: &Whole,
-) -> bool {
-    ended.status == 0
-        && taken == whole.writer.as_slice()
-        && ended.errors == whole.errors
-        && ended.files == whole.files
-}
-
-// A read that is interrupted is made again: nothing tells of it.
+// A read that is interrupted is made again: nothing tells of it. Of a reader that fails, before the end of a label or a
+// document, the one line names the fault, and nothing is saved.
 #[test]
-fn readers_are_interrupted(rt: HostRuntime) -> Result<(), Fail> {
+fn readers_are_interrupted_or_fail(rt: HostRuntime) -> Result<(), Fail> {
     let alloc = rt.alloc();
     for call in CALLS {
         let whole = alone_whole(alloc, call)?;
         assert!(rt; whole.status == 0 && !whole.writer.is_empty(), "{call:?}");
         let input = call.input();
-        for passes in 0..input.len().saturating_add(1) {
-            let streams = streams_of(alloc, InterruptedReader::new(input, passes));
+        for passes in 0..=input.len() {
+            let streams = streams_of(alloc, Faulty::interrupted(input, passes));
             let ended = alone(alloc, alloc, streams, call)?;
             let taken = ended.writer.as_slice();
             assert!(rt; is_whole(&ended, taken, &whole), "{call:?} {passes}");
+            let streams = streams_of(alloc, Faulty::failing(input, passes));
+            let ended = alone(alloc, alloc, streams, call)?;
+            let is_refused = ended.is_refused(call, b"refused Read\n");
+            assert!(rt; is_refused || passes == input.len(), "{call:?} {passes}");
         }
     }
     Ok(())
 }
 
-// Of a reader that fails, before the end of a label or a document, the one line names the fault, and nothing is saved.
-#[test]
-fn readers_fail(rt: HostRuntime) -> Result<(), Fail> {
-    let alloc = rt.alloc();
-    for call in CALLS {
-        let input = call.input();
-        for passes in 0..input.len() {
-            let streams = streams_of(alloc, FailingReader::new(input, passes));
-            let ended = alone(alloc, alloc, streams, call)?;
-            let is_refused = ended.is_refused(call, b"refused Read\n");
-            assert!(rt; is_refused, "{call:?} {passes}");
-        }
-    }
-    Ok(())
-}
+const WRITE: &[u8] = b"refused Write\n";
 
 // Whether the bytes that a failing writer took went out and no other, though it takes bytes again, what the whole
 // command saves is saved, and the command has told, at last, that its output failed, where it tells of that at all.
 fn has_prefix<R: Read + Drop>(
-    ended: &CallEnd<R, FailingWriter, Vec<u8>>,
+    ended: &CallEnd<R, FaultyWriter, Vec<u8>>,
     whole: &Whole,
     call: Call,
     passes: usize,
 ) -> bool {
-    let told: &[u8] = if call.writes_no_lines() {
-        b"refused Write\n"
-    } else {
-        b""
-    };
+    let told = if call.writes_no_lines() { WRITE } else { b"" };
     ended.status == 1
         && ended.files == whole.files
         && whole.writer.get(..passes) == Some(ended.writer.taken())
@@ -79,28 +54,17 @@ fn has_prefix<R: Read + Drop>(
 
 // A write that is interrupted is made again, too.
 #[test]
-fn writers_are_interrupted(rt: HostRuntime) -> Result<(), Fail> {
+fn writers_are_interrupted_or_fail(rt: HostRuntime) -> Result<(), Fail> {
     let alloc = rt.alloc();
     for call in CALLS {
         let whole = alone_whole(alloc, call)?;
         for passes in 0..whole.writer.len() {
-            let writer = InterruptedWriter::new(Vec::new(alloc), passes);
+            let writer = Faulty::interrupted(Vec::new(alloc), passes);
             let streams = Streams::new(call.input(), writer, Vec::new(alloc));
             let ended = alone(alloc, alloc, streams, call)?;
             let taken = ended.writer.taken();
             assert!(rt; is_whole(&ended, taken, &whole), "{call:?} {passes}");
-        }
-    }
-    Ok(())
-}
-
-#[test]
-fn writers_fail(rt: HostRuntime) -> Result<(), Fail> {
-    let alloc = rt.alloc();
-    for call in CALLS {
-        let whole = alone_whole(alloc, call)?;
-        for passes in 0..whole.writer.len() {
-            let writer = FailingWriter::new(Vec::new(alloc), passes);
+            let writer = Faulty::failing_once(Vec::new(alloc), passes);
             let streams = Streams::new(call.input(), writer, Vec::new(alloc));
             let ended = alone(alloc, alloc, streams, call)?;
             let is_cut = has_prefix(&ended, &whole, call, passes);
@@ -118,7 +82,7 @@ fn prints_no_label_without_its_line(rt: HostRuntime) -> Result<(), Fail> {
     for call in [Call::Print, Call::PrintAuto] {
         let whole = alone_whole(alloc, call)?;
         for passes in 0..whole.errors.len() {
-            let errors = FailingWriter::new(Vec::new(alloc), passes);
+            let errors = Faulty::failing_once(Vec::new(alloc), passes);
             let streams = Streams::new(call.input(), Vec::new(alloc), errors);
             let ended = alone(alloc, alloc, streams, call)?;
             assert!(rt; ended.status == 1 && ended.writer.is_empty(), "{passes}");
@@ -150,7 +114,7 @@ fn a_scan_ends_at_a_failed_read(rt: HostRuntime) -> Result<(), Fail> {
     let first = made(alloc, empty, Call::Scan(LABEL))?;
     assert!(rt; first.writer.as_slice() == FIRST);
     for passes in LABEL.len()..LABELS.len() {
-        let ended = scanned(alloc, streams_of(alloc, FailingReader::new(LABELS, passes)))?;
+        let ended = scanned(alloc, streams_of(alloc, Faulty::failing(LABELS, passes)))?;
         assert!(rt; ended.status == 1 && ended.files == first.files, "{passes}");
         let line = ended.writer.strip_prefix(FIRST);
         assert!(rt; line == Some(b"refused Read\n".as_slice()), "{passes}");
@@ -163,7 +127,7 @@ fn a_scan_ends_at_a_failed_read(rt: HostRuntime) -> Result<(), Fail> {
 fn a_scan_ends_at_a_failed_write(rt: HostRuntime) -> Result<(), Fail> {
     let alloc = rt.alloc();
     for passes in 0..FIRST.len() {
-        let writer = FailingWriter::new(Vec::new(alloc), passes);
+        let writer = Faulty::failing_once(Vec::new(alloc), passes);
         let ended = scanned(alloc, Streams::new(LABELS, writer, Vec::new(alloc)))?;
         let is_unread = ended.reader.len() == LABEL.len();
         assert!(rt; ended.status == 1 && is_unread, "{passes}");
@@ -219,7 +183,7 @@ fn an_unread_import_is_refused_before_any_file(rt: HostRuntime) -> Result<(), Fa
     for passes in 0..BOTH.len() {
         let machine = Machine::new(alloc, MemDisk::new(alloc), 1, Kept::Old)?;
         let call = Call::Import(BOTH);
-        let streams = streams_of(alloc, FailingReader::new(BOTH, passes));
+        let streams = streams_of(alloc, Faulty::failing(BOTH, passes));
         let ended = made_over(alloc, alloc, machine, streams, call)?;
         let is_refused = ended.is_refused(call, b"refused Read\n");
         assert!(rt; is_refused && !ended.has_stopped, "{passes}");

@@ -6,6 +6,7 @@ use dm_event_history::Reply;
 use dm_event_world::{WorldFault, is_honest, run};
 use relay_script::read_script;
 use std::test::Fail;
+use test_helpers::says;
 
 #[test]
 fn a_run_answers_each_event_and_leaves_what_left(rt: HostRuntime) -> Result<(), Fail> {
@@ -16,9 +17,8 @@ fn a_run_answers_each_event_and_leaves_what_left(rt: HostRuntime) -> Result<(), 
     for (reply, word) in replies.iter().zip(GATHERED.split(',')) {
         assert!(rt; told(reply) == word);
     }
-    assert!(rt;
-        matches!(replies.get(4), Some(Reply::Document(document)) if document.as_slice() == b"1234".as_slice())
-    );
+    let given = replies.get(4).ok_or("no reply")?;
+    assert!(rt; matches!(given, Reply::Document(bytes) if bytes.as_slice() == b"1234".as_slice()));
     for event in &script.events {
         assert!(rt; is_honest(&world, event)?);
     }
@@ -34,18 +34,17 @@ fn a_run_answers_each_event_and_leaves_what_left(rt: HostRuntime) -> Result<(), 
     Ok(())
 }
 
+#[rattlefmt::skip]
+const FAULTS: [(WorldFault, &str); 4] = [
+    (WorldFault::Range, "a range is invalid"),
+    (WorldFault::Overlap, "two ranges share a number"),
+    (WorldFault::Capacity, "there is room for 1 to 1,024 documents"),
+    (WorldFault::Memory, "out of memory"),
+];
+
 #[test]
-fn world_faults_say_what_is_wrong(rt: HostRuntime) -> Result<(), Fail> {
-    let texts = format!(in rt.alloc();
-        "{}\n{}\n{}\n{}",
-        WorldFault::Range,
-        WorldFault::Overlap,
-        WorldFault::Capacity,
-        WorldFault::Memory,
-    )?;
-    assert!(rt;
-        texts.as_str()
-            == "a range is invalid\ntwo ranges share a number\nthere is room for 1 to 1,024 documents\nout of memory"
-    );
-    Ok(())
+fn world_faults_say_what_is_wrong(rt: HostRuntime) {
+    for (fault, text) in FAULTS {
+        assert!(rt; says(rt.alloc(), &fault, text), "{text}");
+    }
 }

@@ -16,6 +16,10 @@ const BEGINNING: &str = "range 0 2\nrange 3 5\nrange 6 8\ndesks 3 2\n";
 
 const BEGINNING_LINES: usize = 4;
 
+#[rattlefmt::skip]
+const STOPS: [&str; 8] =
+    ["before", "in-old", "in-new", "fault-old", "fault-new", "after:0", "after:1", "after:9"];
+
 // A generator of numbers: a linear congruential one, of which the upper bits are taken.
 #[derive(Drop)]
 struct Numbers(u64);
@@ -23,26 +27,15 @@ struct Numbers(u64);
 impl Numbers {
     // A number below the bound.
     fn below(&mut self, bound: u64) -> u64 {
-        self.0 = self
-            .0
-            .wrapping_mul(6_364_136_223_846_793_005)
-            .wrapping_add(1_442_695_040_888_963_407);
+        let product = self.0.wrapping_mul(6_364_136_223_846_793_005);
+        self.0 = product.wrapping_add(1_442_695_040_888_963_407);
         (self.0 >> 33) % bound.max(1)
     }
 
     // A stop; there is none in half of the events.
     fn stop(&mut self) -> &'static str {
-        match self.below(16) {
-            0 => "before",
-            1 => "in-old",
-            2 => "in-new",
-            3 => "fault-old",
-            4 => "fault-new",
-            5 => "after:0",
-            6 => "after:1",
-            7 => "after:9",
-            _ => "-",
-        }
+        let place = self.below(16) as usize;
+        STOPS.get(place).copied().unwrap_or("-")
     }
 }
 
@@ -70,8 +63,7 @@ fn add_printer_event(
     numbers: &mut Numbers,
     serial: u32,
 ) -> Result<(), AllocError> {
-    let printer = numbers.below(3);
-    let other = numbers.below(3);
+    let (printer, other) = (numbers.below(3), numbers.below(3));
     let stop = numbers.stop();
     match numbers.below(8) {
         0 => write!(script, "restart printer {printer}\n")?,

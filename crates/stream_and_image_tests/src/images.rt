@@ -10,7 +10,7 @@ use relay_streams::{Input, Output};
 use std::alloc::{AllocError, Global};
 use std::io::Read;
 use std::test::Fail;
-use test_helpers::{FailingReader, FailingWriter, InterruptedReader};
+use test_helpers::Faulty;
 
 // The fault of an input, and whether its reader has failed.
 fn fault_of<R: Read + Drop>(alloc: Global, reader: R) -> (Option<PbmFault>, bool) {
@@ -35,7 +35,7 @@ fn bytes_are_refused(rt: HostRuntime) {
     for (bytes, fault) in REFUSALS {
         assert!(rt; image_in(alloc, bytes).err() == fault, "{bytes:?}");
         for passes in 0..bytes.len() + 1 {
-            let ended = fault_of(alloc, InterruptedReader::new(bytes, passes));
+            let ended = fault_of(alloc, Faulty::interrupted(bytes, passes));
             assert!(rt; ended == (fault, false), "{bytes:?} {passes}");
         }
     }
@@ -74,7 +74,7 @@ fn rows_are_written_and_fail_in_mid_stream(rt: HostRuntime) -> Result<(), Fail> 
         let image = black_row(alloc, width, plain)?;
         for passes in 0..text.len() + 1 {
             let is_whole = passes == text.len();
-            let mut output = Output::new(FailingWriter::new(Vec::new(alloc), passes));
+            let mut output = Output::new(Faulty::failing_once(Vec::new(alloc), passes));
             let is_written = image.write(&mut output).is_ok();
             assert!(rt; is_written == is_whole, "writer, {passes}");
             assert!(rt; output.has_failed() != is_whole, "writer, {passes}");
@@ -84,30 +84,17 @@ fn rows_are_written_and_fail_in_mid_stream(rt: HostRuntime) -> Result<(), Fail> 
         }
         // The last line end of a plain image is not read.
         for passes in 0..text.len() - 1 {
-            let mut bare = FailingReader::new(text, passes);
+            let mut bare = Faulty::failing(text, passes);
             let fault = read_image(alloc, &mut bare).err();
             assert!(rt; fault == Some(PbmFault::Read), "bare reader, {passes}");
-            let ended = fault_of(alloc, FailingReader::new(text, passes));
+            let ended = fault_of(alloc, Faulty::failing(text, passes));
             assert!(rt; ended == (Some(PbmFault::Read), true), "{passes}");
         }
     }
     Ok(())
 }
 
-// The symbol of side 10 that carries the digits 123456, as the standard draws it.
-const SYMBOL: [&[u8]; 10] = [
-    b"1010101010",
-    b"1100101101",
-    b"1100000100",
-    b"1100011101",
-    b"1100001000",
-    b"1000001111",
-    b"1110110000",
-    b"1111011001",
-    b"1001110100",
-    b"1111111111",
-];
-
+// The symbol of side 10 that carries the digits 123456, as the standard draws it, with a margin of one module.
 const DRAWN: &[u8] =
     b"P1\n12 12\n000000000000\n010101010100\n011001011010\n011000001000\n011000111010\n011000010000\n\
 010000011110\n011101100000\n011110110010\n010011101000\n011111111110\n000000000000\n";
@@ -115,19 +102,17 @@ const DRAWN: &[u8] =
 const PACKED: &[u8] =
     b"P4\n12 12\n\x00\x00\x55\x40\x65\xa0\x60\x80\x63\xa0\x61\x00\x41\xe0\x76\x00\x7b\x20\x4e\x80\x7f\xe0\x00\x00";
 
-// Whether a grid is that symbol.
-fn is_symbol(grid: &Grid) -> bool {
-    for (row, wanted) in (0..).zip(SYMBOL.iter()) {
-        if row >= grid.side() {
-            return false;
+// A grid of side 10, drawn so without the crate.
+fn drawn(alloc: Global, grid: &Grid) -> Result<Vec<u8>, AllocError> {
+    let mut text = Vec::from_slice(alloc, b"P1\n12 12\n000000000000\n0")?;
+    for row in 0..grid.side() {
+        for module in grid.row(row) {
+            text.push(if *module { b'1' } else { b'0' })?;
         }
-        for (module, dark) in grid.row(row).iter().zip(wanted.iter()) {
-            if *module != (*dark == b'1') {
-                return false;
-            }
-        }
+        text.extend_from_slice(b"0\n0")?;
     }
-    grid.side() == 10
+    text.extend_from_slice(b"00000000000\n")?;
+    Ok(text)
 }
 
 #[test]
@@ -137,7 +122,7 @@ fn a_symbol_is_read_and_drawn(rt: HostRuntime) -> Result<(), Fail> {
         let mut reader = text;
         let image = read_image(alloc, &mut reader)?.expect(&rt, "an image");
         let grid = grid_of(alloc, &image)?;
-        assert!(rt; image.plain == plain && is_symbol(&grid));
+        assert!(rt; image.plain == plain && drawn(alloc, &grid)?.as_slice() == DRAWN);
         let image = image_of(alloc, &grid, plain)?;
         let mut bytes = Vec::new(alloc);
         write_image(&mut bytes, &image)?;

@@ -4,25 +4,19 @@
 use dm_pbm_io::{PbmFault, ShapeFault};
 use relay_streams::{Input, InputFault, Output, ReadFault, WriteFault};
 use std::test::Fail;
-use test_helpers::{FailingReader, FailingWriter, InterruptedReader};
+use test_helpers::Faulty;
 
 const TEXT: &[u8] = b"relay";
 
 #[test]
 fn a_failed_read_is_remembered(rt: HostRuntime) {
     for passes in 0..TEXT.len() {
-        let mut input = Input::new(FailingReader::new(TEXT, passes));
+        let mut input = Input::new(Faulty::failing(TEXT, passes));
         for (at, byte) in TEXT.iter().enumerate() {
-            let wanted = if at < passes {
-                Ok(Some(*byte))
-            } else {
-                Err(ReadFault::Read)
-            };
+            let failed = at >= passes;
+            let wanted = (!failed).then_some(Some(*byte)).ok_or(ReadFault::Read);
             assert!(rt; input.next_byte() == wanted, "byte {at} of {passes}");
-            assert!(rt;
-                input.has_failed() == (at >= passes),
-                "byte {at} of {passes}"
-            );
+            assert!(rt; input.has_failed() == failed, "byte {at} of {passes}");
         }
     }
 }
@@ -31,11 +25,11 @@ fn a_failed_read_is_remembered(rt: HostRuntime) {
 #[test]
 fn the_first_bytes_are_read(rt: HostRuntime) -> Result<(), Fail> {
     for passes in 0..TEXT.len() {
-        let mut interrupted = Input::new(InterruptedReader::new(TEXT, passes));
+        let mut interrupted = Input::new(Faulty::interrupted(TEXT, passes));
         let whole = interrupted.read_up_to(rt.alloc(), 100)?;
         assert!(rt; whole.as_slice() == TEXT && !interrupted.has_failed());
         for limit in 0..8 {
-            let mut input = Input::new(FailingReader::new(TEXT, passes));
+            let mut input = Input::new(Faulty::failing(TEXT, passes));
             let is_whole = match input.read_up_to(rt.alloc(), limit) {
                 Ok(first) => first.len() == limit && TEXT.starts_with(&first),
                 Err(fault) => fault == InputFault::Read && input.has_failed() && limit > passes,
@@ -53,7 +47,7 @@ fn a_buffer_is_filled(rt: HostRuntime) {
     assert!(rt; input.fill(&mut buffer) == Ok(2) && buffer == *b"re");
     assert!(rt; input.fill(&mut buffer) == Ok(2) && buffer == *b"la");
     assert!(rt; input.fill(&mut buffer) == Ok(1) && input.fill(&mut buffer) == Ok(0));
-    let mut failing = Input::new(FailingReader::new(TEXT, 1));
+    let mut failing = Input::new(Faulty::failing(TEXT, 1));
     assert!(rt; failing.fill(&mut buffer) == Err(ReadFault::Read) && failing.has_failed());
 }
 
@@ -61,7 +55,7 @@ fn a_buffer_is_filled(rt: HostRuntime) {
 #[test]
 fn a_failed_write_is_remembered(rt: HostRuntime) {
     for passes in 0..14 {
-        let mut output = Output::new(FailingWriter::new(Vec::new(rt.alloc()), passes));
+        let mut output = Output::new(Faulty::failing_once(Vec::new(rt.alloc()), passes));
         let put = output.put_refusal("Read");
         assert!(rt; put.is_err() == (passes < 13) && output.has_failed() == (passes < 13));
         assert!(rt; output.has_failed() == output.put(b"").is_err());

@@ -15,7 +15,7 @@ mod refusing;
 mod spoiling;
 mod stopping;
 
-pub use failing::{FailingReader, FailingWriter, InterruptedReader, InterruptedWriter};
+pub use failing::{Faulty, FaultyWriter};
 pub use mem_disk::{DiskCall, MemDisk};
 pub use refusing::Refusing;
 pub use spoiling::{count, says, spoiled};

@@ -43,32 +43,11 @@ pub(crate) fn seen_in<'a, A: Allocator>(calls: &'a [DiskCall<A>], name: &str) ->
         return None;
     };
     match call {
-        DiskCall::Wrote(written, bytes) => {
-            if written.as_str() == name {
-                Some(bytes.as_slice())
-            } else {
-                seen_in(before, name)
-            }
-        }
-        DiskCall::Renamed(from, to) => {
-            if to.as_str() == name {
-                seen_in(before, from.as_str())
-            } else if from.as_str() == name {
-                None
-            } else {
-                seen_in(before, name)
-            }
-        }
-        DiskCall::Removed(removed) => {
-            if removed.as_str() == name {
-                None
-            } else {
-                seen_in(before, name)
-            }
-        }
-        DiskCall::Synced(_) | DiskCall::SyncedEntry(_) | DiskCall::SyncedFolder(_) => {
-            seen_in(before, name)
-        }
+        DiskCall::Wrote(written, bytes) if written.as_str() == name => Some(bytes.as_slice()),
+        DiskCall::Renamed(from, to) if to.as_str() == name => seen_in(before, from.as_str()),
+        DiskCall::Renamed(from, _) if from.as_str() == name => None,
+        DiskCall::Removed(removed) if removed.as_str() == name => None,
+        _ => seen_in(before, name),
     }
 }
 
@@ -80,18 +59,11 @@ fn is_synced_in<A: Allocator>(calls: &[DiskCall<A>], name: &str) -> bool
         return true;
     };
     match call {
-        DiskCall::Wrote(written, _) => written.as_str() != name && is_synced_in(before, name),
-        DiskCall::Synced(taken) | DiskCall::Removed(taken) => {
-            taken.as_str() == name || is_synced_in(before, name)
-        }
-        DiskCall::Renamed(from, to) => {
-            if to.as_str() == name {
-                is_synced_in(before, from.as_str())
-            } else {
-                is_synced_in(before, name)
-            }
-        }
-        DiskCall::SyncedEntry(_) | DiskCall::SyncedFolder(_) => is_synced_in(before, name),
+        DiskCall::Wrote(written, _) if written.as_str() == name => false,
+        DiskCall::Synced(synced) if synced.as_str() == name => true,
+        DiskCall::Removed(removed) if removed.as_str() == name => true,
+        DiskCall::Renamed(from, to) if to.as_str() == name => is_synced_in(before, from.as_str()),
+        _ => is_synced_in(before, name),
     }
 }
 
@@ -114,40 +86,24 @@ fn may_leave_in<A: Allocator>(calls: &[DiskCall<A>], name: &str, content: Option
         return content.is_none();
     };
     match call {
-        DiskCall::Wrote(written, _) => {
-            written.as_str() == name || may_leave_in(before, name, content)
+        DiskCall::Wrote(written, _) if written.as_str() == name => true,
+        DiskCall::Renamed(from, to) if to.as_str() == name => {
+            !is_synced_in(before, from.as_str())
+                || may_leave_in(before, name, content)
+                || is_same(content, seen_in(before, from.as_str()))
         }
-        DiskCall::Synced(_) => may_leave_in(before, name, content),
-        DiskCall::Renamed(from, to) => {
-            if to.as_str() == name {
-                if is_synced_in(before, from.as_str()) {
-                    may_leave_in(before, name, content)
-                        || is_same(content, seen_in(before, from.as_str()))
-                } else {
-                    true
-                }
-            } else {
-                from.as_str() == name || may_leave_in(before, name, content)
-            }
-        }
+        DiskCall::Renamed(from, _) if from.as_str() == name => true,
         DiskCall::Removed(removed) => {
             may_leave_in(before, name, content) || removed.as_str() == name && content.is_none()
         }
-        DiskCall::SyncedEntry(synced) => {
-            if synced.as_str() == name && is_synced_in(before, name) {
-                is_same(content, seen_in(before, name))
-            } else {
-                may_leave_in(before, name, content)
-            }
+        DiskCall::SyncedEntry(synced) if synced.as_str() == name && is_synced_in(before, name) => {
+            is_same(content, seen_in(before, name))
         }
-        DiskCall::SyncedFolder(start) => {
-            let is_in = name.as_bytes().starts_with(start.as_bytes());
-            if is_in && is_synced_in(before, name) {
-                is_same(content, seen_in(before, name))
-            } else {
-                may_leave_in(before, name, content)
-            }
+        DiskCall::SyncedFolder(start)
+            if name.as_bytes().starts_with(start.as_bytes()) && is_synced_in(before, name) => {
+            is_same(content, seen_in(before, name))
         }
+        _ => may_leave_in(before, name, content),
     }
 }
 
@@ -159,10 +115,7 @@ pub(crate) fn note<A: Allocator>(
     ensures ok { OnOk result (calls.new.items ≡ call ∷ calls.old.items) }
     ensures err { OnErr result (calls.new.items ≡ calls.old.items) }
 {
-    match calls.insert(0, call) {
-        Ok(()) => Ok(()),
-        Err(_) => Err(StoreFault::Memory),
-    }
+    calls.insert(0, call).map_err(|_| StoreFault::Memory)
 }
 
 impl<A: Allocator + Copy> MemDisk<A> {

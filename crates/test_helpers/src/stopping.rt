@@ -59,19 +59,12 @@ impl<D> Stopping<D> {
 
 // Counts a call.
 fn take(left: &mut Option<u32>, kept: Kept) -> Result<Turn, StoreFault> {
-    match (*left, kept) {
-        (Some(0), Kept::New) => {
-            *left = None;
-            Ok(Turn::Made)
-        }
-        (Some(0), Kept::Old) | (None, _) => {
-            *left = None;
-            Err(StoreFault::Device)
-        }
-        (Some(calls), _) => {
-            *left = Some(calls - 1);
-            Ok(Turn::Passes)
-        }
+    let before = *left;
+    *left = before.and_then(|calls| calls.checked_sub(1));
+    match before {
+        Some(0) if kept == Kept::New => Ok(Turn::Made),
+        Some(0) | None => Err(StoreFault::Device),
+        Some(_) => Ok(Turn::Passes),
     }
 }
 

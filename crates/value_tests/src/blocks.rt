@@ -3,7 +3,7 @@
 use dm_check_blocks::{block_word, complete};
 use dm_corrector::{BlockFault, correct_symbol};
 use dm_size::Size;
-use std::alloc::Global;
+use std::test::Fail;
 
 // The standard's table: the side, a region's side, the regions, data words, check words, blocks.
 #[rattlefmt::skip]
@@ -62,39 +62,27 @@ fn the_sizes_are_those_of_the_standard(rt: HostRuntime) {
     assert!(rt; size.all_words() == 288 && block_word(size, 1, 102) == 205);
 }
 
-// The words of the symbol of a message, where that is as long as the size asks.
-fn completed(alloc: Global, size: Size, message: &[u8]) -> Option<Vec<u8>> {
-    if message.len() != size.data_words() {
-        return None;
-    }
-    complete(alloc, size, message).ok()
-}
-
 // The standard's worked example, and a symbol of two blocks: its last data word belongs to block 1, so the check words
 // of block 0 stay 0, and none of block 1's is.
 #[test]
-fn messages_are_completed(rt: HostRuntime) {
-    let words = completed(rt.alloc(), Size::Side10, &[142, 164, 186]).expect(&rt, "words");
+#[tactic(auto, unfolding(dm_size::specs::Sizes::row))]
+fn messages_are_completed(rt: HostRuntime) -> Result<(), Fail> {
+    let words = complete(rt.alloc(), Size::Side10, &[142, 164, 186])?;
     assert!(rt; words.as_slice() == [142, 164, 186, 114, 25, 5, 88, 102].as_slice());
     let mut message = [0; 204];
     message[203] = 1;
-    let words = completed(rt.alloc(), Size::Side52, &message).expect(&rt, "words");
+    let words = complete(rt.alloc(), Size::Side52, &message)?;
     assert!(rt; words.len() == 288);
     for (at, word) in words.iter().enumerate() {
         assert!(rt; (*word != 0) == (at >= 203 && at % 2 == 1), "position {at}");
     }
+    Ok(())
 }
 
-// As `correct_symbol` in side 52, whose blocks take the words in turn.
-fn corrected(words: &mut [u8; 288]) -> Option<Result<u16, BlockFault>> {
-    if Size::Side52.all_words() != 288 {
-        return None;
-    }
-    Some(correct_symbol(Size::Side52, words))
-}
-
-// In side 52 there are 21 wrong words in each of two blocks, and then 22 in the second.
+// In side 52, whose blocks take the words in turn, there are 21 wrong words in each of two blocks, and then 22 in the
+// second.
 #[test]
+#[tactic(auto, unfolding(dm_size::specs::Sizes::row))]
 fn blocks_are_corrected(rt: HostRuntime) {
     let mut words = [0; 288];
     for k in 0..42u8 {
@@ -102,6 +90,6 @@ fn blocks_are_corrected(rt: HostRuntime) {
     }
     let mut more = words;
     more[3] = 1;
-    assert!(rt; corrected(&mut words) == Some(Ok(42)) && words == [0; 288]);
-    assert!(rt; corrected(&mut more) == Some(Err(BlockFault { block: 1 })));
+    assert!(rt; correct_symbol(Size::Side52, &mut words) == Ok(42) && words == [0; 288]);
+    assert!(rt; correct_symbol(Size::Side52, &mut more) == Err(BlockFault { block: 1 }));
 }

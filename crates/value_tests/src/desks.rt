@@ -1,26 +1,29 @@
-//! Desks over sets in memory: labels that are scanned, pages that come and go, and what is held.
+//! Desks over sets in memory: labels that are scanned, pages that come and go, and what is held. Sets on which a desk is
+//! opened, and on which none is. Joint files of the first version, whose documents are moved to files of their own.
 
-use dm_append_label::{FileId, Page, seal};
+use crate::labels::page_of;
+use dm_append_label::{FileId, seal};
 use dm_assembly_desk::{
-    Accepted, AskFault, Desk, ForgetFault, ImportFault, Imported, Kind, ScanFault,
+    Accepted, AskFault, Desk, ForgetFault, ImportFault, Imported, Kind, MoveFault, ScanFault,
+    move_pages,
 };
 use dm_encodation::Scheme;
 use dm_finder_frame::Grid;
 use dm_size::Size;
-use dm_store::{MemSet, NextSave, StoreSet};
+use dm_store::{MemSet, MemStore, NextSave, StoreSet};
 use std::alloc::Global;
 use std::process::Abort;
 use std::test::Fail;
 
-pub(crate) type MemDesk = Desk<MemSet>;
+type MemDesk = Desk<MemSet>;
 
-/// The file of the document 0, of whose two pages the second is held: 34.
-pub(crate) const SECOND: &[u8] = b"DMPG\x02\x01\x01\x02\x00\x02\x00\x0234";
+// The file of the document 0, of whose two pages the second is held: 34.
+const SECOND: &[u8] = b"DMPG\x02\x01\x01\x02\x00\x02\x00\x0234";
 
-/// The file of the document 0 with both pages.
-pub(crate) const WHOLE: &[u8] = b"DMPG\x02\x01\x01\x02\x00\x03\x00\x0212\x00\x0234";
+// The file of the document 0 with both pages.
+const WHOLE: &[u8] = b"DMPG\x02\x01\x01\x02\x00\x03\x00\x0212\x00\x0234";
 
-pub(crate) fn id_of(rt: &impl Abort, number: u16) -> FileId {
+fn id_of(rt: &impl Abort, number: u16) -> FileId {
     FileId::of_number(number).expect(rt, "an identification")
 }
 
@@ -29,8 +32,7 @@ type Scan = (u16, u8, u8, &'static [u8]);
 
 // The label of a page, of side 12 in ASCII.
 fn label(alloc: Global, (number, m, n, bytes): Scan) -> Option<Grid> {
-    let id = FileId::of_number(number)?;
-    let page = Page::new(id, m, n, bytes.to_vec(alloc).ok()?)?;
+    let page = page_of(alloc, number, m, n, bytes)?;
     seal(alloc, &page, Size::Side12, Scheme::Ascii).ok()
 }
 
@@ -48,26 +50,20 @@ fn answers(alloc: Global, desk: &mut MemDesk, scan: Scan, answer: Result<Kind, S
 }
 
 // The desk with room for this many documents over a set.
-pub(crate) fn opened(rt: &impl Abort, alloc: Global, set: MemSet, capacity: u16) -> MemDesk {
-    Desk::open(alloc, set, capacity)
-        .ok()
-        .expect(rt, "it is opened")
+fn opened(rt: &impl Abort, alloc: Global, set: MemSet, capacity: u16) -> MemDesk {
+    let opened = Desk::open(alloc, set, capacity);
+    opened.ok().expect(rt, "it is opened")
 }
 
 // Whether the document is given with these bytes.
-pub(crate) fn gives(desk: &MemDesk, id: FileId, bytes: &[u8]) -> bool {
-    match desk.document(id) {
-        Ok(document) => document.as_slice() == bytes,
-        Err(_) => false,
-    }
+fn gives(desk: &MemDesk, id: FileId, bytes: &[u8]) -> bool {
+    desk.document(id)
+        .is_ok_and(|document| document.as_slice() == bytes)
 }
 
 // Whether these bytes are the export.
 fn exports(desk: &MemDesk, id: FileId, bytes: &[u8]) -> bool {
-    match desk.export(id) {
-        Ok(file) => file.as_slice() == bytes,
-        Err(_) => false,
-    }
+    desk.export(id).is_ok_and(|file| file.as_slice() == bytes)
 }
 
 // The labels of two documents in any order, and some that disagree with these or find no room.
@@ -88,16 +84,6 @@ const SCANS: [(Scan, Result<Kind, ScanFault>); 14] = [
     ((5, 2, 3, b""), Ok(Kind::Again)),
 ];
 
-// The first of `SCANS` that a desk answers otherwise.
-fn first_wrong(alloc: Global, desk: &mut MemDesk) -> Option<Scan> {
-    for (scan, answer) in SCANS {
-        if !answers(alloc, desk, scan, answer) {
-            return Some(scan);
-        }
-    }
-    None
-}
-
 // Whether a desk lists the documents 3 and 5, complete.
 fn holds_both(desk: &MemDesk, third: FileId, fifth: FileId) -> bool {
     let Ok(held) = desk.held() else {
@@ -110,19 +96,15 @@ fn holds_both(desk: &MemDesk, third: FileId, fifth: FileId) -> bool {
 #[test]
 fn documents_are_scanned(rt: HostRuntime) {
     let mut desk = opened(&rt, rt.alloc(), MemSet::new(rt.alloc()), 2);
-    let wrong = first_wrong(rt.alloc(), &mut desk);
-    assert!(rt; wrong == None, "{wrong:?}");
+    for (scan, answer) in SCANS {
+        let is_so = answers(rt.alloc(), &mut desk, scan, answer);
+        assert!(rt; is_so, "{scan:?}");
+    }
     let desk = opened(&rt, rt.alloc(), desk.close(), 2);
     let (third, fifth) = (id_of(&rt, 3), id_of(&rt, 5));
     assert!(rt; gives(&desk, third, b"7890") && gives(&desk, fifth, b"1256"));
     assert!(rt; holds_both(&desk, third, fifth));
 }
-
-// A save that fails, and the answer to its label once the desk is opened again.
-const FAILED_SAVES: [(NextSave, Kind); 2] = [
-    (NextSave::FaultNew, Kind::Again),
-    (NextSave::FaultOld, Kind::New),
-];
 
 // Whether the second page of two is all that a desk holds of a document.
 fn holds_second(desk: &MemDesk, id: FileId) -> bool {
@@ -147,11 +129,11 @@ fn save_fails(rt: &impl Abort, alloc: Global, next: NextSave, kind: Kind) {
     assert!(rt; matches!(desk.document(id), Err(AskFault::Incomplete { missing: 1 })));
 }
 
+// A save that fails, and the answer to its label once the desk is opened again.
 #[test]
 fn saves_fail(rt: HostRuntime) {
-    for (next, kind) in FAILED_SAVES {
-        save_fails(&rt, rt.alloc(), next, kind);
-    }
+    save_fails(&rt, rt.alloc(), NextSave::FaultNew, Kind::Again);
+    save_fails(&rt, rt.alloc(), NextSave::FaultOld, Kind::New);
 }
 
 // The imports of files of the document 0, one after another, to a desk with room for one: how many pages are new, or
@@ -190,5 +172,102 @@ fn pages_come_and_go(rt: HostRuntime) -> Result<(), Fail> {
     assert!(rt; answers(rt.alloc(), &mut desk, (0, 2, 2, b"34"), Ok(Kind::New)));
     let set = desk.close();
     assert!(rt; set.content(0) == Some(SECOND));
+    Ok(())
+}
+
+// Why no desk is opened on a set with these files, each under its key; or `opened`.
+fn answer_to(alloc: Global, files: &[(u16, &[u8])], capacity: u16) -> &'static str {
+    let mut set = MemSet::new(alloc);
+    for (key, bytes) in files {
+        if set.replace(*key, bytes).is_err() {
+            return "Memory";
+        }
+    }
+    match Desk::open(alloc, set, capacity) {
+        Ok(_) => "opened",
+        Err(refused) => refused.fault.name(),
+    }
+}
+
+// The file of the document 1, of whose two pages the second is held: 34.
+const OTHER: &[u8] = b"DMPG\x02\x01\x02\x02\x00\x02\x00\x0234";
+
+// The files of a set, a capacity, and what is answered; the first file that is none decides.
+#[rattlefmt::skip]
+const SETS: [(&[(u16, &[u8])], u16, &str); 29] = [
+    (&[], 0, "Capacity"),
+    (&[], 1, "opened"),
+    (&[], 1024, "opened"),
+    (&[], 1025, "Capacity"),
+    (&[(0, SECOND), (1, OTHER)], 2, "opened"),
+    (&[(0, SECOND), (1, OTHER)], 1, "TooMany"),
+    (&[(0, b""), (1, b"")], 1, "TooMany"),
+    (&[(0, b""), (1, b"")], 0, "Capacity"),
+    (&[(0, SECOND), (1, SECOND)], 2, "Damaged"),
+    (&[(0, SECOND), (1, b"DMPG\x01")], 3, "Version"),
+    (&[(0, b""), (1, b"DMPG\x01")], 3, "NotPages"),
+    (&[(0, b"DMPG\x01"), (1, b"")], 3, "Version"),
+    (&[(0, WHOLE), (64_516, SECOND)], 3, "Damaged"),
+    (&[(0, WHOLE), (65_535, b"DMPG\x03")], 3, "Version"),
+    (&[(0, b"DMP")], 4, "NotPages"),
+    (&[(0, b"DMLG\x02")], 4, "NotPages"),
+    (&[(0, b"dmpg\x02\x01\x01\x02\x00\x02\x00\x0234")], 4, "NotPages"),
+    (&[(0, b"DMPG\x01\x00\x00")], 4, "Version"),
+    (&[(0, b"DMPG\x03\x01\x01\x02\x00\x02\x00\x0234")], 4, "Version"),
+    (&[(0, b"DMPG")], 4, "Damaged"),
+    (&[(0, b"DMPG\x02")], 4, "Damaged"),
+    // No page, a page 3 of 2, 17 pages, 1 page, an identification with a word 0 or 255.
+    (&[(0, b"DMPG\x02\x01\x01\x02\x00\x00")], 4, "Damaged"),
+    (&[(0, b"DMPG\x02\x01\x01\x02\x00\x04\x00\x00")], 4, "Damaged"),
+    (&[(0, b"DMPG\x02\x01\x01\x11\x00\x01\x00\x00")], 4, "Damaged"),
+    (&[(0, b"DMPG\x02\x01\x01\x01\x00\x01\x00\x00")], 4, "Damaged"),
+    (&[(0, b"DMPG\x02\x00\xff\x02\x00\x01\x00\x00")], 4, "Damaged"),
+    // One byte more, and one byte less.
+    (&[(0, b"DMPG\x02\x01\x01\x02\x00\x02\x00\x02345")], 4, "Damaged"),
+    (&[(0, b"DMPG\x02\x01\x01\x02\x00\x02\x00\x023")], 4, "Damaged"),
+    (&[(0, b"DMPG\x02\x01\x01\x02\x00\x03\x00\x0212\x00\x02")], 4, "Damaged"),
+];
+
+#[test]
+fn sets_are_refused(rt: HostRuntime) {
+    for (files, capacity, answer) in SETS {
+        let found = answer_to(rt.alloc(), files, capacity);
+        assert!(rt; found == answer, "{files:?} {capacity}");
+    }
+}
+
+// Joint files, and how many documents are moved, or the refusal; the last of them has the documents 0 and 2.
+#[rattlefmt::skip]
+const JOINT_FILES: [(&[u8], Result<u16, MoveFault>); 10] = [
+    (b"", Err(MoveFault::NotPages)),
+    (b"DMLG\x01\x00\x00", Err(MoveFault::NotPages)),
+    (SECOND, Err(MoveFault::Version)),
+    (b"DMPG", Err(MoveFault::Damaged)),
+    (b"DMPG\x01\x00", Err(MoveFault::Damaged)),
+    (b"DMPG\x01\x00\x00\x00", Err(MoveFault::Damaged)),
+    (b"DMPG\x01\x00\x02\x01\x01\x02\x00\x02\x00\x0234", Err(MoveFault::Damaged)),
+    // One document twice, and falling identifications.
+    (b"DMPG\x01\x00\x02\x01\x01\x02\x00\x02\x00\x0234\x01\x01\x02\x00\x02\x00\x0234", Err(MoveFault::Damaged)),
+    (b"DMPG\x01\x00\x02\x01\x02\x02\x00\x02\x00\x0234\x01\x01\x02\x00\x02\x00\x0234", Err(MoveFault::Damaged)),
+    (b"DMPG\x01\x00\x02\x01\x01\x02\x00\x02\x00\x0234\x01\x03\x02\x00\x03\x00\x025\x06\x00\x00", Ok(2)),
+];
+
+// As `move_pages`, without its contract, so that what makes many such calls is proved in little time.
+fn moved(alloc: Global, old: &mut MemStore, set: &mut MemSet) -> Result<u16, MoveFault> {
+    move_pages(alloc, old, set)
+}
+
+#[test]
+fn joint_files_are_moved(rt: HostRuntime) -> Result<(), Fail> {
+    let mut set = MemSet::new(rt.alloc());
+    for (bytes, answer) in JOINT_FILES {
+        assert!(rt; set.keys(9)?.is_empty());
+        let mut old = MemStore::with(rt.alloc(), bytes.to_vec(rt.alloc())?);
+        let found = moved(rt.alloc(), &mut old, &mut set);
+        assert!(rt; found == answer, "{bytes:?}");
+    }
+    assert!(rt; set.content(0) == Some(SECOND));
+    let desk = opened(&rt, rt.alloc(), set, 2);
+    assert!(rt; gives(&desk, id_of(&rt, 2), b"5\x06"));
     Ok(())
 }

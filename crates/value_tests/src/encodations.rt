@@ -1,22 +1,8 @@
 //! Texts as data words, and back.
 
-use dm_encodation::{DecodeFault, EncodeFault, Scheme, decode, encode, fit, need};
+use dm_encodation::{DecodeFault, Scheme, decode, encode, fit, need};
 use dm_size::Size;
 use std::alloc::Global;
-
-// `encode` where the head isn't too long itself.
-fn written(
-    alloc: Global,
-    scheme: Scheme,
-    bytes: &[u8],
-    head: &[u8],
-    size: Size,
-) -> Result<Vec<u8>, EncodeFault> {
-    if head.len() > size.data_words() {
-        return Err(EncodeFault::TooLong);
-    }
-    encode(alloc, scheme, bytes, head, size)
-}
 
 // An encodation, a text, the words before it, a size, and the data words of the symbol, or the first of them.
 type Text = (Scheme, &'static [u8], &'static [u8], Size, &'static [u8]);
@@ -59,10 +45,8 @@ const READINGS: [Reading; 11] = [
 
 // Whether a row of `TEXTS` is written so.
 fn is_written(alloc: Global, (scheme, bytes, head, size, words): Text) -> bool {
-    match written(alloc, scheme, bytes, head, size) {
-        Ok(all) => all.starts_with(words),
-        Err(_) => false,
-    }
+    head.len() <= size.data_words()
+        && encode(alloc, scheme, bytes, head, size).is_ok_and(|all| all.starts_with(words))
 }
 
 // Whether a row of `READINGS` is read so.
@@ -111,13 +95,8 @@ fn the_greatest_texts_fill_a_room(rt: HostRuntime) {
     for (scheme, byte, room, count, words) in ROOMS {
         let bytes = [byte; 2609];
         assert!(rt; count < bytes.len());
-        assert!(rt;
-            need(scheme, &bytes[..count]) == words,
-            "{scheme:?} {count}"
-        );
-        assert!(rt;
-            fit(scheme, &bytes[..count + 1], room) == count,
-            "{scheme:?} {count}"
-        );
+        let needed = need(scheme, &bytes[..count]);
+        let fitting = fit(scheme, &bytes[..count + 1], room);
+        assert!(rt; (fitting, needed) == (count, words), "{scheme:?} {count}");
     }
 }

@@ -45,9 +45,7 @@ the document does not fit sixteen labels of this size";
 #[rattlefmt::skip]
 #[test]
 fn faults_of_labels_say_what_is_wrong(rt: HostRuntime) -> Result<(), Fail> {
-    let Err(too_long) = cut(b"", Size::Side10, Scheme::Ascii) else {
-        return Err("a label of side 10".into());
-    };
+    let too_long = cut(b"", Size::Side10, Scheme::Ascii).err().ok_or("a label of side 10")?;
     let texts = format!(in rt.alloc();
         "{}\n{}\n{}, {}, {}\n{}, {}\n{}, {}\n{}",
         LabelFault::Border { wrong: 6 }, LabelFault::Block { block: 7 }, LabelFault::NotAppended,

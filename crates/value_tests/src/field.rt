@@ -44,10 +44,8 @@ fn product_by_bits(a: u8, b: u8) -> u8 {
 fn tables_give_the_product_bit_by_bit(rt: HostRuntime) {
     for a in 0..=255u8 {
         for b in 0..=255u8 {
-            assert!(rt;
-                Gf(a).mul(Gf(b)).0 == product_by_bits(a, b),
-                "{a} times {b}"
-            );
+            let product = Gf(a).mul(Gf(b)).0;
+            assert!(rt; product == product_by_bits(a, b), "{a} times {b}");
         }
     }
 }

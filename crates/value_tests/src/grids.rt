@@ -1,4 +1,5 @@
 //! Where each bit of a word stands, and the finder patterns around and between the regions.
+#![tactic(auto, unfolding(dm_size::specs::Sizes::row))]
 
 use crate::worked::{WORDS, is_worked_example, worked_modules};
 use dm_finder_frame::{FrameFault, Grid, GridFault, cell_of, frame, unframe};
@@ -20,10 +21,8 @@ fn words_stand_in_corners(rt: HostRuntime) -> Result<(), Fail> {
         let layout = Layout::of_size(rt.alloc(), size)?;
         assert!(rt; word < size.all_words());
         for bit in 1..9u8 {
-            assert!(rt;
-                layout.cell(word, bit) == cells[bit as usize - 1],
-                "bit {bit}"
-            );
+            let cell = layout.cell(word, bit);
+            assert!(rt; cell == cells[bit as usize - 1], "bit {bit}");
         }
     }
     Ok(())
@@ -31,7 +30,6 @@ fn words_stand_in_corners(rt: HostRuntime) -> Result<(), Fail> {
 
 // In side 12 four cells are free, two of them dark. A module of a finder pattern has no cell.
 #[test]
-#[tactic(auto, unfolding(dm_size::specs::Sizes::row))]
 fn cells_are_free_or_on_no_finder_pattern(rt: HostRuntime) -> Result<(), Fail> {
     let matrix = place(rt.alloc(), Size::Side12, &[0; 12])?;
     assert!(rt; matrix.side() == 10);
@@ -47,7 +45,6 @@ fn cells_are_free_or_on_no_finder_pattern(rt: HostRuntime) -> Result<(), Fail> {
 
 // The words of the standard's example are placed as it draws them, with a layout made before and without.
 #[test]
-#[tactic(auto, unfolding(dm_size::specs::Sizes::row))]
 fn the_words_give_the_drawn_modules(rt: HostRuntime) -> Result<(), Fail> {
     let alloc = rt.alloc();
     let layout = Layout::of_size(alloc, Size::Side10)?;
@@ -61,7 +58,6 @@ fn the_words_give_the_drawn_modules(rt: HostRuntime) -> Result<(), Fail> {
 
 // The modules that it draws give them back.
 #[test]
-#[tactic(auto, unfolding(dm_size::specs::Sizes::row))]
 fn the_drawn_modules_hold_the_words(rt: HostRuntime) -> Result<(), Fail> {
     let alloc = rt.alloc();
     let drawn = Grid::of_modules(alloc, 10, &worked_modules())?;
@@ -76,7 +72,6 @@ fn the_drawn_modules_hold_the_words(rt: HostRuntime) -> Result<(), Fail> {
 
 // A matrix with all modules light holds words 0, and one dark module is one bit.
 #[test]
-#[tactic(auto, unfolding(dm_size::specs::Sizes::row))]
 fn a_light_matrix_holds_zeros(rt: HostRuntime) -> Result<(), Fail> {
     let mut matrix = Matrix::light(rt.alloc(), Size::Side12.mapping())?;
     assert!(rt; matrix.side() == 10);
@@ -92,10 +87,10 @@ fn a_light_matrix_holds_zeros(rt: HostRuntime) -> Result<(), Fail> {
 // Of the 36 modules on the frame of side 10 27 are dark. No size has 11 modules along a side.
 #[test]
 fn grids_without_a_frame_are_refused(rt: HostRuntime) -> Result<(), Fail> {
-    let light = Grid::of_modules(rt.alloc(), 10, &[false; 100])?;
-    assert!(rt; unframe(rt.alloc(), &light).err() == Some(FrameFault::Border { wrong: 27 }));
-    let dark = Grid::of_modules(rt.alloc(), 10, &[true; 100])?;
-    assert!(rt; unframe(rt.alloc(), &dark).err() == Some(FrameFault::Border { wrong: 9 }));
+    for (dark, wrong) in [(false, 27), (true, 9)] {
+        let grid = Grid::of_modules(rt.alloc(), 10, &[dark; 100])?;
+        assert!(rt; unframe(rt.alloc(), &grid).err() == Some(FrameFault::Border { wrong }));
+    }
     assert!(rt; Grid::of_modules(rt.alloc(), 11, &[true; 121]).err() == Some(GridFault::Side));
     assert!(rt; Grid::of_modules(rt.alloc(), 10, &[true; 99]).err() == Some(GridFault::Side));
     Ok(())

@@ -13,64 +13,55 @@ use dm_symbol::{SymbolReader, correct_grid, draw_symbol};
 use std::alloc::{AllocError, Global};
 use std::test::Fail;
 
-// The label of page m of n, of the identification 0.
-fn sealed(
-    alloc: Global,
-    m: u8,
-    n: u8,
-    bytes: &[u8],
-    scheme: Scheme,
-    size: Size,
-) -> Result<Grid, SealFault> {
-    let Some(id) = FileId::of_number(0) else {
-        return Err(SealFault::TooLong);
-    };
-    let Some(page) = Page::new(id, m, n, bytes.to_vec(alloc)?) else {
-        return Err(SealFault::TooLong);
-    };
+// A label of the identification 0: the page m of n, its bytes, an encodation and a size.
+type Label = (u8, u8, &'static [u8], Scheme, Size);
+
+// The first label of `1234` in side 12.
+const ONE: Label = (1, 2, b"12", Scheme::Ascii, Size::Side12);
+
+// The page m of n of the document of a number.
+pub(crate) fn page_of(alloc: Global, number: u16, m: u8, n: u8, bytes: &[u8]) -> Option<Page> {
+    Page::new(FileId::of_number(number)?, m, n, bytes.to_vec(alloc).ok()?)
+}
+
+fn sealed(alloc: Global, (m, n, bytes, scheme, size): Label) -> Result<Grid, SealFault> {
+    let page = page_of(alloc, 0, m, n, bytes).ok_or(SealFault::TooLong)?;
     seal(alloc, &page, size, scheme)
 }
 
-// The page m of n, its bytes, an encodation, a size, and the first data words of the label.
+// Labels, and their first data words.
 #[rattlefmt::skip]
-const LABELS: [(u8, u8, &[u8], Scheme, Size, &[u8]); 8] = [
-    (1, 2, &[1], Scheme::Base256, Size::Side14, &[233, 15, 1, 1, 231, 131, 25, 129]),
-    (2, 2, b"", Scheme::Base256, Size::Side14, &[233, 31, 1, 1, 129, 11, 161, 56]),
-    (1, 2, b"", Scheme::Ascii, Size::Side14, &[233, 15, 1, 1, 129, 11, 161, 56]),
-    (1, 2, b"12", Scheme::Ascii, Size::Side12, &[233, 15, 1, 1, 142]),
-    (2, 2, b"34", Scheme::Ascii, Size::Side12, &[233, 31, 1, 1, 164]),
-    (1, 2, b"AIM", Scheme::C40, Size::Side14, &[233, 15, 1, 1, 230, 91, 11, 129]),
-    (3, 7, b"", Scheme::Ascii, Size::Side12, &[233, 42, 1, 1]),
-    (16, 16, b"77", Scheme::Ascii, Size::Side12, &[233, 241, 1, 1]),
+const LABELS: [(Label, &[u8]); 8] = [
+    ((1, 2, &[1], Scheme::Base256, Size::Side14), &[233, 15, 1, 1, 231, 131, 25, 129]),
+    ((2, 2, b"", Scheme::Base256, Size::Side14), &[233, 31, 1, 1, 129, 11, 161, 56]),
+    ((1, 2, b"", Scheme::Ascii, Size::Side14), &[233, 15, 1, 1, 129, 11, 161, 56]),
+    (ONE, &[233, 15, 1, 1, 142]),
+    ((2, 2, b"34", Scheme::Ascii, Size::Side12), &[233, 31, 1, 1, 164]),
+    ((1, 2, b"AIM", Scheme::C40, Size::Side14), &[233, 15, 1, 1, 230, 91, 11, 129]),
+    ((3, 7, b"", Scheme::Ascii, Size::Side12), &[233, 42, 1, 1]),
+    ((16, 16, b"77", Scheme::Ascii, Size::Side12), &[233, 241, 1, 1]),
 ];
 
-// Whether a label opens, with no wrong module, as page m of n of the identification 0.
-fn opens(alloc: Global, label: &Grid, m: u8, n: u8, bytes: &[u8]) -> bool {
-    let Ok(opened) = open_label(alloc, label) else {
+// Whether a grid opens as a label, with no wrong module.
+fn opens(alloc: Global, grid: &Grid, (m, n, bytes, _, _): Label) -> bool {
+    let Ok(opened) = open_label(alloc, grid) else {
         return false;
     };
     let page = opened.page;
-    (
-        opened.corrected,
-        opened.wrong,
-        page.m(),
-        page.n(),
-        page.id().words(),
-    ) == (0, 0, m, n, (1, 1))
+    (opened.corrected, opened.wrong) == (0, 0)
+        && (page.m(), page.n(), page.id().words()) == (m, n, (1, 1))
         && page.bytes() == bytes
 }
 
 #[test]
 fn labels_are_sealed_and_opened(rt: HostRuntime) -> Result<(), Fail> {
-    for (m, n, bytes, scheme, size, words) in LABELS {
-        let label = sealed(rt.alloc(), m, n, bytes, scheme, size)?;
-        assert!(rt;
-            correct_grid(rt.alloc(), &label)?.data().starts_with(words),
-            "{m} of {n}"
-        );
-        assert!(rt; opens(rt.alloc(), &label, m, n, bytes));
+    for (label, words) in LABELS {
+        let grid = sealed(rt.alloc(), label)?;
+        let symbol = correct_grid(rt.alloc(), &grid)?;
+        assert!(rt; symbol.data().starts_with(words), "{label:?}");
+        assert!(rt; opens(rt.alloc(), &grid, label), "{label:?}");
     }
-    let fault = sealed(rt.alloc(), 1, 2, &[233], Scheme::Ascii, Size::Side12).err();
+    let fault = sealed(rt.alloc(), (1, 2, &[233], Scheme::Ascii, Size::Side12)).err();
     assert!(rt; fault == Some(SealFault::TooLong));
     Ok(())
 }
@@ -86,15 +77,8 @@ const DOCUMENTS: [(&[u8], Size, Scheme, &[usize]); 10] = [
     (&[b'7'; 33], Size::Side12, Scheme::Ascii, &[]),
     (&[233], Size::Side12, Scheme::Ascii, &[]),
     (b"", Size::Side10, Scheme::Ascii, &[]),
-    (
-        &[233; 20_752],
-        Size::Side132,
-        Scheme::Base256,
-        &[
-            1297, 2594, 3891, 5188, 6485, 7782, 9079, 10_376, 11_673, 12_970, 14_267, 15_564,
-            16_861, 18_158, 19_455, 20_752,
-        ],
-    ),
+    (&[233; 20_752], Size::Side132, Scheme::Base256, &[1297, 2594, 3891, 5188, 6485, 7782, 9079, 10_376, 11_673,
+        12_970, 14_267, 15_564, 16_861, 18_158, 19_455, 20_752]),
     (&[233; 20_753], Size::Side132, Scheme::Base256, &[]),
 ];
 
@@ -134,10 +118,8 @@ const NO_LABELS: [(&[u8], Size, LabelFault); 8] = [
 fn heads_are_told_apart(rt: HostRuntime) -> Result<(), Fail> {
     for (data, size, fault) in NO_LABELS {
         let grid = drawn_of_data(rt.alloc(), size, data)?;
-        assert!(rt;
-            open_label(rt.alloc(), &grid).err() == Some(fault),
-            "{data:?}"
-        );
+        let found = open_label(rt.alloc(), &grid).err();
+        assert!(rt; found == Some(fault), "{data:?}");
     }
     assert!(rt; FileId::of_words(255, 1) == None);
     assert!(rt; FileId::of_words(254, 254).map(|id| id.number()) == Some(64_515));
@@ -149,7 +131,7 @@ fn heads_are_told_apart(rt: HostRuntime) -> Result<(), Fail> {
 #[test]
 #[tactic(auto, unfolding(dm_size::specs::Sizes::row))]
 fn three_words_are_near_and_four_are_not(rt: HostRuntime) -> Result<(), Fail> {
-    let label = sealed(rt.alloc(), 1, 2, b"12", Scheme::Ascii, Size::Side12)?;
+    let label = sealed(rt.alloc(), ONE)?;
     assert!(rt; label.side() == 12);
     assert!(rt; still_near(rt.alloc(), &label, &[(1, 9), (4, 6), (8, 3)])?);
     assert!(rt; !still_near(rt.alloc(), &label, &[(1, 9), (4, 6), (8, 3), (9, 8)])?);
@@ -161,8 +143,7 @@ fn three_words_are_near_and_four_are_not(rt: HostRuntime) -> Result<(), Fail> {
 fn labels_are_sealed_by_a_layout(rt: HostRuntime) -> Result<(), Fail> {
     let alloc = rt.alloc();
     let layout = Layout::of_size(alloc, Size::Side12)?;
-    let id = FileId::of_number(0).expect(&rt, "an identification");
-    let page = Page::new(id, 1, 2, b"12".as_slice().to_vec(alloc)?).expect(&rt, "a page");
+    let page = page_of(alloc, 0, 1, 2, b"12").expect(&rt, "a page");
     let one = seal(alloc, &page, Size::Side12, Scheme::Ascii)?;
     let other = seal_with(alloc, &page, &layout, Scheme::Ascii)?;
     assert!(rt; one.side() == 12 && other.side() == 12);
@@ -181,10 +162,20 @@ fn wear(alloc: Global, label: &Grid) -> Result<(u16, u16), LabelFault> {
 // Of side 12 an eighth of the 44 modules on the frame are 5, and a block with 7 check words has at most 3 wrong words.
 #[test]
 fn labels_are_worn(rt: HostRuntime) -> Result<(), Fail> {
-    let mut label = sealed(rt.alloc(), 1, 2, b"12", Scheme::Ascii, Size::Side12)?;
-    let on_the_frame = [(0, 0), (0, 1), (0, 2), (0, 3), (0, 4)];
-    flip_all(&mut label, &on_the_frame);
-    flip_all(&mut label, &[(1, 9), (4, 6), (8, 3)]);
+    let mut label = sealed(rt.alloc(), ONE)?;
+    flip_all(
+        &mut label,
+        &[
+            (0, 0),
+            (0, 1),
+            (0, 2),
+            (0, 3),
+            (0, 4),
+            (1, 9),
+            (4, 6),
+            (8, 3),
+        ],
+    );
     assert!(rt; wear(rt.alloc(), &label) == Ok((3, 5)));
     let mut reader = SymbolReader::new();
     let again = open_label_with(rt.alloc(), &mut reader, &label)?;

@@ -4,8 +4,6 @@
 #![tactic(auto)]
 
 #[cfg(test)]
-mod bad_files;
-#[cfg(test)]
 mod blocks;
 #[cfg(test)]
 mod corrector;
@@ -21,8 +19,6 @@ mod field;
 mod grids;
 #[cfg(test)]
 mod labels;
-#[cfg(test)]
-mod ledgers;
 #[cfg(test)]
 mod printers;
 #[cfg(test)]

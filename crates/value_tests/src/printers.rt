@@ -1,4 +1,5 @@
-//! Printers over stores in memory, from their first ledger on: labels, the bytes that are saved, and tickets.
+//! Printers over stores in memory, from their first ledger on: labels, the bytes that are saved, and tickets. And
+//! ledgers by their bytes, of both versions, sound and unsound.
 
 use dm_append_label::open_label;
 use dm_encodation::Scheme;
@@ -20,34 +21,20 @@ fn created(rt: &impl Abort, alloc: Global, number: u16, first: u16, last: u16) -
     created.ok().expect(rt, "it is created")
 }
 
-// The printer of a number over what its store holds.
-fn opened(rt: &impl Abort, alloc: Global, number: u16, store: MemStore) -> MemPrinter {
-    let opened = Printer::open(alloc, store, number);
-    opened.ok().expect(rt, "it is opened")
-}
-
 // As `Printer::print`, of labels of side 12 in ASCII. These calls have no contract, so that a test which makes many of
 // them is proved in little time.
 fn print(printer: &mut MemPrinter, document: &[u8]) -> Result<Job, PrintFault> {
     printer.print(document, Size::Side12, Scheme::Ascii)
 }
 
-// The ticket of a range, by its bytes.
-fn give(
-    printer: &mut MemPrinter,
-    receiver: u16,
-    first: u16,
-    last: u16,
-) -> Result<[u8; 10], GiveFault> {
-    Ok(printer.give(receiver, Range { first, last })?.bytes())
+// The ticket of a range for a receiver, by its bytes.
+fn give(printer: &mut MemPrinter, to: u16, first: u16, last: u16) -> Result<[u8; 10], GiveFault> {
+    Ok(printer.give(to, Range { first, last })?.bytes())
 }
 
 // Whether ten bytes are a ticket's that is taken, or refused so.
 fn is_taken(printer: &mut MemPrinter, bytes: &[u8; 10], answer: Result<(), TakeFault>) -> bool {
-    match Ticket::of_bytes(bytes) {
-        Some(ticket) => printer.take(&ticket) == answer,
-        None => false,
-    }
+    Ticket::of_bytes(bytes).is_some_and(|ticket| printer.take(&ticket) == answer)
 }
 
 // Whether the labels of a job are those of its document, in order.
@@ -76,7 +63,8 @@ fn documents_are_printed(rt: HostRuntime) -> Result<(), Fail> {
     let store = printer.close();
     let saved = b"DMLG\x02\x00\x07\x00\x00\x01\xfc\x03\xfc\x03\x00\xff\xfe";
     assert!(rt; store.content() == Some(saved.as_slice()));
-    let mut printer = opened(&rt, rt.alloc(), 7, store);
+    let opened = Printer::open(rt.alloc(), store, 7);
+    let mut printer = opened.ok().expect(&rt, "it is opened");
     assert!(rt; print(&mut printer, b"")?.id().number() == 64_515);
     assert!(rt; print(&mut printer, b"").err() == Some(PrintFault::Exhausted));
     Ok(())
@@ -144,4 +132,58 @@ fn what_cannot_be_given_or_taken(rt: HostRuntime) {
     for (bytes, fault) in NOT_TAKEN {
         assert!(rt; is_taken(&mut printer, &bytes, Err(fault)), "{bytes:?}");
     }
+}
+
+// How many numbers are free to the printer 7 of a store, or why it is refused.
+fn opened(alloc: Global, store: MemStore) -> Result<u32, OpenFault> {
+    match Printer::open(alloc, store, 7) {
+        Ok(printer) => Ok(printer.left()),
+        Err(refused) => Err(refused.fault),
+    }
+}
+
+const DAMAGED: Result<u32, OpenFault> = Err(OpenFault::Damaged);
+
+#[rattlefmt::skip]
+const LEDGERS: [(&[u8], Result<u32, OpenFault>); 26] = [
+    (b"", Err(OpenFault::NotALedger)),
+    (b"DML", Err(OpenFault::NotALedger)),
+    (b"DMPG\x02", Err(OpenFault::NotALedger)),
+    (b"DMLG", DAMAGED),
+    (b"DMLG\x03", Err(OpenFault::Version)),
+    (b"DMLG\x00", Err(OpenFault::Version)),
+    // Version 1: sound, and used up.
+    (b"DMLG\x01\x00\x00\x00\x09\x00\x01\xff\xfe", Ok(9)),
+    (b"DMLG\x01\x00\x00\x00\x09\x00\x0a\xff\xf5", Ok(0)),
+    // 12 and 14 bytes, a wrong check, a next number that is out of the range, no range, a great number.
+    (b"DMLG\x01\x00\x00\x00\x09\x00\x01\xff", DAMAGED),
+    (b"DMLG\x01\x00\x00\x00\x09\x00\x01\xff\xfe\x00", DAMAGED),
+    (b"DMLG\x01\x00\x00\x00\x09\x00\x01\xff\xff", DAMAGED),
+    (b"DMLG\x01\x00\x00\x00\x09\x00\x0b\xff\xf4", DAMAGED),
+    (b"DMLG\x01\x00\x02\x00\x09\x00\x01\xff\xfe", DAMAGED),
+    (b"DMLG\x01\x00\x09\x00\x08\x00\x09\xff\xf6", DAMAGED),
+    (b"DMLG\x01\xfc\x04\xfc\x04\xfc\x04\x03\xfb", DAMAGED),
+    // Version 2: another number, and with a wrong check; ranges that touch, that meet, that fall, and that don't.
+    (b"DMLG\x02\x00\x08\x00\x00\x00\x00\xff\xff", Err(OpenFault::Number)),
+    (b"DMLG\x02\x00\x08\x00\x00\x00\x00\xff\xfe", DAMAGED),
+    (b"DMLG\x02\x00\x07\x00\x00\x02\x00\x02\x00\x09\x00\x0a\x00\x0b\x00\xff\xf5", DAMAGED),
+    (b"DMLG\x02\x00\x07\x00\x00\x02\x00\x02\x00\x09\x00\x09\x00\x0b\x00\xff\xf4", DAMAGED),
+    (b"DMLG\x02\x00\x07\x00\x00\x02\x00\x0b\x00\x0c\x00\x02\x00\x09\x00\xff\xf5", DAMAGED),
+    (b"DMLG\x02\x00\x07\x00\x00\x02\x00\x02\x00\x09\x00\x0b\x00\x0c\x00\xff\xf5", Ok(10)),
+    // No range, a great number, no free number, givers that rise, and that don't.
+    (b"DMLG\x02\x00\x07\x00\x00\x01\x00\x09\x00\x02\x00\xff\xff", DAMAGED),
+    (b"DMLG\x02\x00\x07\x00\x00\x01\xfc\x04\xfc\x04\x00\xff\xfe", DAMAGED),
+    (b"DMLG\x02\x00\x07\xff\xff\x00\x00\xff\xff", Ok(0)),
+    (b"DMLG\x02\x00\x07\x00\x00\x00\x02\x00\x01\x00\x05\x00\x02\x00\x00\xff\xff", Ok(0)),
+    (b"DMLG\x02\x00\x07\x00\x00\x00\x02\x00\x02\x00\x05\x00\x02\x00\x06\xff\xff", DAMAGED),
+];
+
+#[test]
+fn ledgers_of_both_versions(rt: HostRuntime) -> Result<(), Fail> {
+    for (bytes, answer) in LEDGERS {
+        let store = MemStore::with(rt.alloc(), bytes.to_vec(rt.alloc())?);
+        assert!(rt; opened(rt.alloc(), store) == answer, "{bytes:?}");
+    }
+    assert!(rt; opened(rt.alloc(), MemStore::new(rt.alloc())) == Err(OpenFault::Absent));
+    Ok(())
 }

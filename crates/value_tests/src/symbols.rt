@@ -1,4 +1,5 @@
 //! Whole symbols, drawn and read.
+#![tactic(auto, unfolding(dm_size::specs::Sizes::row))]
 
 use crate::worked::{WORDS, flip_all, is_worked_example};
 use dm_finder_frame::Grid;
@@ -10,16 +11,14 @@ use std::test::Fail;
 
 // Whether a reader reads these words.
 fn reads(alloc: Global, reader: &mut SymbolReader, grid: &Grid, words: &[u8]) -> bool {
-    match reader.read(alloc, grid) {
-        Ok(symbol) => symbol.words() == words,
-        Err(_) => false,
-    }
+    reader
+        .read(alloc, grid)
+        .is_ok_and(|symbol| symbol.words() == words)
 }
 
 // Two words of eight are wrong: modules (2, 2) and (6, 6) stand in two words, (0, 1) and (9, 3) on the frame. One
 // reader reads that symbol, one of another size, and the first again.
 #[test]
-#[tactic(auto, unfolding(dm_size::specs::Sizes::row))]
 fn symbols_are_drawn_and_read(rt: HostRuntime) -> Result<(), Fail> {
     let layout = Layout::of_size(rt.alloc(), Size::Side10)?;
     let mut grid = draw_symbol(rt.alloc(), &layout, &WORDS[..3])?;
@@ -36,15 +35,9 @@ fn symbols_are_drawn_and_read(rt: HostRuntime) -> Result<(), Fail> {
     Ok(())
 }
 
-// Whether a grid is refused so.
-fn is_refused(alloc: Global, grid: &Grid, fault: SymbolFault) -> bool {
-    correct_grid(alloc, grid).err() == Some(fault)
-}
-
 // Flips in two words and on the frame, and in four words. Where all modules are light, 27 of the 36 on the frame are
 // wrong, and where all are dark the other 9.
 #[test]
-#[tactic(auto, unfolding(dm_size::specs::Sizes::row))]
 fn grids_are_near_or_refused(rt: HostRuntime) -> Result<(), Fail> {
     let layout = Layout::of_size(rt.alloc(), Size::Side10)?;
     let drawn = draw_words(rt.alloc(), &layout, &WORDS)?;
@@ -54,10 +47,10 @@ fn grids_are_near_or_refused(rt: HostRuntime) -> Result<(), Fail> {
     let four = [(1, 1), (2, 2), (4, 4), (6, 6)];
     assert!(rt; !still_near(rt.alloc(), &drawn, &four)?);
     let spoiled = drawn.with_flips(rt.alloc(), &four)?;
-    assert!(rt; is_refused(rt.alloc(), &spoiled, SymbolFault::Block { block: 0 }));
+    assert!(rt; correct_grid(rt.alloc(), &spoiled).err() == Some(SymbolFault::Block { block: 0 }));
     for (dark, wrong) in [(false, 27), (true, 9)] {
         let plain = Grid::of_modules(rt.alloc(), 10, &[dark; 100])?;
-        assert!(rt; is_refused(rt.alloc(), &plain, SymbolFault::Border { wrong }));
+        assert!(rt; correct_grid(rt.alloc(), &plain).err() == Some(SymbolFault::Border { wrong }));
     }
     Ok(())
 }

@@ -6,43 +6,37 @@ use dm_finder_frame::Grid;
 pub(crate) const WORDS: [u8; 8] = [142, 164, 186, 114, 25, 5, 88, 102];
 
 // The modules of the whole symbol, row by row.
-const MODULES: [[u8; 10]; 10] = [
-    *b"1010101010",
-    *b"1100101101",
-    *b"1100000100",
-    *b"1100011101",
-    *b"1100001000",
-    *b"1000001111",
-    *b"1110110000",
-    *b"1111011001",
-    *b"1001110100",
-    *b"1111111111",
-];
+const MODULES: &[u8] = b"\
+    1010101010\
+    1100101101\
+    1100000100\
+    1100011101\
+    1100001000\
+    1000001111\
+    1110110000\
+    1111011001\
+    1001110100\
+    1111111111";
 
 /// Its modules as a grid has them, row by row.
 pub(crate) fn worked_modules() -> [bool; 100] {
     let mut modules = [false; 100];
-    for row in 0..10usize {
-        for column in 0..10usize {
-            modules[10 * row + column] = MODULES[row][column] == b'1';
-        }
+    for (module, digit) in modules.iter_mut().zip(MODULES.iter()) {
+        *module = *digit == b'1';
     }
     modules
 }
 
 /// Whether a grid is that symbol.
 pub(crate) fn is_worked_example(grid: &Grid) -> bool {
-    for (row, wanted) in (0..).zip(MODULES.iter()) {
-        if row >= grid.side() {
+    let modules = worked_modules();
+    for row in 0..10u16 {
+        let start = 10 * row as usize;
+        if grid.side() != 10 || grid.row(row) != &modules[start..start + 10] {
             return false;
         }
-        for (module, dark) in grid.row(row).iter().zip(wanted.iter()) {
-            if *module != (*dark == b'1') {
-                return false;
-            }
-        }
     }
-    grid.side() == 10
+    true
 }
 
 /// Flips modules, by row and column; those outside the grid are passed over.

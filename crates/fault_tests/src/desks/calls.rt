@@ -149,13 +149,11 @@ fn opened<'a>(rt: &impl Abort, memory: &'a Memory, set: FusedSet<'a>) -> FusedDe
 fn made_again<'a>(
     rt: &impl Abort,
     way: &Way<'a>,
-    desk: FusedDesk<'a>,
-    row: &Row,
+    mut desk: FusedDesk<'a>,
+    (call, wanted, again, after): &Row,
     before: &Files,
     answer: &str,
 ) -> FusedDesk<'a> {
-    let mut desk = desk;
-    let (call, wanted, again, after) = row;
     assert!(rt; holds_both(&desk, way, before));
     if answer == "Save" {
         assert!(rt; made(&mut desk, way, call) == "Failed");
@@ -163,13 +161,9 @@ fn made_again<'a>(
     } else {
         assert!(rt; answer == "Memory");
     }
-    if answer == "Save" && way.kept == Kept::New {
-        assert!(rt; holds_both(&desk, way, after));
-        assert!(rt; made(&mut desk, way, call) == *again);
-    } else {
-        assert!(rt; holds_both(&desk, way, before));
-        assert!(rt; made(&mut desk, way, call) == *wanted);
-    }
+    let is_saved = answer == "Save" && way.kept == Kept::New;
+    assert!(rt; holds_both(&desk, way, if is_saved { after } else { before }));
+    assert!(rt; made(&mut desk, way, call) == if is_saved { *again } else { *wanted });
     desk
 }
 
@@ -216,10 +210,8 @@ fn sealed(memory: &Memory, m: u8) -> Option<Label<'_>> {
 
 // The same, made again where one growth was refused.
 fn label<'a>(rt: &impl Abort, memory: &'a Memory, m: u8) -> Label<'a> {
-    match sealed(memory, m) {
-        Some(label) => label,
-        None => sealed(memory, m).expect(rt, "a label"),
-    }
+    let label = sealed(memory, m).or_else(|| sealed(memory, m));
+    label.expect(rt, "a label")
 }
 
 fn way_of<'a>(rt: &impl Abort, memory: &'a Memory, kept: Kept) -> Way<'a> {

@@ -28,10 +28,7 @@ fn moved<'a>(
     old: &mut FusedStore<'a>,
     set: &mut FusedSet<'a>,
 ) -> Result<u16, &'static str> {
-    match move_pages(memory, old, set) {
-        Ok(written) => Ok(written),
-        Err(fault) => Err(fault.name()),
-    }
+    move_pages(memory, old, set).map_err(|fault| fault.name())
 }
 
 // How many of the two documents the set holds, where all others are in the old store; a file of other bytes is none.

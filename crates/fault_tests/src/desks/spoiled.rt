@@ -25,18 +25,13 @@ fn after_version(file: &[u8]) -> &[u8] {
 }
 
 // How many keys a set has.
-fn keys_of(set: MemSet) -> Option<u32> {
-    let mut set = set;
+fn keys_of(mut set: MemSet) -> Option<u32> {
     let keys = set.keys(65_535).ok()?;
     u32::try_from(keys.len()).ok()
 }
 
 fn sound_if(is_right: bool) -> &'static str {
-    if is_right {
-        "sound"
-    } else {
-        "another document"
-    }
+    if is_right { "sound" } else { "another file" }
 }
 
 // Whether a desk holds the document of a sound file, each page of it, and no other.
@@ -67,17 +62,11 @@ fn opened(alloc: Global, file: &[u8]) -> &'static str {
         return "no memory";
     }
     let (name, set) = match Desk::open(alloc, set, 4) {
-        Ok(desk) => {
-            let name = sound_if(holds(&desk, file));
-            (name, desk.close())
-        }
+        Ok(desk) => (sound_if(holds(&desk, file)), desk.close()),
         Err(refused) => (refused.fault.name(), refused.store),
     };
-    if set.content(KEY) == Some(file) {
-        name
-    } else {
-        "other bytes"
-    }
+    let is_kept = set.content(KEY) == Some(file);
+    if is_kept { name } else { "other bytes" }
 }
 
 // Whether the answer to an import by a desk that held nothing is that to this sound file.
@@ -99,12 +88,8 @@ fn imported(alloc: Global, file: &[u8]) -> &'static str {
         Ok(imported) => sound_if(is_answer(imported, file) && holds(&desk, file)),
         Err(fault) => fault.name(),
     };
-    let is_saved = keys_of(desk.close()) == Some(1);
-    if is_saved == (name == "sound") {
-        name
-    } else {
-        "another set"
-    }
+    let is_right = (keys_of(desk.close()) == Some(1)) == (name == "sound");
+    if is_right { name } else { "another set" }
 }
 
 // Whether a set has just the files of the documents of a sound joint file.

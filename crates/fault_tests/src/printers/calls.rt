@@ -75,11 +75,9 @@ fn made(printer: &mut FusedPrinter<'_>, call: &Call) -> &'static str {
             Ok(_) => "another ticket",
             Err(fault) => fault.name(),
         },
-        Call::Take => match Ticket::of_bytes(&TAKEN) {
-            Some(ticket) => match printer.take(&ticket) {
-                Ok(()) => "done",
-                Err(fault) => fault.name(),
-            },
+        Call::Take => match Ticket::of_bytes(&TAKEN).map(|ticket| printer.take(&ticket)) {
+            Some(Ok(())) => "done",
+            Some(Err(fault)) => fault.name(),
             None => "no ticket",
         },
     }
@@ -134,34 +132,27 @@ fn created<'a>(
 
 // How a row is tried: the memory of its printer, what a stopped save leaves, and whether a printer that was refused
 // memory is opened again too.
-#[derive(Drop)]
-struct Way<'a> {
-    memory: &'a Memory,
-    kept: Kept,
-    is_reopened: bool,
-}
+type Way<'a> = (&'a Memory, Kept, bool);
 
 // The printer after a row whose call had this other answer at first, and before which this was saved.
 fn made_again<'a>(
     rt: &impl Abort,
-    way: &Way<'a>,
-    printer: FusedPrinter<'a>,
-    row: &Row,
+    (memory, kept, is_reopened): Way<'a>,
+    mut printer: FusedPrinter<'a>,
+    (call, again, after): &Row,
     before: &[u8],
     answer: &str,
 ) -> FusedPrinter<'a> {
-    let mut printer = printer;
-    let (call, again, after) = row;
     let is_save = answer == "Save";
-    let is_saved = is_save && way.kept == Kept::New;
+    let is_saved = is_save && kept == Kept::New;
     if is_save {
         assert!(rt; made(&mut printer, call) == "Failed");
     } else {
         assert!(rt; answer == "Memory");
     }
-    if is_save || way.is_reopened {
+    if is_save || is_reopened {
         let saved = if is_saved { *after } else { before };
-        printer = opened(rt, way.memory, printer.close(), saved);
+        printer = opened(rt, memory, printer.close(), saved);
     }
     let wanted = if is_saved { *again } else { Some("done") };
     if let Some(wanted) = wanted {
@@ -172,13 +163,13 @@ fn made_again<'a>(
 
 // All calls over a store that stops after that many device calls: the place of the row that was not done at first, if
 // there is one.
-fn run(rt: &impl Abort, way: &Way<'_>, passes: u32) -> Option<usize> {
-    let store = FuseStore::new(MemStore::new(way.memory), passes, way.kept);
-    let is_saved = passes == 1 && way.kept == Kept::New;
-    let printer = created(rt, way.memory, store, is_saved);
-    let mut printer = match Printer::open(way.memory, printer.close(), 0) {
+fn run(rt: &impl Abort, way: Way<'_>, passes: u32) -> Option<usize> {
+    let (memory, kept, _) = way;
+    let store = FuseStore::new(MemStore::new(memory), passes, kept);
+    let printer = created(rt, memory, store, passes == 1 && kept == Kept::New);
+    let mut printer = match Printer::open(memory, printer.close(), 0) {
         Ok(printer) => printer,
-        Err(refused) => opened(rt, way.memory, refused.store, CREATED),
+        Err(refused) => opened(rt, memory, refused.store, CREATED),
     };
     let mut before = CREATED;
     let mut stopped = None;
@@ -199,18 +190,14 @@ fn run(rt: &impl Abort, way: &Way<'_>, passes: u32) -> Option<usize> {
 fn the_store_stops_at_each_call(rt: HostRuntime) {
     let memory = Refusing::new(rt.alloc(), u64::MAX);
     for kept in [Kept::Old, Kept::New] {
-        let way = Way {
-            memory: &memory,
-            kept,
-            is_reopened: false,
-        };
+        let way = (&memory, kept, false);
         for passes in 0..3 {
-            assert!(rt; run(&rt, &way, passes).is_none());
+            assert!(rt; run(&rt, way, passes).is_none());
         }
         for place in 0..ROWS.len() {
-            assert!(rt; run(&rt, &way, 3 + place as u32) == Some(place));
+            assert!(rt; run(&rt, way, 3 + place as u32) == Some(place));
         }
-        assert!(rt; run(&rt, &way, MANY).is_none());
+        assert!(rt; run(&rt, way, MANY).is_none());
     }
 }
 
@@ -221,12 +208,7 @@ fn each_growth_is_refused(rt: HostRuntime) {
         for passes in 0..=MANY {
             assert!(rt; passes < MANY);
             let memory = Refusing::new(rt.alloc(), u64::from(passes));
-            let way = Way {
-                memory: &memory,
-                kept: Kept::Old,
-                is_reopened,
-            };
-            if let Some(place) = run(&rt, &way, MANY) {
+            if let Some(place) = run(&rt, (&memory, Kept::Old, is_reopened), MANY) {
                 assert!(rt; memory.is_spent());
                 if let Some(count) = refusals.get_mut(place) {
                     *count = count.saturating_add(1);

@@ -60,8 +60,7 @@ fn goes_on(ledger: &[u8], saved: &[u8]) -> bool {
 
 // `opened`, if the printer of a sound ledger of version 2 has its numbers, gives the least of them away, and saves all
 // else as it was.
-fn given(printer: Printer<MemStore>, ledger: &[u8]) -> &'static str {
-    let mut printer = printer;
+fn given(mut printer: Printer<MemStore>, ledger: &[u8]) -> &'static str {
     let check = number(ledger, ledger.len().saturating_sub(2));
     let left = 65_535u32.saturating_sub(check);
     let has_all = printer.left() == left;
@@ -83,11 +82,9 @@ fn open(alloc: Global, ledger: &[u8]) -> Result<&'static str, AllocError> {
     Ok(match Printer::open(alloc, store, 7) {
         Ok(printer) => given(printer, &second),
         Err(refused) => {
-            if refused.store.content() == Some(ledger) {
-                refused.fault.name()
-            } else {
-                "other bytes"
-            }
+            let name = refused.fault.name();
+            let is_kept = refused.store.content() == Some(ledger);
+            if is_kept { name } else { "other bytes" }
         }
     })
 }
@@ -170,10 +167,8 @@ fn take(alloc: Global, bytes: &[u8]) -> Result<&'static str, AllocError> {
         Ok(()) => "taken",
         Err(fault) => fault.name(),
     };
-    let left = number(bytes, 8)
-        .saturating_add(10)
-        .saturating_sub(number(bytes, 6));
-    let has_more = printer.left() == left;
+    let (first, last) = (number(bytes, 6), number(bytes, 8));
+    let has_more = printer.left() == last.saturating_add(10).saturating_sub(first);
     let store = printer.close();
     let saved = store.content().unwrap_or(b"");
     let is_right = if name == "taken" {
@@ -181,12 +176,8 @@ fn take(alloc: Global, bytes: &[u8]) -> Result<&'static str, AllocError> {
     } else {
         saved == LEDGER
     };
-    let is_same = ticket.bytes().as_slice() == bytes;
-    Ok(if is_same && is_right {
-        name
-    } else {
-        "other bytes"
-    })
+    let is_right = is_right && ticket.bytes().as_slice() == bytes;
+    Ok(if is_right { name } else { "other bytes" })
 }
 
 // The counts are those of a reader in another language.
