@@ -1,14 +1,15 @@
 -- What the verdict on pages says, and what is held where they are added.
 use Rattle.std.proofs.Common.{◌≡◌, ℕ, ◌+◌, ◌*◌, ◌<◌, ◌≤◌, Bool, true, false, cond, leb, List, [], ◌∷◌, length, Option, Some, None, Result, Ok, Err, sym, ap, subst, ◌∙◌, arith}
-use Rattle.std.specs.Prelude.{◌≢◌, not, is_some, IfSome, unwrap_or}
+use Rattle.std.specs.Prelude.{◌≢◌, not, is_some, if◌then◌else◌, IfSome, unwrap_or}
 use Rattle.std.specs.List.{AllByRecursion, list_all}
+use Rattle.std.proofs.lemmas.Bool.{eq-eqb, ne_eqb}
 use Rattle.std.specs.Cmp.{nat_cmp_total}
 use Rattle.std.specs.Option.{option_or}
 use Rattle.std.specs.Ordering.{nat_cmp, eq_by_cmp}
 use Rattle.std.specs.FinMap.{get, len, get-insert}
 use Rattle.dm_store.specs.Saved.{Outcome}
 use Rattle.dm_assembly_desk.specs.Documents.{Pages, page, mask, IsEntry, IsShort, Documents, AreEntries, own_pages, page_at, KeepsPages, DeskView, union_of, added_mask}
-use Rattle.dm_assembly_desk.specs.Adding.{Carries, Ends, answer_by, add_kind, pages_with, with_pages, reply_of, verdict_by, Adds}
+use Rattle.dm_assembly_desk.specs.Adding.{Carries, Ends, JudgedAs, answer_by, add_kind, kind_of, pages_with, with_pages, reply_of, verdict_by, Adds}
 use Rattle.dm_assembly_desk.specs.declared.reply.Kind.{Kind}
 use Rattle.dm_assembly_desk.specs.declared.reply.Kind.TheVariants.{New, Again, Complete}
 use Rattle.dm_assembly_desk.specs.declared.reply.Imported.{Imported}
@@ -35,6 +36,21 @@ module _ (capacity : ℕ) (held : Documents) (id : ℕ) (given : Pages) (kind : 
   -- some are added: there is room for the document, or it is held
   pub room : kind ≢ Again → get held id ≡ None → len held < capacity
   room other = grind arith
+
+-- the kind, by whether no page is added
+abbrev kind_by : Pages → Bool → Result Kind AddFault
+kind_by all none = Ok (if none then Again else kind_of all)
+
+module _ (capacity : ℕ) (held : Documents) (id : ℕ) (given : Pages) (added : ℕ)
+    (judged : JudgedAs capacity held id given (Ok added)) where
+  pub judged_again : added ≡ 0 → add_kind capacity held id given ≡ Ok Again
+  judged_again none = judged.1 ∙ ap (kind_by (pages_with held id given)) (eq-eqb added 0 none)
+
+  pub judged_some : added ≢ 0 → add_kind capacity held id given ≡ Ok (kind_of (pages_with held id given))
+  judged_some some = judged.1 ∙ ap (kind_by (pages_with held id given)) (ne_eqb added 0 some)
+
+pub never_again : (all : Pages) → kind_of all ≢ Again
+never_again all is = grind arith
 
 -- what a kind says of the pages that are held and those that are given
 abbrev pub KindSays : Kind → Pages → Pages → Type 0

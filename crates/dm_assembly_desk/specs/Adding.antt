@@ -108,6 +108,12 @@ add_kind capacity held id pages =
     if is_none (map.get held id) && nat_le capacity (map.len held) then Err adds.Full else
     Ok (kind_of (pages_with held id pages))
 
+-- which pages are added, or why none are, as the first of these says that applies
+abbrev pub JudgedAs : ℕ → Documents → ℕ → Pages → Result ℕ AddFault → Type 0
+JudgedAs capacity held id pages (Ok added) = (added ≡ added_to held id pages)
+    × (add_kind capacity held id pages ≡ Ok (if added == 0 then Again else kind_of (pages_with held id pages)))
+JudgedAs capacity held id pages (Err fault) = add_kind capacity held id pages ≡ Err fault
+
 abbrev pub reply_of : Documents → ℕ → Pages → Kind → Imported
 reply_of held id pages kind = record { id = id; n = length pages; added = added_to held id pages; kind = kind }
 

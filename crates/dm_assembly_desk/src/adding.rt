@@ -7,14 +7,14 @@ ghost use Rattle.std.specs.FinMap as map;
 ghost use Rattle.std.specs.Option.{option_copied};
 ghost use Rattle.dm_store.specs.Saved.{outcome_of, SavesKey};
 ghost use Rattle.dm_assembly_desk.specs.Documents.{lent_bytes, file, IsEntry, union_of};
-ghost use Rattle.dm_assembly_desk.specs.Adding.{kind_of, add_kind};
+ghost use Rattle.dm_assembly_desk.specs.Adding.{kind_of, JudgedAs};
 ghost use Rattle.dm_assembly_desk.specs.Faults.{keep_fault};
 
 use crate::desk::Desk;
 use crate::document::Document;
 use crate::documents::{Documents, give};
 use crate::file::write_file;
-use crate::merging::{added_of, are_all_held, may_join, merge};
+use crate::merging::{added_of, may_join, merge};
 use crate::reply::{Imported, Kind};
 use dm_append_label::FileId;
 use dm_store::{StoreFault, StoreSet};
@@ -57,23 +57,23 @@ impl<S: StoreSet, A: Allocator + Copy> Desk<S, A> {
         ensures adds { Adds id (each lent_bytes pages.now) self.old result self.new }
         ensures after { IsInOrder self.new }
     {
-        let kind = judge(&self.documents, self.capacity, id, pages)?;
+        let added = judge(&self.documents, self.capacity, id, pages)?;
         let Some(file_id) = FileId::of_number(id) else {
             unreachable!()
         };
-        let held = self.documents.get(id);
-        let reply = Imported {
+        let mut reply = Imported {
             id: file_id,
             n: pages.len() as u8,
-            added: added_of(held, pages),
-            kind,
+            added,
+            kind: Kind::Again,
         };
-        if kind == Kind::Again {
+        if added == 0 {
             return Ok(reply);
         }
-        let Ok(document) = merged_copy(self.alloc, held, pages) else {
+        let Ok(document) = merged_copy(self.alloc, self.documents.get(id), pages) else {
             return Err(AddFault::Memory);
         };
+        reply.kind = kind_with(&document);
         match self.hold(id, document) {
             Ok(()) => Ok(reply),
             Err(fault) => Err(AddFault::from(fault)),
@@ -100,14 +100,11 @@ impl<S: StoreSet, A: Allocator + Copy> Desk<S, A> {
     }
 }
 
-// What pages are that add some to those that are held.
-fn kind_with<A: Allocator>(held: Option<&Document<A>>, pages: &[Option<&[u8]>]) -> Kind
-    requires room { length pages.now ≤ 16 }
-    requires short { length (unwrap_or (option_copied held) []) ≤ length pages.now }
-    ensures { result ≡ kind_of (union_of (unwrap_or (option_copied held.entry) []) (each lent_bytes pages.now)) }
+// What pages are that were added to a document.
+fn kind_with<A: Allocator>(document: &Document<A>) -> Kind
+    ensures { result ≡ kind_of document.now }
 {
-    let all = merge(held, pages);
-    if are_all_held(all.as_slice()) {
+    if document.is_complete() {
         Kind::Complete
     } else {
         Kind::New
@@ -129,27 +126,25 @@ fn merged_copy<A: Allocator + Copy>(
     Document::copy_of(alloc, all.as_slice())
 }
 
-// The answer to the pages of a document where their save is done.
+// Which pages of a document are added where their save is done, or why none are.
 fn judge<A: Allocator + Copy>(
     documents: &Documents<A>,
     capacity: u16,
     id: u16,
     pages: &[Option<&[u8]>],
-) -> Result<Kind, AddFault>
+) -> Result<u16, AddFault>
     requires { length pages.now ≤ 16 }
-    ensures { result ≡ add_kind capacity documents.now id (each lent_bytes pages.now) }
+    ensures { JudgedAs capacity documents.now id (each lent_bytes pages.now) result }
 {
     let held = documents.get(id);
     if !may_join(held, pages) {
         return Err(AddFault::Conflict);
     }
-    if added_of(held, pages) == 0 {
-        return Ok(Kind::Again);
-    }
-    if held.is_none() && capacity as usize <= documents.len() {
+    let added = added_of(held, pages);
+    if added > 0 && held.is_none() && capacity as usize <= documents.len() {
         return Err(AddFault::Full);
     }
-    Ok(kind_with(held, pages))
+    Ok(added)
 }
 
 // Holds these pages of a document from now on, and saves its file. Where that fails, what was held is held.

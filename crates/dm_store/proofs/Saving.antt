@@ -84,7 +84,7 @@ module _ (old new : DiskState) (name draft : List ℕ) (wanted : Content) where
           synced = λ _. entry.synced on;
           left = λ content leaves. puts.left content (entry.left content leaves);
         };
-        lasting = λ done content leaves. syncs.done done on content leaves ∙ puts.done ok;
+        lasting = λ done. syncs done on;
       }
 
   -- calls on the draft come before a save

@@ -73,23 +73,21 @@ pub record Puts (old : DiskState) (name draft : List ℕ) (wanted : Content) (an
 abbrev pub Removes : DiskState → List ℕ → Result (Unit {0}) StoreFault → DiskState → Type 0
 Removes old name answer new = Puts old name name None answer new
 
--- The entry of the name in its folder is brought to the disk, or the want of one. If the file's bytes are there too, a
--- stop then leaves just what a reader finds.
-pub record SyncsEntry (old : DiskState) (name : List ℕ) (answer : Result (Unit {0}) StoreFault) (new : DiskState)
-    : Type 0 where
-  pub done : IsOk answer → old.is_synced name
-      → (content : Content) → new.may_leave name content → content ≡ old.seen name
-
 -- a stop leaves under this name just what a reader finds
 abbrev pub IsSettled : DiskState → List ℕ → Type 0
 IsSettled disk name = (content : Content) → disk.may_leave name content → content ≡ disk.seen name
+
+-- The entry of the name in its folder is brought to the disk, or the want of one. If the file's bytes are there too, it
+-- is settled then.
+abbrev pub SyncsEntry : DiskState → List ℕ → Result (Unit {0}) StoreFault → DiskState → Type 0
+SyncsEntry old name answer new = IsOk answer → old.is_synced name → IsSettled new name
 
 -- A save of this content under a name by way of a draft, or a remove, done or not. A stop in it, or after it, leaves
 -- what it might have left before, or this content; and once it is done, this content alone. No third name is touched.
 pub record SavesFile (old : DiskState) (name draft : List ℕ) (wanted : Content) (answer : Result (Unit {0}) StoreFault)
     (new : DiskState) : Type 0 where
   pub puts : Puts old name draft wanted answer new
-  pub lasting : IsOk answer → (content : Content) → new.may_leave name content → content ≡ wanted
+  pub lasting : IsOk answer → IsSettled new name
 
 -- the name of the draft that a save under this name is written to first
 abbrev pub draft_of : List ℕ → List ℕ
@@ -109,11 +107,9 @@ key_name key =
 abbrev pub key_path : List ℕ → ℕ → List ℕ
 key_path folder key = path_in folder (key_name key)
 
--- The entries of a folder are brought to the disk. If the bytes of a key's file are there too, a stop then leaves just
--- what a reader finds.
+-- the entry of each key's file in a folder is brought to the disk
 abbrev pub SettlesFolder : DiskState → List ℕ → Result (Unit {0}) StoreFault → DiskState → Type 0
-SettlesFolder old folder answer new = IsOk answer → (key : ℕ) → key < 2 ^ 16 → old.is_synced (key_path folder key)
-    → (content : Content) → new.may_leave (key_path folder key) content → content ≡ old.seen (key_path folder key)
+SettlesFolder old folder answer new = (key : ℕ) → key < 2 ^ 16 → SyncsEntry old (key_path folder key) answer new
 
 -- the map with what is found at a key
 abbrev pub with_found : Contents → ℕ → Content → Contents

@@ -76,7 +76,10 @@ impl<D: Folders, A: Allocator> StoreSet for Filed<D, AtFolder, A> {
         ensures folder { self.new.path ≡ self.old.path }
         ensures kept { KeepsAll (D.state self.old.disk) (D.state self.new.disk) }
     {
-        self.disk.keys(self.path.as_str(), limit)
+        let keys = self.disk.keys(self.path.as_str(), limit);
+        // A save of a key comes after the folder's own entry was brought to the disk.
+        self.kind.is_made |= matches!(&keys, Ok(keys) if !keys.is_empty());
+        keys
     }
 
     fn load(&mut self, key: u16, limit: usize) -> Result<Option<Vec<u8, D::Memory>>, StoreFault>

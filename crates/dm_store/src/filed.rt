@@ -22,8 +22,9 @@ use std::marker::Model;
 /// **A set.** The file of a key has the key as its name, in four lower-case hexadecimal digits, and is loaded and
 /// replaced as that of a store. Files of other names are not looked at. A folder that isn't there has no keys, and the
 /// first `replace` makes it (but not the folders that it lies in) and brings its entry to the disk, also if it is
-/// there. A `remove` takes the draft away first, and brings the key's entry to the disk, also if no file has it. Only
-/// `settle` brings those of all keys there: what `keys` and `load` gave before it, no stop takes back.
+/// there; if `keys` has found a key, a `replace` has done so before. A `remove` takes the draft away first, and brings
+/// the key's entry to the disk, also if no file has it. Only `settle` brings those of all keys there: what `keys` and
+/// `load` gave before it, no stop takes back.
 ///
 /// They take no memory but the disk's. A path that is longer than any that the system takes is a device fault.
 #[derive(Drop)]
@@ -40,7 +41,7 @@ pub struct AtFile;
 /// That a path is that of a folder.
 #[derive(Clone, Copy, Default)]
 pub struct AtFolder {
-    // Whether the set has made it, so that it need not make it again.
+    // Whether it is made, and its entry on the disk, by this set or by the saves of the keys that it has listed.
     pub(crate) is_made: bool,
 }
 

@@ -8,11 +8,12 @@ use std::os::unix::fs::{OpenOptionsExt, PermissionsExt};
 use std::rt::Files;
 use std::{fs, io};
 
-// What a load answers to an error of the file system.
-pub(crate) fn load_fault_of(error: &io::Error) -> StoreFault {
-    match error.kind() {
-        ErrorKind::OutOfMemory => StoreFault::Memory,
-        _ => StoreFault::Device,
+impl From<io::Error> for StoreFault {
+    fn from(error: io::Error) -> Self {
+        match error.kind() {
+            ErrorKind::OutOfMemory => StoreFault::Memory,
+            _ => StoreFault::Device,
+        }
     }
 }
 
@@ -48,29 +49,20 @@ pub(crate) fn load_file<R: Files, A: Allocator>(
     path: &str,
     limit: usize,
 ) -> Result<Option<Vec<u8, A>>, StoreFault> {
-    match is_plain_file(runtime, path) {
-        Ok(true) => {}
-        Ok(false) => return Ok(None),
-        Err(error) => return Err(load_fault_of(&error)),
+    if !is_plain_file(runtime, path)? {
+        return Ok(None);
     }
     let file = match open_at_once(runtime, path) {
-        Ok(file) => file,
-        Err(error) => {
-            return match error.kind() {
-                ErrorKind::NotFound => Ok(None),
-                _ => Err(load_fault_of(&error)),
-            };
-        }
+        Err(error) if error.kind() == ErrorKind::NotFound => return Ok(None),
+        opened => opened?,
     };
     if !matches!(file.metadata(), Ok(metadata) if metadata.is_file()) {
         return Err(StoreFault::Device);
     }
     let mut bytes = Vec::new(alloc);
     let most = (limit as u64).saturating_add(1);
-    match file.take(most).read_to_end(&mut bytes) {
-        Ok(_) => Ok(Some(bytes)),
-        Err(error) => Err(load_fault_of(&error)),
-    }
+    file.take(most).read_to_end(&mut bytes)?;
+    Ok(Some(bytes))
 }
 
 // Makes a file of its own at `path`. What stands there, as a link, a second name of another file, or what a stop has

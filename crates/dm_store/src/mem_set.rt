@@ -95,10 +95,7 @@ impl<A: Allocator + Copy> MemSet<A> {
     pub fn content(&self, key: u16) -> Option<&[u8]>
         ensures { option_map (λ bytes. bytes.now) result ≡ map.get self.now.content key }
     {
-        match self.held.get(key) {
-            Some(saved) => Some(saved.as_slice()),
-            None => None,
-        }
+        Some(self.held.get(key)?.as_slice())
     }
 }
 

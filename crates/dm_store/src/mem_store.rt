@@ -59,12 +59,9 @@ impl<A: Allocator + Copy> MemStore<A> {
     pub fn with(alloc: A, bytes: Vec<u8, A>) -> MemStore<A>
         ensures { result ≡ in_memory (Some bytes.items) false NextSave.Fine }
     {
-        MemStore {
-            alloc,
-            held: Some(bytes),
-            next_save: NextSave::Fine,
-            fails_loads: false,
-        }
+        let mut store = MemStore::new(alloc);
+        store.held = Some(bytes);
+        store
     }
 
     /// Sets what the next replace does, and that one alone. A replace refused for lack of memory leaves the setting.
@@ -85,10 +82,7 @@ impl<A: Allocator + Copy> MemStore<A> {
     pub fn content(&self) -> Option<&[u8]>
         ensures { option_map (λ bytes. bytes.now) result ≡ self.now.content }
     {
-        match &self.held {
-            Some(bytes) => Some(bytes.as_slice()),
-            None => None,
-        }
+        Some(self.held.as_ref()?.as_slice())
     }
 }
 

@@ -2,7 +2,7 @@
 //! [`Disk`] says is trusted, and this page is to be read.
 
 use crate::disk::{Disk, Folders};
-use crate::files::{load_fault_of, load_file, name_new, sync_folder, sync_folder_of, write_draft};
+use crate::files::{load_file, name_new, sync_folder, sync_folder_of, write_draft};
 use crate::key_files::{key_of, with_end};
 use crate::store::StoreFault;
 use std::alloc::{Allocator, Global};
@@ -59,28 +59,18 @@ fn keys_of<R: Files + Alloc + Clone + Drop, A: Allocator>(
 ) -> Result<Vec<u16, A>, StoreFault> {
     let mut keys = Vec::new(alloc);
     let entries = match read_dir(runtime, folder) {
-        Ok(entries) => entries,
-        Err(error) => {
-            return match error.kind() {
-                ErrorKind::NotFound => Ok(keys),
-                _ => Err(load_fault_of(&error)),
-            };
-        }
+        Err(error) if error.kind() == ErrorKind::NotFound => return Ok(keys),
+        entries => entries?,
     };
     let mut names: usize = 0;
     for entry in entries {
-        let entry = match entry {
-            Ok(entry) => entry,
-            Err(error) => return Err(load_fault_of(&error)),
-        };
+        let entry = entry?;
         if names >= MOST_NAMES {
             return Err(StoreFault::Device);
         }
         names += 1;
         if let Some(key) = key_of(entry.file_name().as_bytes()) {
-            if keys.push(key).is_err() {
-                return Err(StoreFault::Memory);
-            }
+            keys.push(key).map_err(|_| StoreFault::Memory)?;
         }
     }
     Ok(keys)
@@ -99,10 +89,7 @@ fn settled(ended: io::Result<()>) -> io::Result<()> {
 
 // What is answered to an error of the system.
 fn done(ended: io::Result<()>) -> Result<(), StoreFault> {
-    match ended {
-        Ok(()) => Ok(()),
-        Err(_) => Err(StoreFault::Device),
-    }
+    ended.map_err(|_| StoreFault::Device)
 }
 
 impl<R: Files, A: Allocator + Copy> Disk for RealDisk<'_, R, A> {
@@ -125,10 +112,7 @@ impl<R: Files, A: Allocator + Copy> Disk for RealDisk<'_, R, A> {
     }
 
     fn sync(&mut self, _name: &str) -> Result<(), StoreFault> {
-        match self.written.take() {
-            Some(file) => done(file.sync_all()),
-            None => Err(StoreFault::Device),
-        }
+        done(self.written.take().ok_or(StoreFault::Device)?.sync_all())
     }
 
     fn rename(&mut self, from: &str, to: &str) -> Result<(), StoreFault> {

@@ -12,7 +12,8 @@ pub enum Call {
     Load(usize),
     Replace,
     LoadKey(usize),
-    ReplaceKey,
+    // Whether the keys are listed first.
+    ReplaceKey(bool),
     RemoveKey,
     Settle,
     // The keys under a limit, and those that are wanted.
@@ -22,7 +23,7 @@ pub enum Call {
 impl Call {
     // Whether it saves nothing.
     pub fn is_load(self) -> bool {
-        !matches!(self, Call::Replace | Call::ReplaceKey | Call::RemoveKey)
+        !matches!(self, Call::Replace | Call::ReplaceKey(_) | Call::RemoveKey)
     }
 }
 
@@ -101,6 +102,10 @@ fn of_set<A: Allocator + Copy>(
         Call::RemoveKey => done(set.remove(1)),
         Call::Settle => done(set.settle()),
         Call::Keys(limit, wanted) => listed(set.keys(limit), wanted),
+        Call::ReplaceKey(true) => match set.keys(9) {
+            Ok(_) => done(set.replace(1, b"three")),
+            Err(fault) => done(Err(fault)),
+        },
         _ => done(set.replace(1, b"three")),
     }
 }

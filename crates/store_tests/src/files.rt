@@ -35,8 +35,9 @@ const CASES: &[Case] = &[
     (Call::LoadKey(0), "one", "one", "o", Steps::Any, 9),
     (Call::Load(9), "nothing", "nothing", "nothing", Steps::LoadNothing, 9),
     (Call::Replace, "one", "three", "done", Steps::Replace, 7),
-    (Call::ReplaceKey, "one", "three", "done", Steps::ReplaceKey, 10),
-    (Call::ReplaceKey, "nothing", "three", "done", Steps::ReplaceNothing, 9),
+    (Call::ReplaceKey(false), "one", "three", "done", Steps::ReplaceKey, 10),
+    (Call::ReplaceKey(true), "one", "three", "done", Steps::ReplaceListed, 10),
+    (Call::ReplaceKey(true), "nothing", "three", "done", Steps::ReplaceNothing, 10),
     (Call::RemoveKey, "one", "nothing", "done", Steps::Remove, 1),
     (Call::RemoveKey, "nothing", "nothing", "done", Steps::RemoveNothing, 0),
 ];
@@ -211,7 +212,7 @@ fn a_set_takes_the_names_in_any_order(rt: HostRuntime) -> Result<(), Fail> {
     let files = Scripted::new(rt.clone()?)?;
     for (names, times, keys, wanted) in LISTINGS.iter() {
         files.list(*names, *times);
-        assert!(rt; answer(&files, &memory, "pages", *keys) == *wanted);
+        assert!(rt; answer(&files, &memory, ".", *keys) == *wanted);
     }
     Ok(())
 }

@@ -26,6 +26,8 @@ pub enum Steps {
     Replace,
     // A set makes the folder first, whether it is there or not, and syncs the one above it.
     ReplaceKey,
+    // But not where it has listed a key.
+    ReplaceListed,
     ReplaceNothing,
     // A draft goes first.
     Remove,
@@ -53,9 +55,14 @@ impl Steps {
                 "make above/pages, open above/, sync, look pages/0001, open pages/0001.new, mode, \
                 write, write, write, sync, rename pages/0001.new, open above/pages/, sync"
             }
+            Steps::ReplaceListed => {
+                "list above/pages/, names, names, look pages/0001, open pages/0001.new, mode, \
+                write, write, write, sync, rename pages/0001.new, open above/pages/, sync"
+            }
             Steps::ReplaceNothing => {
-                "make above/pages, open above/, sync, look pages/0001, open pages/0001.new, write, \
-                write, write, sync, rename pages/0001.new, open above/pages/, sync"
+                "list above/pages/, make above/pages, open above/, sync, look pages/0001, \
+                open pages/0001.new, write, write, write, sync, rename pages/0001.new, \
+                open above/pages/, sync"
             }
             Steps::Remove => { "remove pages/0001.new, remove pages/0001, open above/pages/, sync" }
             Steps::RemoveNothing => {
@@ -268,6 +275,7 @@ impl Files for Scripted {
 
     fn open_dir(&self, path: &str) -> io::Result<Names> {
         self.script.comes("list", path)?;
+        self.system.metadata(path)?;
         Ok(Names {
             script: self.script.clone()?,
             left: self.script.times.get(),

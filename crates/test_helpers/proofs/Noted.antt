@@ -9,7 +9,7 @@ use Rattle.std.specs.String.{string_bytes}
 use Rattle.dm_store.specs.declared.store.StoreFault.{StoreFault}
 use Rattle.test_helpers.specs.declared.mem_disk.DiskCall.{DiskCall}
 use Rattle.test_helpers.specs.declared.mem_disk.DiskCall.TheVariants.{SyncedEntry, SyncedFolder}
-use Rattle.dm_store.specs.Disk.{Content, Keeps, SettlesFolder, SyncsEntry, key_name}
+use Rattle.dm_store.specs.Disk.{Content, IsSettled, Keeps, SettlesFolder, SyncsEntry, key_name}
 use Rattle.std.specs.Option.{option_eq}
 use Rattle.test_helpers.specs.DiskCalls.{seen_after, synced_after, leaves_after, disk_after}
 use Rattle.dm_store.proofs.Saving.{keeps_same}
@@ -53,14 +53,11 @@ not_ok fault ok = cc
 pub noted_entry : {A : Type 0} (calls later : List (DiskCall A)) (n : String A) (name : List ℕ)
     (answer : Result (Unit {0}) StoreFault) → string_bytes n ≡ name
     → OnOk answer (later ≡ SyncedEntry n ∷ calls) → SyncsEntry (disk_after calls) name answer (disk_after later)
-noted_entry {A} calls later n name (Ok done) is ok = record {
-  done = λ _ on content leaves.
-      let here = subst (λ (es : List (DiskCall A)). leaves_after es name content ≡ true) ok leaves in
-      left_after (bytes_eq (string_bytes n) name) (synced_after calls name) calls name content
-      ((bytes_eq-Decides (string_bytes n) name).1 is) on here;
-}
-noted_entry {A} calls later n name (Err fault) is ok =
-    record { done = λ done. absurd (not_ok fault done) }
+noted_entry {A} calls later n name (Ok done) is ok = λ _ on.
+    subst (λ (es : List (DiskCall A)). IsSettled (disk_after es) name) (sym ok) (λ content leaves.
+    left_after (bytes_eq (string_bytes n) name) (synced_after calls name) calls name content
+    ((bytes_eq-Decides (string_bytes n) name).1 is) on leaves)
+noted_entry {A} calls later n name (Err fault) is ok = λ done. absurd (not_ok fault done)
 
 in_folder : (start rest : List ℕ) → starts_with nat_eq (start ++ rest) start ≡ true
 in_folder start rest = (starts_is Decides-eqb (start ++ rest) start _ refl).1 rest refl
@@ -69,9 +66,9 @@ pub noted_folder : {A : Type 0} (calls later : List (DiskCall A)) (start : Strin
     (answer : Result (Unit {0}) StoreFault) → string_bytes start ≡ folder ++ codes "/"
     → OnOk answer (later ≡ SyncedFolder start ∷ calls)
     → SettlesFolder (disk_after calls) folder answer (disk_after later)
-noted_folder {A} calls later start folder (Ok done) is ok = λ _ key lt on content leaves.
+noted_folder {A} calls later start folder (Ok done) is ok = λ key lt _ on.
     let name = (folder ++ codes "/") ++ key_name key in
-    let here = subst (λ (es : List (DiskCall A)). leaves_after es name content ≡ true) ok leaves in
+    subst (λ (es : List (DiskCall A)). IsSettled (disk_after es) name) (sym ok) (λ content leaves.
     left_after (starts_with nat_eq name (string_bytes start)) (synced_after calls name) calls name content
-    (rw is (in_folder (folder ++ codes "/") (key_name key))) on here
-noted_folder {A} calls later start folder (Err fault) is ok = λ done. absurd (not_ok fault done)
+    (rw is (in_folder (folder ++ codes "/") (key_name key))) on leaves)
+noted_folder {A} calls later start folder (Err fault) is ok = λ key lt done. absurd (not_ok fault done)
