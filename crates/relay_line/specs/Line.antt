@@ -1,29 +1,16 @@
 -- What a command line gives.
-use Rattle.std.specs.Prelude.{◌≡◌, ℕ, ◌≤◌, ◌⊎◌, List, codes, Option, MatchOption}
+use Prim.Native.String.{String}
+use Rattle.std.specs.Prelude.{◌≡◌, ℕ, ◌≤◌, ◌⊎◌, List, codes, Option, Some, MatchOption, option_map, if◌then◌else◌}
+use Rattle.std.specs.Str.Parse.{digits_value, without_leading_plus}
+use Rattle.clap.specs.Walk.{Row, first_of, one_of}
 use Rattle.dm_encodation.specs.declared.scheme.Scheme.TheVariants.{Ascii}
 use Rattle.relay_command.specs.declared.command.Command.{Command}
 use Rattle.relay_command.specs.declared.command.Command.TheVariants.{Words, Draw, Read, Plan, Ticket, Ledger, Print, Give, Take, Left, Scan, Deliver, Forget, Export, Import, Held, Copy, World}
 use Rattle.relay_command.specs.declared.command.Labels.{Labels}
 use Rattle.relay_command.specs.declared.command.Labels.TheVariants.{OfSide, AtMost}
+use Rattle.relay_command.specs.Schemes.{scheme_name}
 use Rattle.relay_line.specs.declared.fault.LineFault.{LineFault}
 use Rattle.relay_line.specs.declared.fault.LineFault.TheVariants.{Line, Memory}
-
--- a side
-abbrev pub IsSideNumber : ℕ → Type 0
-IsSideNumber side = (10 ≤ side) × (side ≤ 132)
-
--- the labels of a print: of a side, or the most
-abbrev pub IsOfForm : Labels → Type 0
-IsOfForm (OfSide side) = IsSideNumber side
-IsOfForm (AtMost most) = (2 ≤ most) × (most ≤ 16)
-
--- the other numbers are of 16 bits, and the calls above refuse those beyond their ranges
-abbrev pub HasNumbersInRange : Command → Type 0
-HasNumbersInRange (Words side scheme) = IsSideNumber side
-HasNumbersInRange (Draw side scheme plain) = IsSideNumber side
-HasNumbersInRange (Print file number labels scheme) = IsOfForm labels
-HasNumbersInRange (Copy file id page side scheme) = (1 ≤ page) × (page ≤ 16) × IsSideNumber side
-HasNumbersInRange command = Unit {0}
 
 -- the name by which a command is asked for
 abbrev pub command_name : Command → List ℕ
@@ -46,6 +33,58 @@ command_name (Held file id) = codes "held"
 command_name (Copy file id page side scheme) = codes "copy"
 command_name World = codes "world"
 
+-- what a parse found for a command
+module _ (found : List Row) where
+  -- under the name of an option stands this text, or this number
+  abbrev pub HasText : String → List ℕ → Type 0
+  HasText name text = first_of (codes name) found ≡ Some text
+
+  abbrev pub number_at : List ℕ → Option ℕ
+  number_at name = option_map (λ text. digits_value 10 (without_leading_plus text)) (one_of name found)
+
+  abbrev pub HasNumber : String → ℕ → Type 0
+  HasNumber name number = number_at (codes name) ≡ Some number
+
+  -- a side, and the labels of a print: of a side, or the most
+  abbrev pub HasSide : ℕ → Type 0
+  HasSide side = (10 ≤ side) × (side ≤ 132) × HasNumber "side" side
+
+  abbrev pub HasLabels : Labels → Type 0
+  HasLabels (OfSide side) = HasSide side
+  HasLabels (AtMost most) = (2 ≤ most) × (most ≤ 16) × HasNumber "labels" most
+
+  -- Each field is what stands under its own name, and in range. The other numbers are of 16 bits, and the calls above
+  -- refuse those beyond their ranges.
+  abbrev pub HasValues : Command → Type 0
+  HasValues (Words side scheme) = HasSide side × HasText "scheme" (scheme_name scheme)
+  HasValues (Draw side scheme plain) = HasSide side × HasText "scheme" (scheme_name scheme)
+      × (one_of (codes "plain") found ≡ Some (if plain then codes "true" else codes "false"))
+  HasValues Read = Unit {0}
+  HasValues (Plan scheme) = HasText "scheme" (scheme_name scheme)
+  HasValues (Ticket ticket) = HasText "ticket" ticket.now
+  HasValues (Ledger file number first last) = HasText "file" file.now × HasNumber "number" number
+      × HasNumber "first" first × HasNumber "last" last
+  HasValues (Print file number labels scheme) = HasText "file" file.now × HasNumber "number" number
+      × HasLabels labels × HasText "scheme" (scheme_name scheme)
+  HasValues (Give file number to first last) = HasText "file" file.now × HasNumber "number" number
+      × HasNumber "to" to × HasNumber "first" first × HasNumber "last" last
+  HasValues (Take file number ticket) = HasText "file" file.now × HasNumber "number" number
+      × HasText "ticket" ticket.now
+  HasValues (Left file) = HasText "file" file.now
+  HasValues (Scan file capacity) = HasText "file" file.now × HasNumber "capacity" capacity
+  HasValues (Deliver file id) = HasText "file" file.now × HasText "id" id.now
+  HasValues (Forget file id) = HasText "file" file.now × HasText "id" id.now
+  HasValues (Export file id) = HasText "file" file.now × HasText "id" id.now
+  HasValues (Import file capacity) = HasText "file" file.now × HasNumber "capacity" capacity
+  HasValues (Held file id) = HasText "file" file.now × (first_of (codes "id") found ≡ option_map (λ id. id.now) id)
+  HasValues (Copy file id page side scheme) = HasText "file" file.now × HasText "id" id.now × HasSide side
+      × (1 ≤ page) × (page ≤ 16) × HasNumber "page" page × HasText "scheme" (scheme_name scheme)
+  HasValues World = Unit {0}
+
+-- a command with its defaults, or with the values that some parse has found
+abbrev pub IsFound : Command → Type 0
+IsFound command = (command ≡ Words 10 Ascii) ⊎ ((found : List Row) × HasValues found command)
+
 -- The command is the one of this name, the word after the program's own, or `words` with its defaults where there is no
 -- such word.
 abbrev pub IsNamed : Option (List ℕ) → Command → Type 0
@@ -55,3 +94,8 @@ IsNamed name command = MatchOption name (command ≡ Words 10 Ascii) (λ given. 
 abbrev pub HasStatus : LineFault → Type 0
 HasStatus (Line text status) = (status ≡ 0) ⊎ (status ≡ 2)
 HasStatus Memory = Unit {0}
+
+-- it ends with this status, unless memory is refused
+abbrev pub EndsWith : ℕ → LineFault → Type 0
+EndsWith ended (Line text status) = status ≡ ended
+EndsWith ended Memory = Unit {0}

@@ -15,12 +15,13 @@ pub const PROGRAM: Page = Page {
     about: "Relays documents printed as Data Matrix labels",
     usage: "relay [COMMAND] [OPTIONS]",
     more: "\
-Without a command, relay does `words` with its defaults. `relay COMMAND --help`
-says more of each.
+Without a command, relay does `words` with its defaults. `relay help COMMAND`
+and `relay COMMAND --help` say more of each.
 
-Exit status: 0 where all was done; 1 where something was refused, which a line
-`refused NAME` says; 2 where the command line was refused. `relay explain NAME`
-says what a refusal means.",
+Exit status: 0 where all was done; 1 where something was refused, as a line
+`refused NAME` or `file NAME FAULT` says, or where the output failed; 2 where
+the command line was refused; 3 where the script `./relay` could not build the
+program. `relay explain NAME` says what a refusal means.",
 };
 
 // Those of the commands, in the order in which the program's help lists them: of symbols, printers, desks, and the
@@ -77,7 +78,7 @@ static OF_PRINTERS: [Page; 7] = [
     Page {
         name: "ledger",
         about: "Makes the ledger of a printer",
-        usage: "relay ledger --file PATH --first N --last N [--number N]",
+        usage: "relay ledger --file LEDGER --first N --last N [--number N]",
         more: "\
 A ledger is what a printer remembers: which identifications are free. Give no
 identification to two ledgers. Prints `left N`, how many are free. A refusal
@@ -101,7 +102,7 @@ Example:
     Page {
         name: "print",
         about: "Prints a document as labels that carry one identification",
-        usage: "relay print --file PATH (--side SIDE | --labels K) [--scheme SCHEME]\n         [--number N] < DOCUMENT > IMAGES",
+        usage: "relay print --file LEDGER (--side SIDE | --labels K) [--scheme SCHEME]\n         [--number N] < DOCUMENT > IMAGES",
         more: "\
 The document is cut into 2 to 16 labels, which carry the least identification
 that is free. It is saved as used, then `printed IIII n left N` goes to standard
@@ -119,7 +120,7 @@ Example:
     Page {
         name: "give",
         about: "Gives free identifications to another printer, by a ticket",
-        usage: "relay give --file PATH --number N --to N --first N --last N",
+        usage: "relay give --file LEDGER --number N --to N --first N --last N",
         more: "\
 The identifications are saved as gone, and then `ticket HEX` is printed. Only
 the printer that it is for can take it, and only once. A ticket that is lost
@@ -149,7 +150,7 @@ Example:
     Page {
         name: "take",
         about: "Takes the identifications of a ticket",
-        usage: "relay take --file PATH --number N --ticket HEX",
+        usage: "relay take --file LEDGER --number N --ticket HEX",
         more: "\
 Prints `taken left N`, how many identifications are free then. A ticket is
 taken once. Take the tickets of one giver in the order in which they were
@@ -162,7 +163,7 @@ Example:
     Page {
         name: "left",
         about: "Prints what a ledger holds",
-        usage: "relay left --file PATH",
+        usage: "relay left --file LEDGER",
         more: "\
 Prints, a line each:
   printer P         the printer's number, or `-` for a ledger of version 1
@@ -183,7 +184,7 @@ static OF_DESKS: [Page; 7] = [
     Page {
         name: "scan",
         about: "Gathers the pages of scanned labels at a desk",
-        usage: "relay scan --file PATH [--capacity N] [IMAGES ..] < IMAGES",
+        usage: "relay scan --file DESK [--capacity N] [IMAGES ..] < IMAGES",
         more: "\
 An image has one pixel per module, as for `read`. Its page is saved, and then a
 line says what it was:
@@ -193,12 +194,11 @@ line says what it was:
   refused NAME       nothing was changed
 After `refused Save` nothing more is read; the page may be held. A desk keeps a
 document until it is forgotten. Pages that disagree with those that are held are
-refused, and never joined. An old file of pages at PATH is moved first.
+refused, and never joined. An old file of pages at DESK is moved first.
 
-Files that are named are read in turn, up to the end of each.
-
-The capacity is not remembered: a desk that holds more documents is refused
-`TooMany`. Give it at each `scan` and `import`; other commands take up to 1024.
+Files that are named are read in turn, up to the end of each. The capacity is
+not remembered: a desk that holds more documents is refused `TooMany`. Give it
+at each `scan` and `import`; other commands take up to 1024.
 
 Example:
   relay scan --file desk < labels.pbm",
@@ -206,7 +206,7 @@ Example:
     Page {
         name: "deliver",
         about: "Gives back a document when all its pages are held",
-        usage: "relay deliver --file PATH --id IIII [--to FILE]",
+        usage: "relay deliver --file DESK --id IIII [--to FILE]",
         more: "\
 Writes the document, which stays at the desk, and nothing else. Where a page is
 missing nothing is written but `refused Incomplete`, on standard error. With
@@ -219,7 +219,7 @@ Example:
     Page {
         name: "forget",
         about: "Forgets a document",
-        usage: "relay forget --file PATH --id IIII",
+        usage: "relay forget --file DESK --id IIII",
         more: "\
 Prints `forgotten IIII`. A refusal goes to standard output.
 
@@ -229,7 +229,7 @@ Example:
     Page {
         name: "export",
         about: "Writes the pages of a document for another desk",
-        usage: "relay export --file PATH --id IIII [--to FILE]",
+        usage: "relay export --file DESK --id IIII [--to FILE]",
         more: "\
 The pages stay at the desk. `relay import` takes them in at another. A refusal
 goes to standard error. With `--to` the pages are on the disk once the command
@@ -241,7 +241,7 @@ Example:
     Page {
         name: "import",
         about: "Takes in the pages that another desk has exported",
-        usage: "relay import --file PATH [--capacity N] < PAGES",
+        usage: "relay import --file DESK [--capacity N] < PAGES",
         more: "\
 Prints `IIII n added MASK KIND`: the identification, how many pages the document
 has, which of them were added (bit m - 1 for page m, in hexadecimal), and
@@ -255,14 +255,14 @@ Example:
     Page {
         name: "held",
         about: "Prints which pages a desk holds",
-        usage: "relay held --file PATH [--id IIII]",
+        usage: "relay held --file DESK [--id IIII]",
         more: "\
 Prints a line for each document of which a page is held: `IIII N complete`, or
 `IIII N lacks 3 7 12`, its identification, how many pages it has, and which are
 missing. With --id it prints the line of that document alone, or a refusal.
 A file that can't be used doesn't hide the others: in its place stands
 `file NAME FAULT`, and the exit status is 1. NAME is that of the file in the
-folder PATH.pages, or `joint` for the file of an older version at PATH, which
+folder DESK.pages, or `joint` for the file of an older version at DESK, which
 may hold the document that --id asks for. Nothing is saved, and another program
 may gather meanwhile. A refusal goes to standard output.
 
@@ -272,11 +272,11 @@ Example:
     Page {
         name: "copy",
         about: "Draws again the label of a page that a desk holds",
-        usage: "relay copy --file PATH --id IIII --page M --side SIDE [--scheme SCHEME]\n         > IMAGE",
+        usage: "relay copy --file DESK --id IIII --page M --side SIDE [--scheme SCHEME]\n         > IMAGE",
         more: "\
 Draws the label of one page that is held, as a packed PBM image: whatever reads
 it gathers the same page of the same document. The side need not be that of the
-label that is lost. An old file of pages at PATH is moved first. A refusal goes
+label that is lost. An old file of pages at DESK is moved first. A refusal goes
 to standard error.
 
 Example:

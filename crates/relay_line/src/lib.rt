@@ -1,8 +1,8 @@
 //! The command line of `relay`: its words become a `Command`, or a fault with the text to show.
 //!
-//! Proved: the command has the name on the line, a side is 10 to 132, the most labels of a print are 2 to 16, and a
-//! page is 1 to 16. Not proved: the other values of the options, and which fault and which text a wrong line gets. They
-//! come from `clap`; tests show them.
+//! Proved: the command has the name on the line, and each field is what the parser found under its option's name; a
+//! side is 10 to 132, the most labels of a print are 2 to 16, a page is 1 to 16; the status is 0 at help, a version or
+//! an explanation, else 2. Not proved: what the parser finds on a line, and texts; tests show them.
 #![tactic(auto)]
 
 mod explain;

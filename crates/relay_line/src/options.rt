@@ -1,10 +1,9 @@
 //! The arguments of the commands, and the whole program, as the parser knows them.
 
-use crate::help;
-use crate::help::Page;
+use crate::help::{self, Page};
+use crate::parse::VERSION;
 use clap::builder::ValueParser;
 use clap::{Arg, ArgAction, ArgGroup, Command};
-use relay_command::SCHEMES;
 use std::alloc::{AllocError, Global};
 
 // How an argument stands on a line: `--NAME VALUE`, where nothing says more.
@@ -24,27 +23,24 @@ enum Kind {
 
 // An argument: its name, what the helps call its value, its kind, what its value has to be, and its help.
 #[derive(Clone, Copy)]
-struct Row(
-    &'static str,
-    &'static str,
-    Kind,
-    ValueParser<'static>,
-    &'static str,
-);
+#[rattlefmt::skip]
+struct Row(&'static str, &'static str, Kind, ValueParser<'static>, &'static str);
 
-// The arguments of a command.
-fn rows_of(name: &str) -> &'static [Row] {
-    use Kind::{Default, Flag, Optional, Required, Word, Words};
-    use ValueParser::{Names, NonEmptyString, Signed, String as Text};
+// The arguments of the commands.
+#[rattlefmt::skip]
+mod rows {
+    use super::{Kind::{Default, Flag, Optional, Required, Word, Words}, Row};
+    use clap::builder::ValueParser::{self, Names, NonEmptyString, Signed, String as Text};
+    use relay_command::SCHEMES;
+
     const U16: ValueParser<'static> = Signed(0, 65_535);
-    const NAMES: ValueParser<'static> = Names(&SCHEMES);
     const SIDE_HELP: &str = "modules along a side: 10 to 26 by twos, 32, 36, 40,\n\
         44, 48, 52, 64, 72, 80, 88, 96, 104, 120 or\n132";
     const LABELS_HELP: &str = "take the smallest side for which there are at most\n\
         K labels, 2 to 16";
     const SCHEME_HELP: &str = "how the bytes are encoded: ascii, c40, text or\nbase256";
     const PLAIN_HELP: &str = "draws in PBM's plain form, P1, in place of P4";
-    const DESK_HELP: &str = "the desk; its files stand in the folder PATH.pages";
+    const DESK_HELP: &str = "the desk; its files stand in the folder DESK.pages";
     const HEX_HELP: &str = "the 20 digits that `give` printed, or the form with\n\
         check digits that `ticket` printed";
     const CAPACITY_HELP: &str = "how many documents it may hold, 1 to 1024";
@@ -60,10 +56,10 @@ fn rows_of(name: &str) -> &'static [Row] {
     const LEAST_SIDE: Row = Row("side", "SIDE", Default("10"), Signed(10, 132), SIDE_HELP);
     const COPY_SIDE: Row = Row("side", "SIDE", Required, Signed(10, 132), SIDE_HELP);
     const LABELS: Row = Row("labels", "K", Optional, Signed(2, 16), LABELS_HELP);
-    const SCHEME: Row = Row("scheme", "SCHEME", Default("ascii"), NAMES, SCHEME_HELP);
+    const SCHEME: Row = Row("scheme", "SCHEME", Default("ascii"), Names(&SCHEMES), SCHEME_HELP);
     const PLAIN: Row = Row("plain", "", Flag, Text, PLAIN_HELP);
-    const LEDGER: Row = Row("file", "PATH", Required, NonEmptyString, LEDGER_HELP);
-    const DESK: Row = Row("file", "PATH", Required, NonEmptyString, DESK_HELP);
+    const LEDGER: Row = Row("file", "LEDGER", Required, NonEmptyString, LEDGER_HELP);
+    const DESK: Row = Row("file", "DESK", Required, NonEmptyString, DESK_HELP);
     const TO: Row = Row("to", "N", Required, U16, "the number of the other printer");
     const NUMBER: Row = Row("number", "N", Required, U16, "the printer's number");
     const OWN_NUMBER: Row = Row("number", "N", Default("0"), U16, "the printer's number");
@@ -77,43 +73,36 @@ fn rows_of(name: &str) -> &'static [Row] {
     const SAVED: Row = Row("to", "FILE", Optional, NonEmptyString, SAVED_HELP);
     const IMAGES: Row = Row("images", "IMAGES", Words, Text, IMAGES_HELP);
     const REFUSAL: Row = Row("name", "NAME", Word, Text, NAME_HELP);
-    const WORDS: &[Row] = &[LEAST_SIDE, SCHEME];
-    const DRAW: &[Row] = &[LEAST_SIDE, SCHEME, PLAIN];
-    const READ: &[Row] = &[IMAGES];
-    const MAKE: &[Row] = &[LEDGER, FIRST, LAST, OWN_NUMBER];
-    const PLAN: &[Row] = &[SCHEME];
-    const PRINT: &[Row] = &[LEDGER, SIDE, LABELS, SCHEME, OWN_NUMBER];
-    const GIVE: &[Row] = &[LEDGER, NUMBER, TO, FIRST, LAST];
-    const SHOW: &[Row] = &[TICKET];
-    const TAKE: &[Row] = &[LEDGER, NUMBER, TICKET];
-    const LEFT: &[Row] = &[LEDGER];
-    const SCAN: &[Row] = &[DESK, CAPACITY, IMAGES];
-    const DOCUMENT: &[Row] = &[DESK, ID];
-    const GIVEN: &[Row] = &[DESK, ID, SAVED];
-    const IMPORT: &[Row] = &[DESK, CAPACITY];
-    const HELD: &[Row] = &[DESK, ANY_ID];
-    const COPY: &[Row] = &[DESK, ID, PAGE, COPY_SIDE, SCHEME];
-    const EXPLAIN: &[Row] = &[REFUSAL];
-    match name {
-        "words" => WORDS,
-        "draw" => DRAW,
-        "read" => READ,
-        "ledger" => MAKE,
-        "plan" => PLAN,
-        "print" => PRINT,
-        "give" => GIVE,
-        "ticket" => SHOW,
-        "take" => TAKE,
-        "left" => LEFT,
-        "scan" => SCAN,
-        "deliver" | "export" => GIVEN,
-        "forget" => DOCUMENT,
-        "import" => IMPORT,
-        "held" => HELD,
-        "copy" => COPY,
-        "explain" => EXPLAIN,
-        _ => &[],
+
+    pub static OF_COMMANDS: [(&str, &[Row]); 18] = [
+        ("words", &[LEAST_SIDE, SCHEME]),
+        ("draw", &[LEAST_SIDE, SCHEME, PLAIN]),
+        ("read", &[IMAGES]),
+        ("ledger", &[LEDGER, FIRST, LAST, OWN_NUMBER]),
+        ("plan", &[SCHEME]),
+        ("print", &[LEDGER, SIDE, LABELS, SCHEME, OWN_NUMBER]),
+        ("give", &[LEDGER, NUMBER, TO, FIRST, LAST]),
+        ("ticket", &[TICKET]),
+        ("take", &[LEDGER, NUMBER, TICKET]),
+        ("left", &[LEDGER]),
+        ("scan", &[DESK, CAPACITY, IMAGES]),
+        ("deliver", &[DESK, ID, SAVED]),
+        ("export", &[DESK, ID, SAVED]),
+        ("forget", &[DESK, ID]),
+        ("import", &[DESK, CAPACITY]),
+        ("held", &[DESK, ANY_ID]),
+        ("copy", &[DESK, ID, PAGE, COPY_SIDE, SCHEME]),
+        ("explain", &[REFUSAL]),
+    ];
+}
+
+fn rows_of(name: &str) -> &'static [Row] {
+    for (command, rows) in &rows::OF_COMMANDS {
+        if *command == name {
+            return rows;
+        }
     }
+    &[]
 }
 
 // An argument, as the parser takes it.
@@ -135,12 +124,6 @@ fn argument<'a>(alloc: Global, row: &Row) -> Arg<'a> {
     }
 }
 
-// `print` is by a side or by a number of labels.
-fn form<'a>(alloc: Global) -> Result<ArgGroup<'a>, AllocError> {
-    let form = ArgGroup::new(alloc, "form").required(true);
-    form.arg("side")?.arg("labels")
-}
-
 // A command of no arguments yet, with its help.
 fn command<'a>(alloc: Global, page: &Page) -> Command<'a> {
     Command::new(alloc, page.name)
@@ -149,14 +132,15 @@ fn command<'a>(alloc: Global, page: &Page) -> Command<'a> {
         .after_help(page.more)
 }
 
-// A command with its arguments.
+// A command with its arguments. `print` is by a side or by a number of labels.
 fn subcommand<'a>(alloc: Global, page: &Page) -> Result<Command<'a>, AllocError> {
     let mut command = command(alloc, page);
     for row in rows_of(page.name) {
         command = command.arg(argument(alloc, row))?;
     }
     if page.name == "print" {
-        command = command.group(form(alloc)?)?;
+        let form = ArgGroup::new(alloc, "form").required(true);
+        command = command.group(form.arg("side")?.arg("labels")?)?;
     }
     Ok(command)
 }
@@ -168,7 +152,7 @@ fn subcommand<'a>(alloc: Global, page: &Page) -> Result<Command<'a>, AllocError>
 pub fn relay<'a>(alloc: Global) -> Result<Command<'a>, AllocError> {
     let mut program = command(alloc, &help::PROGRAM)
         .bin_name("relay")?
-        .disable_help_subcommand(true);
+        .version(VERSION);
     for pages in &help::commands() {
         for page in *pages {
             program = program.subcommand(subcommand(alloc, page)?)?;

@@ -1,7 +1,11 @@
 //! From words to a command.
 
-ghost use Rattle.std.specs.Prelude.{◌≡◌, ◌≤◌, ◌⊎◌, option_map, slice_get, IfOk, IfErr, IfSome};
-ghost use Rattle.relay_line.specs.Line.{HasNumbersInRange, HasStatus, IsNamed, IsOfForm, IsSideNumber, command_name};
+ghost use Rattle.std.specs.Prelude.{◌≡◌, ◌≢◌, ◌≤◌, ◌⊎◌, ◌++◌, ℕ, List, codes, if◌then◌else◌, is_some, option_map};
+ghost use Rattle.std.specs.Prelude.{slice_get, string_bytes, IfErr, IfOk, IfSome, IsNone, IsSome, IsSomeAnd};
+ghost use Rattle.clap.specs.Words.{first_of, found_of, kind_of, rows_of, subcommand_rows_of};
+ghost use Rattle.relay_command.specs.Schemes.{scheme_name};
+ghost use Rattle.relay_line.specs.Explaining.{explained};
+ghost use Rattle.relay_line.specs.Line.{EndsWith, HasLabels, HasStatus, HasText, HasValues, IsFound, IsNamed, command_name, number_at};
 
 use crate::explain::{explanation_in, names_in};
 use crate::explanations::EXPLANATIONS;
@@ -14,16 +18,26 @@ use relay_command::{Command, Labels, scheme_of};
 use std::alloc::{AllocError, Global};
 use std::convert::AsStr;
 
-// The program's version, and the toolchain by which it was proved.
-const VERSION: &str = "relay 0.9\nrattle-kit-13f logic dac8208d650f15bf\n";
+/// The program's version, and the toolchain by which it was proved.
+pub const VERSION: &str = "0.9\nrattle-kit-13f logic dac8208d650f15bf";
 
-const NO_REFUSAL: &str = "error: no refusal has this name; `relay explain` lists them\n";
+const NO_REFUSAL: &str = "relay: no refusal has this name; `relay explain` lists them\n";
 
-const UNKNOWN: &str = "error: this command is unknown\n";
+const UNKNOWN: &str = "relay: this command is unknown\n";
+
+// What the program's help has in place of the parser's lines: a heading above each group of commands, and no `help`.
+#[rattlefmt::skip]
+const HEADINGS: [(&str, &str); 5] = [
+    ("\n  words ", "\nSymbols:\n  words "),
+    ("\n  ledger ", "\nPrinters:\n  ledger "),
+    ("\n  scan ", "\nDesks:\n  scan "),
+    ("\n  world ", "\nOthers:\n  world "),
+    ("\n  help     Print this message or the help of the given subcommand(s)", ""),
+];
 
 // What a line that is not taken shows.
 fn shown(text: Result<String, AllocError>, status: u8) -> LineFault
-    ensures { (status ≡ 0) ⊎ (status ≡ 2) → HasStatus result }
+    ensures { EndsWith status result }
 {
     match text {
         Ok(text) => LineFault::Line { text, status },
@@ -31,22 +45,50 @@ fn shown(text: Result<String, AllocError>, status: u8) -> LineFault
     }
 }
 
+// The parser's message, which begins with the program's name in place of `error`.
+fn message_of(alloc: Global, text: &str) -> Result<String, AllocError>
+    ensures { (rest : List ℕ) → text.now ≡ codes "error: " ++ rest
+        → IfOk result (λ message. string_bytes message ≡ codes "relay: " ++ rest) }
+{
+    match text.strip_prefix("error: ") {
+        Some(rest) => format!(in alloc; "relay: {rest}"),
+        None => String::from_str(alloc, text),
+    }
+}
+
+// The parser's help, with headings.
+fn help_of(alloc: Global, mut text: String) -> Result<String, AllocError> {
+    for (line, with_heading) in &HEADINGS {
+        text = text.as_str().replace(alloc, *line, with_heading)?;
+    }
+    Ok(text)
+}
+
 // The parser's text and status.
 fn fault_of(alloc: Global, error: &Error) -> LineFault
-    ensures { HasStatus result }
+    ensures asked { (kind_of error.now ≡ ErrorKind.DisplayHelp) ⊎ (kind_of error.now ≡ ErrorKind.DisplayVersion)
+        → EndsWith 0 result }
+    ensures wrong { kind_of error.now ≢ ErrorKind.DisplayHelp → kind_of error.now ≢ ErrorKind.DisplayVersion
+        → EndsWith 2 result }
+    ensures status { HasStatus result }
 {
-    if error.kind() == ErrorKind::OutOfMemory {
-        return LineFault::Memory;
+    let text = match error.to_string(alloc) {
+        Ok(text) if error.kind() != ErrorKind::OutOfMemory => text,
+        _ => return LineFault::Memory,
+    };
+    if error.use_stderr() {
+        shown(message_of(alloc, text.as_str()), 2)
+    } else {
+        shown(help_of(alloc, text), 0)
     }
-    let status = if error.use_stderr() { 2 } else { 0 };
-    shown(error.to_string(alloc), status)
 }
 
 // What the refusal of a name means, or the names of all.
-fn explanation_of(alloc: Global, name: Option<&str>) -> LineFault
-    ensures { HasStatus result }
+fn explanation_of(alloc: Global, table: &[&'static str], name: Option<&str>) -> LineFault
+    ensures status { HasStatus result }
+    ensures names { IsNone name.entry → EndsWith 0 result }
+    ensures text { IfSome name.entry (λ n. EndsWith (if is_some (explained table.now n.now) then 0 else 2) result) }
 {
-    let table = &EXPLANATIONS;
     let Some(name) = name else {
         return shown(names_in(alloc, table), 0);
     };
@@ -56,105 +98,92 @@ fn explanation_of(alloc: Global, name: Option<&str>) -> LineFault
     }
 }
 
-// The encodation. Of this and of what follows the parser has refused all that is not in range, and what is missing.
-fn encodation_of(options: &ArgMatches<'_>) -> Option<Scheme> {
-    options.get_str("scheme").and_then(|name| scheme_of(name))
+// The text of an option. The parser has refused what is missing, and all that is not in range.
+#[tactic(auto, using(crate::proofs::Found::first_value_of))]
+fn text_of<'a>(options: &ArgMatches<'a>, name: &str) -> Option<&'a str>
+    ensures { option_map (λ text. text.now) result ≡ first_of name.now (rows_of (found_of options.now)) }
+{
+    options.get_str(name)
+}
+
+fn encodation_of(options: &ArgMatches<'_>) -> Option<Scheme>
+    ensures { IfSome result (λ scheme. HasText (rows_of (found_of options.now)) "scheme" (scheme_name scheme)) }
+{
+    scheme_of(text_of(options, "scheme")?)
 }
 
 // The number of an option.
+#[tactic(auto, using(crate::proofs::Found::one_text_of))]
 fn number_in(options: &ArgMatches<'_>, name: &str, least: u16, most: u16) -> Option<u16>
-    ensures { IfSome result (λ number. (least ≤ number) × (number ≤ most)) }
+    ensures range { IfSome result (λ number. (least ≤ number) × (number ≤ most)) }
+    ensures value { IfSome result (λ number. number_at (rows_of (found_of options.now)) name.now ≡ Some number) }
 {
     options
         .get_one::<u16>(name)
         .filter(|number| (least..=most).contains(number))
 }
 
-fn side_of(options: &ArgMatches<'_>) -> Option<u16>
-    ensures { IfSome result IsSideNumber }
-{
-    number_in(options, "side", 10, 132)
-}
-
 // Which labels a print has.
 fn labels_of(options: &ArgMatches<'_>) -> Option<Labels>
-    ensures { IfSome result IsOfForm }
+    ensures { IfSome result (HasLabels (rows_of (found_of options.now))) }
 {
     match number_in(options, "labels", 2, 16) {
         Some(most) => Some(Labels::AtMost(most)),
-        None => Some(Labels::OfSide(side_of(options)?)),
+        None => Some(Labels::OfSide(number_in(options, "side", 10, 132)?)),
     }
 }
 
 // The command of a name, with the options that the parser found.
+#[rattlefmt::skip]
+#[tactic(auto, using(crate::proofs::Found::one_text_of))]
 fn command_of<'a>(name: &str, options: &ArgMatches<'a>) -> Option<Command<'a>>
-    ensures ranges { IfSome result HasNumbersInRange }
     ensures named { IfSome result (λ command. name.now ≡ command_name command) }
+    ensures values { IfSome result (HasValues (rows_of (found_of options.now))) }
 {
-    match (name, side_of(options), encodation_of(options)) {
+    match (name, number_in(options, "side", 10, 132), encodation_of(options)) {
         ("words", Some(side), Some(scheme)) => Some(Command::Words { side, scheme }),
-        ("draw", Some(side), Some(scheme)) => Some(Command::Draw {
-            side,
-            scheme,
-            plain: options.get_flag("plain"),
-        }),
+        ("draw", Some(side), Some(scheme)) => {
+            Some(Command::Draw { side, scheme, plain: options.get_one::<bool>("plain")? })
+        }
         ("read", ..) => Some(Command::Read),
         ("plan", _, Some(scheme)) => Some(Command::Plan { scheme }),
-        ("ticket", ..) => Some(Command::Ticket {
-            ticket: options.get_str("ticket")?,
-        }),
+        ("ticket", ..) => Some(Command::Ticket { ticket: text_of(options, "ticket")? }),
         ("world", ..) => Some(Command::World),
-        _ => printer_command_of(name, options.get_str("file")?, options),
+        _ => printer_command_of(name, options),
     }
 }
 
 // The commands that name a file: those of printers, and then those of desks.
-fn printer_command_of<'a>(
-    name: &str,
-    file: &'a str,
-    options: &ArgMatches<'a>,
-) -> Option<Command<'a>>
-    ensures ranges { IfSome result HasNumbersInRange }
+#[rattlefmt::skip]
+fn printer_command_of<'a>(name: &str, options: &ArgMatches<'a>) -> Option<Command<'a>>
     ensures named { IfSome result (λ command. name.now ≡ command_name command) }
+    ensures values { IfSome result (HasValues (rows_of (found_of options.now))) }
 {
-    let number = options.get_one::<u16>("number");
-    let first = options.get_one::<u16>("first");
-    let last = options.get_one::<u16>("last");
+    let file = text_of(options, "file")?;
+    let number = number_in(options, "number", 0, u16::MAX);
+    let first = number_in(options, "first", 0, u16::MAX);
+    let last = number_in(options, "last", 0, u16::MAX);
     match (name, number, first, last) {
-        ("ledger", Some(number), Some(first), Some(last)) => Some(Command::Ledger {
-            file,
-            number,
-            first,
-            last,
-        }),
-        ("print", Some(number), ..) => Some(Command::Print {
-            file,
-            number,
-            labels: labels_of(options)?,
-            scheme: encodation_of(options)?,
-        }),
-        ("give", Some(number), Some(first), Some(last)) => Some(Command::Give {
-            file,
-            number,
-            to: options.get_one::<u16>("to")?,
-            first,
-            last,
-        }),
-        ("take", Some(number), ..) => Some(Command::Take {
-            file,
-            number,
-            ticket: options.get_str("ticket")?,
-        }),
+        ("ledger", Some(number), Some(first), Some(last)) => Some(Command::Ledger { file, number, first, last }),
+        ("print", Some(number), ..) => {
+            Some(Command::Print { file, number, labels: labels_of(options)?, scheme: encodation_of(options)? })
+        }
+        ("give", Some(number), Some(first), Some(last)) => {
+            Some(Command::Give { file, number, to: number_in(options, "to", 0, u16::MAX)?, first, last })
+        }
+        ("take", Some(number), ..) => Some(Command::Take { file, number, ticket: text_of(options, "ticket")? }),
         ("left", ..) => Some(Command::Left { file }),
-        _ => desk_command_of(name, file, options),
+        _ => desk_command_of(name, options),
     }
 }
 
-fn desk_command_of<'a>(name: &str, file: &'a str, options: &ArgMatches<'a>) -> Option<Command<'a>>
-    ensures ranges { IfSome result HasNumbersInRange }
+#[rattlefmt::skip]
+fn desk_command_of<'a>(name: &str, options: &ArgMatches<'a>) -> Option<Command<'a>>
     ensures named { IfSome result (λ command. name.now ≡ command_name command) }
+    ensures values { IfSome result (HasValues (rows_of (found_of options.now))) }
 {
-    let (id, capacity) = (options.get_str("id"), options.get_one::<u16>("capacity"));
+    let file = text_of(options, "file")?;
+    let (id, capacity) = (text_of(options, "id"), number_in(options, "capacity", 0, u16::MAX));
     match (name, id, capacity) {
         ("scan", _, Some(capacity)) => Some(Command::Scan { file, capacity }),
         ("import", _, Some(capacity)) => Some(Command::Import { file, capacity }),
@@ -162,27 +191,27 @@ fn desk_command_of<'a>(name: &str, file: &'a str, options: &ArgMatches<'a>) -> O
         ("deliver", Some(id), _) => Some(Command::Deliver { file, id }),
         ("forget", Some(id), _) => Some(Command::Forget { file, id }),
         ("export", Some(id), _) => Some(Command::Export { file, id }),
-        ("copy", Some(id), _) => Some(Command::Copy {
-            file,
-            id,
-            page: number_in(options, "page", 1, 16)?,
-            side: side_of(options)?,
-            scheme: encodation_of(options)?,
-        }),
+        ("copy", Some(id), _) => {
+            let (page, side) = (number_in(options, "page", 1, 16)?, number_in(options, "side", 10, 132)?);
+            Some(Command::Copy { file, id, page, side, scheme: encodation_of(options)? })
+        }
         _ => None,
     }
 }
 
 // What a line gives that has a word after the program's name. Each name that the parser takes has a command.
 fn answer<'a>(alloc: Global, name: &str, matches: &ArgMatches<'a>) -> Result<Command<'a>, LineFault>
-    ensures ranges { IfOk result HasNumbersInRange }
     ensures named { IfOk result (λ command. name.now ≡ command_name command) }
+    ensures values { IfOk result (λ command. IsSomeAnd (subcommand_rows_of matches.now) (λ m. HasValues m.1 command)) }
     ensures status { IfErr result HasStatus }
+    ensures version { name.now ≡ codes "version" → IsSome (subcommand_rows_of matches.now) → IfErr result (EndsWith 0) }
+    ensures other { name.now ≢ codes "version" → name.now ≢ codes "explain" → IfErr result (EndsWith 2) }
+    ensures none { IsNone (subcommand_rows_of matches.now) → IfErr result (EndsWith 2) }
 {
     let command = match (name, matches.subcommand()) {
-        ("version", Some(_)) => return Err(shown(String::from_str(alloc, VERSION), 0)),
+        ("version", Some(_)) => return Err(shown(format!(in alloc; "relay {VERSION}\n"), 0)),
         ("explain", Some((_, options))) => {
-            return Err(explanation_of(alloc, options.get_str("name")));
+            return Err(explanation_of(alloc, &EXPLANATIONS, text_of(options, "name")));
         }
         (name, Some((_, options))) => command_of(name, options),
         // A line that names no command, as `relay --`.
@@ -196,9 +225,10 @@ fn answer<'a>(alloc: Global, name: &str, matches: &ArgMatches<'a>) -> Result<Com
 ///
 /// # Errors
 /// A line that is wrong, or that asks for help, for the version or for what a refusal means: the fault has the text.
+#[inline(never)]
 pub fn command_line<'a, S: AsStr>(alloc: Global, words: &'a [S]) -> Result<Command<'a>, LineFault>
-    ensures ranges { IfOk result HasNumbersInRange }
     ensures named { IfOk result (IsNamed (option_map S.text (slice_get words.now 1))) }
+    ensures values { IfOk result IsFound }
     ensures status { IfErr result HasStatus }
 {
     let matches = match relay(alloc)?.try_get_matches_from(words) {
@@ -227,6 +257,7 @@ pub struct OtherFiles<'a> {
 ///
 /// # Errors
 /// Memory was refused.
+#[inline(never)]
 pub fn other_files<'a, S: AsStr>(
     alloc: Global,
     words: &'a [S],
