@@ -1,5 +1,5 @@
 -- Cutting from the left finds the one list of parts.
-use Rattle.std.proofs.Common.{◌≡◌, ℕ, ◌+◌, ◌-◌, ◌<◌, List, [], ◌∷◌, ◌++◌, length, take, drop, refl, sym, ap, subst, ◌∙◌, append_assoc, length-append, length-drop, arith}
+use Rattle.std.proofs.Common.{◌≡◌, ℕ, ◌+◌, ◌-◌, ◌<◌, List, [], ◌∷◌, ◌++◌, length, take, drop, sym, ap, subst, ◌∙◌, append_assoc, length-append, length-drop, arith}
 use Rattle.std.proofs.lemmas.List.{append-nil, take_all}
 use Rattle.dm_encodation.specs.declared.scheme.Scheme.{Scheme}
 use Rattle.dm_append_label.specs.Labels.{AreFullEnds}
@@ -14,9 +14,6 @@ pub record CutSoFar (scheme : Scheme) (room : ℕ) (document : List ℕ) (from :
       AreFullEnds scheme room document from rest
 
 module _ (scheme : Scheme) (room : ℕ) (document : List ℕ) where
-  pub none_cut : CutSoFar scheme room document 0 []
-  none_cut = record { forward = λ rest h. h; back = λ full h. (full, refl, h) }
-
   one_greatest : (bytes : List ℕ) (j k : ℕ) → IsGreatestPrefix scheme room bytes j →
       IsGreatestPrefix scheme room bytes k → j ≡ k
   one_greatest bytes j k a b =

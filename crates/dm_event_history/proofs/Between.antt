@@ -8,7 +8,6 @@ use Rattle.dm_append_label.specs.declared.opening.Opened.{Opened}
 use Rattle.dm_append_label.specs.declared.fault.LabelFault.{LabelFault}
 use Rattle.dm_assembly_desk.specs.declared.fault.DeskFault.TheVariants as desk_fault
 use Rattle.dm_assembly_desk.specs.declared.reply.Accepted.{Accepted}
-use Rattle.dm_assembly_desk.specs.declared.reply.Imported as imported_type
 use Rattle.dm_assembly_desk.specs.declared.reply.Kind.{Kind}
 use Rattle.dm_assembly_desk.specs.declared.reply.Kind.TheVariants as kinds
 use Rattle.dm_assembly_desk.specs.Documents.{Pages, page, Documents}
@@ -18,7 +17,7 @@ use Rattle.dm_print_ledger.specs.declared.range.Range.{Range}
 use Rattle.dm_event_history.specs.declared.event.Event.{Event}
 use Rattle.dm_event_history.specs.declared.event.Event.TheVariants.{Scan, RestartDesk, Ask, Forget, Export, Import}
 use Rattle.dm_event_history.specs.declared.reply.Reply.{Reply}
-use Rattle.dm_event_history.specs.declared.reply.Reply.TheVariants.{Scanned, Imported}
+use Rattle.dm_event_history.specs.declared.reply.Reply.TheVariants.{Scanned}
 use Rattle.dm_event_history.specs.declared.reply.Reply.TheVariants as replies
 use Rattle.dm_event_history.specs.declared.stop.Stop.{Stop}
 use Rattle.dm_event_history.specs.Steps.{may_save, Acts, DeskGoes, HasModules, IsNamed, Step, Moment, IsRun, PrinterAt, actor_of}
@@ -184,11 +183,6 @@ module _ (A : Type 0) (before : Relay) (desk name : ℕ) (stop : Stop) (earlier 
   forget_between actor end b acts = grind (arith, without)
 
 -- ---- imports
-
-not_imported : {A : Type 0} (before : Relay) (desk number : ℕ) (stop : Stop) (reply : Reply A) →
-    ((i : imported_type.Imported) → reply ≢ Imported i) → (at id m : ℕ) →
-    ¬ Takes before (Import desk number stop) reply at id m
-not_imported before desk number stop reply never at id m took = grind arith
 
 module _ (A : Type 0) (before : Relay) (desk number room : ℕ) (stop : Stop) (export : relays.Export)
     (earlier : List (Moment A)) (there : slice_get before.exports number ≡ Some export) where

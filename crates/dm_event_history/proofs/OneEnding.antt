@@ -130,7 +130,7 @@ restarts_one {A} {C} refused memory = record {
 abbrev pub SameTold : {A : Type 0} → Reply A → Reply A → Goods → Goods → Type 0
 SameTold r s g h = ((r ≡ s) × (g ≡ h)) ⊎ (IsOfMemory r ⊎ IsOfMemory s)
 
--- what is told is one thing, but for memory; and where memory is refused nothing leaves
+-- the reply is one, but for memory; and where memory is refused nothing leaves
 pub record TellsOne {A C : Type 0} (Tells : C → Reply A → Goods → Type 0) : Type 0 where
   pub alike : (held : C) (r s : Reply A) (g h : Goods) → Tells held r g → Tells held s h → SameTold r s g h
   pub still : (held : C) (r : Reply A) (g : Goods) → Tells held r g → IsOfMemory r → g ≡ nothing

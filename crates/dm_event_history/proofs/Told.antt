@@ -1,5 +1,5 @@
 -- What desks come to whose scans are fair, by what they answer: pages are added, or refused.
-use Rattle.std.proofs.Common.{arith, ◌≡◌, ◌≢◌, ◌⊎◌, ℕ, List, [], Option, Some, None, Result, Ok, Err, IsSome, sym, ap, subst, ◌∙◌}
+use Rattle.std.proofs.Common.{arith, ◌≡◌, ◌≢◌, ◌⊎◌, ℕ, List, [], Option, None, Result, Ok, Err, IsSome, sym, ap, subst, ◌∙◌}
 use Rattle.std.specs.Prelude.{is_none, unwrap_or, if◌then◌else◌}
 use Rattle.std.specs.Option.{option_or}
 use Rattle.std.specs.FinMap as finite
@@ -88,11 +88,6 @@ pub scan_was_refused : {A : Type 0} (room : ℕ) (p : PageView) (held : Document
 scan_was_refused {A} room p held fault after read near ended = grind arith
 
 -- ---- forgets
-
-pub record ForgetTold (id : ℕ) (held : Documents) (after : Actor Documents) : Type 0 where
-  pub pages : Pages
-  pub were_held : finite.get held id ≡ Some pages
-  pub after_is : after ≡ Running (finite.remove held id)
 
 -- the verdict by what is held of the document
 abbrev pub forget_by : Documents → ℕ → Option Pages → Verdict (Result (Unit {0}) ForgetFault)

@@ -36,7 +36,7 @@ use Rattle.dm_event_history.proofs.WorkedSteps.{both_labels, desk_goes, label, l
 
 -- ---- one step after another
 
--- the next relay, a step to it by what is named, and what is told from there
+-- the next relay, a step to it by what is named, and the rest from there
 step_to : {Named : Type 0} {Goes None Rest : Relay → Type 0} (next : Relay) → Named → Goes next → Rest next →
     (relay : Relay) × ((Named × Goes relay) ⊎ None relay) × Rest relay
 step_to next named goes rest = (next, inl (named, goes), rest)

@@ -70,9 +70,9 @@ pub fn reasons<A: Allocator>()
     ensures exhausted { EachExhaustedIsSo A }
 {}
 
-/// No ticket is taken twice, and no take is refused since a number of its ticket is free at its receiver. What a printer
-/// stores of tickets are those that it gave and took: its next serial is their number, and of each giver it has the
-/// greatest serial.
+/// No ticket is taken twice, and no take is refused since a number of its ticket is free at its receiver. What a
+/// printer stores of tickets are those that it gave and took: its next serial is their number, and of each giver it has
+/// the greatest serial.
 pub fn tickets<A: Allocator>()
     ensures once { EachRunTakesOnce A }
     ensures counted { EachRunCountsTickets A }

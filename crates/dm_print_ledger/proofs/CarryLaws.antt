@@ -16,13 +16,6 @@ pub refuses : {X F : Type 0} (failed memory save : F) (may_lack : Type 0) (verdi
     (let result : Result X F = Err fault in Carries failed memory save may_lack verdict old result old)
 refuses failed memory save may_lack verdict old fault running order e = grind arith
 
--- a running printer saves the ledger of the verdict
-pub carries : {X F : Type 0} (failed memory save : F) (may_lack : Type 0) (verdict : Result LedgerView F)
-    (next : LedgerView) (old : PrinterView) (result : Result X F) (new : PrinterView) →
-    old.is_failed ≡ false → IsInOrder old → verdict ≡ Ok next → is_sound next ≡ true →
-    Saves may_lack memory save next old result new → Carries failed memory save may_lack verdict old result new
-carries failed memory save may_lack verdict next old result new running order e sound saves = grind arith
-
 -- a document with parts, where no number is free
 pub none_free : (old : LedgerView) → length old.free ≡ 0 →
     print_verdict old true ≡ Err printing.Exhausted

@@ -1,6 +1,6 @@
 -- What `deliver`, `export`, `forget`, `import` and `scan` do to the files of a desk, and what they write. `scan` prints
--- a line for each image, in order, up to the end of the input, a plain image, bytes that are no image, a save that
--- failed, or the greatest number of images.
+-- a line for each image of a file, in order, up to the end of the file, a plain image, bytes that are no image, or the
+-- greatest number of images; and nothing after a save that failed.
 use Rattle.std.specs.Prelude.{◌≡◌, ◌<◌, ℕ, List, [], Option, None, IfSome, Result, Ok, Err, MatchResult, Bool, true, false}
 use Rattle.std.specs.FinMap as map
 use Rattle.hex.specs.Hex.{decode_sized}
@@ -68,7 +68,7 @@ pub data HasNoDesk (before : DeskFiles) (capacity : ℕ) (name : List ℕ) (afte
   not_opened : (fault : DeskFault) → MovesFiles before after → HasDeskFault after.set capacity fault
       → name ≡ desk_fault_name fault → HasNoDesk before capacity name after
 
--- How a command ends that opens a desk with this room: there is none, and the line that says why is told so; or it was
+-- How a command ends that opens a desk with this room: there is none, and the line of a refusal says why; or it was
 -- opened, and the rest is done there.
 pub data EndsAtDesk (Refuses : List ℕ → StreamsView → ℕ → StreamsView → Type 0) (capacity : ℕ)
     (Rest : DeskView → StreamsView → ℕ → OnDesk → Type 0) (old : OnDesk) (status : ℕ) (new : OnDesk) : Type 0 where
@@ -210,9 +210,9 @@ scan_images A = record {
   has_ended = λ at. at.desk.is_failed;
 }
 
--- A desk that was opened before anything was read has scanned all files, or the whole input where there is none, or the
--- output has refused a line, or a save has failed, and the images up to that were scanned. Either way each page that was held is held with the same bytes, and what the desk
--- holds is in order with its set.
+-- A desk that was opened before anything was read has scanned all files, or the whole input where there is none. Or the
+-- output has refused a line, or a save has failed, and the images up to that were scanned. Either way each page that was
+-- held is held with the same bytes, and what the desk holds is in order with its set.
 abbrev pub ScansAll : Type 0 → List (Option (List ℕ)) → DeskView → StreamsView → ℕ → OnDesk → Type 0
 ScansAll A images desk old status new = (after : DeskView) × TellsInputs (scan_images A) images
     (progress_at (record { desk = desk; errors = old.errors }) old.input old.output) status

@@ -198,9 +198,9 @@ fn settle_seen<T: StoreSet, W: Write>(set: &mut T, output: &mut Output<W>, statu
 /// identification, as for `deliver`, it prints that line alone, or `refused NotHeld`.
 ///
 /// In the place of a file that can't be read stands `file NAME FAULT`, and the others are listed all the same; for the
-/// file of an older version that line is the first, and its name is `joint`. The exit status is then 1. A last line is a
-/// refusal if a stop of the machine may take back what was seen. No desk is opened, nothing is saved or moved, and one
-/// document is in memory at a time.
+/// file of an older version that line is the first, and its name is `joint`. The exit status is then 1. A last line is
+/// a refusal if a stop of the machine may take back what was seen. No desk is opened, nothing is saved or moved, and
+/// one document is in memory at a time.
 pub fn held_command<S: Store, T: StoreSet, R: Read, W: Write, E: Write>(
     store: S,
     set: T,

@@ -112,11 +112,14 @@ impl<T: StoreSet, A: Allocator + Copy> OnImages<A> for Scanning<T, A> {
     ) };
 }
 
-/// Reads the images of all files, or of the input where there is none, one after another, hands the grid of each to the desk, which holds and saves its page, and prints for
-/// each `IIII m/n new`, `again` or `complete`, after the save, or `refused NAME`. A refused image doesn't end the
-/// command; a save that failed does, and so do bytes that are no image, and a plain image, but then the next file
-/// is read. At most 65,536 images of a file are read. The desk is opened before anything is read. Which image a refusal is of goes to the standard error, as
-/// `relay: image N: NAME`, or `relay: image N (IIII): NAME` if its label opens, and then what [`note_ending`] gives.
+/// Reads the images of all files, or of the input where there is none, one after another. It hands the grid of each to
+/// the desk, which holds and saves its page, and prints `IIII m/n new`, `again` or `complete` after the save, or
+/// `refused NAME`. The desk is opened before anything is read.
+///
+/// A refused image doesn't end the command; a save that failed does. Bytes that are no image and a plain image end
+/// their file, and the next file is read. At most 65,536 images of a file are read. Which image a refusal is of goes to
+/// the standard error, as `relay: image N: NAME`, or `relay: image N (IIII): NAME` if its label opens, and then what
+/// [`note_ending`] gives.
 pub fn scan_command<
     A: Allocator + Copy,
     S: Store,

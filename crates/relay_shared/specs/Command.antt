@@ -1,7 +1,7 @@
 -- The document that a command reads; how it says what has happened, by a line and by its exit status, and what is out
 -- if its output fails; and which of its streams it changes.
-use Rattle.std.specs.Prelude.{◌≡◌, ℕ, true, List, ◌⊎◌, ◌++◌, Option, Result, Ok, Err, OnErr, OnOk, codes}
-use Rattle.relay_streams.specs.Streams.{InputView, ReadsFirst, AppendsPart, IsFirstPart, OutputView, refused_line, write_fault_name}
+use Rattle.std.specs.Prelude.{◌≡◌, ℕ, true, List, ◌⊎◌, Result, Ok, Err, OnErr, OnOk, codes}
+use Rattle.relay_streams.specs.Streams.{InputView, ReadsFirst, AppendsPart, OutputView, refused_line, write_fault_name}
 use Rattle.relay_streams.specs.declared.fault.InputFault.{InputFault}
 use Rattle.relay_streams.specs.declared.fault.InputFault.TheVariants as input_faults
 use Rattle.relay_shared.specs.declared.command.TheConstants.{DOCUMENT_BYTES}
@@ -21,7 +21,7 @@ pub record HasInputFault (input rest : InputView) (fault : InputFault) : Type 0 
   pub read : fault ≡ input_faults.Read → rest.has_failed ≡ true
   pub memory : fault ≡ input_faults.Memory → rest.has_failed ≡ input.has_failed
 
--- ---- what is told
+-- ---- lines
 
 -- The text was written, or the output has failed. Either way a part of it is out, from its first byte on, and nothing
 -- else.
@@ -46,10 +46,6 @@ TellsRefusal name old status new = Tells (refused_line name) 1 old status new
 abbrev pub TellsAnswer : {X F : Type 0} → (X → List ℕ) → (F → List ℕ) → Result X F → OutputView → ℕ → OutputView → Type 0
 TellsAnswer line name (Ok answer) old status new = Tells (line answer) 0 old status new
 TellsAnswer line name (Err fault) old status new = TellsRefusal (name fault) old status new
-
--- a text was appended whole, after it a part of the next one, its first bytes, and nothing else
-abbrev pub AppendsThenPart : Option (List ℕ) → Option (List ℕ) → List ℕ → List ℕ → Type 0
-AppendsThenPart old new text next = (part : List ℕ) × IsFirstPart part next × Appends old new (text ++ part)
 
 -- ---- the streams
 

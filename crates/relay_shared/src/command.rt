@@ -145,7 +145,7 @@ pub fn refuse<W: Write>(output: &mut Output<W>, name: &str) -> u8
     1
 }
 
-/// The exit status after bytes for another program: where the output has refused them, the standard error is told.
+/// The exit status after bytes for another program. Where the output has refused them, the standard error gets a line.
 pub fn status_after_bytes<E: Write>(errors: &mut Output<E>, put: Result<(), WriteFault>) -> u8
     ensures { MatchResult put
         (λ _. (result ≡ 0) × (errors.new ≡ errors.old))

@@ -71,7 +71,7 @@ fn text_of<A: Allocator + Copy>(alloc: A, cure: Cure) -> Result<String<A>, Alloc
 }
 
 /// What a note of a refusal ends with: the first change after which the image would be read, or nothing. None is tried
-/// where the refusal isn't of the image itself, and want of memory is no change.
+/// where the refusal isn't of the image itself, and a lack of memory is no change.
 pub fn note_ending<A: Allocator + Copy>(alloc: A, image: &Image<A>, is_of_image: bool) -> String<A>
     ensures { EndsNote is_of_image (picture image.now) (string_bytes result) }
 {

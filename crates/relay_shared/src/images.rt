@@ -13,7 +13,7 @@ use relay_streams::{Input, InputFault, Output, WriteFault};
 use std::alloc::Allocator;
 use std::io::{Read, Write};
 
-/// The most images that a command reads.
+/// The most images that a command reads of the input, or of each file.
 pub const MOST_IMAGES: u32 = 65_536;
 
 /// What a command has answered to an image.
@@ -174,7 +174,8 @@ pub trait ImageFile {
     fn open(&self) -> Result<Self::Reader, InputFault>
         ensures { IfOk result (λ reader. Self.Reader.remaining reader ≡ remaining self.now) };
 
-    /// Called after the last line of a file that was opened, with whether any of its lines names a refusal.
+    /// Called after the last line of a file that was opened, with whether any of its lines names a refusal and the
+    /// output took them all.
     fn end(&self, refused: bool);
 }
 
@@ -257,8 +258,8 @@ fn each_file<A: Allocator + Copy, C: OnImages<A>, F: ImageFile, W: Write, E: Wri
     status
 }
 
-/// Answers to each image of these files in turn, until the output has failed or the command has ended; where there is no
-/// file, to those of the input.
+/// Answers to each image of these files in turn, until the output has failed or the command has ended; where there is
+/// no file, to those of the input.
 pub fn each_input<A: Allocator + Copy, C: OnImages<A>, F: ImageFile, R: Read, W: Write, E: Write>(
     alloc: A,
     command: &mut C,

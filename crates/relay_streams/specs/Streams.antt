@@ -1,5 +1,5 @@
--- What contracts see of a reader and of a writer: the bytes, where they are known, and whether it has failed; and how a
--- refusal is told.
+-- What contracts see of a reader and of a writer: the bytes, where they are known, and whether it has failed; and the
+-- line of a refusal.
 use Rattle.std.specs.Prelude.{◌≡◌, ◌<◌, ◌≤◌, ℕ, Bool, true, List, [], ◌∷◌, ◌++◌, length, take, Option, IfSome, MatchOption, Result, Err, codes}
 use Rattle.std.specs.Io.KnownBytes.{Keeps, Consumes, Appends, IsAtEnd}
 use Rattle.relay_streams.specs.declared.fault.WriteFault.{WriteFault}

@@ -1,5 +1,5 @@
--- What `read` prints: a line for each image, in order, up to the end of the input, a plain image, bytes that are no
--- image, or the greatest number of images. What a symbol carries is the standard's (ISO/IEC 16022:2006, 5.2 and 5.6,
+-- What `read` prints: a line for each image of a file, in order, up to the end of the file, a plain image, bytes that are
+-- no image, or the greatest number of images. What a symbol carries is the standard's (ISO/IEC 16022:2006, 5.2 and 5.6,
 -- Annexes A, E and F), how images follow one another Netpbm's, and where reading ends and what a line shows this
 -- project's own rule.
 use Rattle.std.specs.Prelude.{ℕ, Option, List, [], ◌∷◌, ◌++◌, codes, ◌≡◌, ◌≢◌, Bool, false, true, Err}

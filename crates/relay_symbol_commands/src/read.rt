@@ -187,10 +187,11 @@ impl<A: Allocator + Copy> OnImages<A> for Reading<A> {
     ghost keeps_later = { λ _ _ _ _ _ _ _ _. tt };
 }
 
-/// Reads images, one after another, and prints a line for each: what its symbol carries, as `label IIII m/n corrected C
-/// wrong W HEX` or `symbol SIDE corrected C wrong W HEX`, or `refused NAME`. A refused image doesn't end the command;
-/// bytes that are no image do, and so does a plain image. At most 65,536 images are read. An image that would be read if
-/// it were changed is named on the standard error, as `relay: image N: NAME`, and then what [`note_ending`] gives.
+/// Reads the images of all files, or of the input where there is none, one after another, and prints a line for each:
+/// what its symbol carries, as `label IIII m/n corrected C wrong W HEX` or `symbol SIDE corrected C wrong W HEX`, or
+/// `refused NAME`. A refused image doesn't end the command; bytes that are no image end their file, and so does a plain
+/// image. At most 65,536 images of a file are read. An image that would be read if it were changed is named on the
+/// standard error, as `relay: image N: NAME`, and then what [`note_ending`] gives.
 pub fn read_command<A: Allocator + Copy, F: ImageFile, R: Read, W: Write, E: Write>(
     alloc: A,
     images: &[F],

@@ -28,7 +28,7 @@ struct Lines<'a, W: Write> {
 }
 
 impl<A: Allocator + Copy, W: Write> Listener<A> for Lines<'_, W> {
-    // The same output is told the line, unless it has failed before, and a refusal is kept.
+    // The same output gets the line, unless it has failed before, and a refusal is kept.
     ghost hears = { λ before answer after. (after.output.ghost_name ≡ before.output.ghost_name)
         × (after.refused ≡ (before.refused || is_refused_answer answer))
         × (before.output.now.has_failed ≡ false → (put : Result (Unit {0}) WriteFault)
