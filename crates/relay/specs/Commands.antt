@@ -89,8 +89,8 @@ path_of other = []
 -- The draft of a file is beside it, and so is the file that is locked: beside a ledger, or beside a desk's folder.
 pub record IsPlaced (place : Place) : Type 0 where
   pub draft : string_bytes place.draft ≡ draft_of (string_bytes place.file)
-  pub of_ledger : IsFalse place.named.is_desk → string_bytes place.lock ≡ string_bytes place.file ++ codes ".lock"
-  pub of_desk : IsTrue place.named.is_desk → string_bytes place.lock ≡ string_bytes place.folder ++ codes ".lock"
+  pub of_ledger : IsFalse place.is_desk → string_bytes place.lock ≡ string_bytes place.file ++ codes ".lock"
+  pub of_desk : IsTrue place.is_desk → string_bytes place.lock ≡ string_bytes place.folder ++ codes ".lock"
 
 -- A command locks its files at its first load, by what it does to them and what it finds there: to make a ledger where
 -- nothing is, or a desk; to save to what is there; to move the documents of a joint file.

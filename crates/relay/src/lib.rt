@@ -22,16 +22,23 @@
 
 mod closed_streams;
 mod commands;
+mod line;
 mod line_buffer;
 mod lock;
 mod locked;
 mod named_images;
 mod notes;
 mod place;
+mod places;
 mod program;
+mod real_places;
 mod saved_output;
+mod standard;
+mod system;
 
 pub use commands::do_command;
+pub use place::{Access, Named};
+pub use places::Places;
 pub use program::run;
 pub use relay_command::Command;
 pub use relay_desk_commands::{
@@ -48,3 +55,5 @@ pub use relay_symbol_commands::{
     Form, ReadRefusal, SymbolRefusal, draw_command, read_command, words_command,
 };
 pub use relay_world_command::{INPUT_BYTES, world_command};
+pub use standard::StandardStreams;
+pub use system::System;

@@ -75,7 +75,7 @@ fn refused() -> Error {
 
 impl<W: Write, A: Allocator> LineBuffer<W, A> {
     ghost use Rattle.std.specs.Prelude.{false, true};
-    ghost use Rattle.relay.specs.Buffers.{promised};
+    ghost use Rattle.relay.specs.Buffers.{promised, IsPartOut};
 
     /// An empty buffer before a writer. It takes no memory.
     pub(crate) fn new(alloc: A, writer: W, least: usize) -> LineBuffer<W, A>
@@ -126,6 +126,16 @@ impl<W: Write, A: Allocator> LineBuffer<W, A> {
         }
         self.held.clear();
         Ok(())
+    }
+
+    /// Lets out what is held, and gives the writer, and whether all that was written is out.
+    pub(crate) fn end(mut self) -> (W, bool)
+        ensures all { result.1 ≡ true → Keeps (promised self) (W.contents result.0) }
+        ensures part { IsPartOut (promised self) (W.contents result.0) }
+        ensures failed { self.has_failed ≡ true → result.1 ≡ false × W.contents result.0 ≡ self.out }
+    {
+        let is_all = self.let_out().is_ok();
+        (self.into_writer(), is_all)
     }
 
     // Writes past the buffer, in which there is no room: what is held goes out first.

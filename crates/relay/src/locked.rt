@@ -1,15 +1,16 @@
 //! Files that lock themselves.
 
 ghost use Rattle.std.specs.Prelude.{◌≡◌};
-ghost use Rattle.relay.specs.Commands.{locks};
+ghost use Rattle.relay.specs.Program.{locks};
 
 use crate::lock::{Lock, LockFault};
-use crate::place::{Access, Named, Place};
+use crate::place::{Access, Place};
 use dm_store::{Disk, Folders, StoreFault};
 use std::cell::{Cell, OnceCell};
 use std::fs::{File, Metadata};
 use std::io::ErrorKind;
 use std::os::unix::fs::MetadataExt;
+use std::rc::Rc;
 use std::rt::Files;
 
 // The endings of what is made beside a ledger or a desk.
@@ -59,13 +60,13 @@ fn locks_files(access: Access, found: Found) -> bool
 }
 
 /// Whether the path of a file ends as that of one that is made beside a ledger or a desk.
-pub(crate) fn has_own_ending(place: &Place<'_>) -> bool {
+pub(crate) fn has_own_ending(place: &Place) -> bool {
     let path = place.file.as_str();
     OWN_ENDINGS.iter().any(|ending| path.ends_with(*ending))
 }
 
 // The plain file of a command, if surely something is there.
-fn file_at<R: Files>(rt: &R, place: &Place<'_>) -> Result<Option<Metadata>, Reason> {
+fn file_at<R: Files>(rt: &R, place: &Place) -> Result<Option<Metadata>, Reason> {
     if place.is_file_lost {
         return Err(Reason::LostLink);
     }
@@ -83,7 +84,7 @@ fn file_at<R: Files>(rt: &R, place: &Place<'_>) -> Result<Option<Metadata>, Reas
 }
 
 // Whether a file has a name beside its own, and beside that of its draft, which a stop may have left it.
-fn has_second_name<R: Files>(rt: &R, place: &Place<'_>, file: &Metadata) -> bool {
+fn has_second_name<R: Files>(rt: &R, place: &Place, file: &Metadata) -> bool {
     let is_draft = matches!(rt.symlink_metadata(place.draft.as_str()), Ok(draft)
         if (draft.dev(), draft.ino()) == (file.dev(), file.ino()));
     file.nlink() > 1 + u64::from(is_draft)
@@ -94,7 +95,7 @@ fn has_second_name<R: Files>(rt: &R, place: &Place<'_>, file: &Metadata) -> bool
 #[derive(Drop)]
 pub(crate) struct Gate<'a, R> {
     rt: &'a R,
-    pub(crate) place: &'a Place<'a>,
+    pub(crate) place: Place,
     // What came of the first load: the lock, if the command takes one, or why it can't have its files.
     entered: OnceCell<Result<Option<Lock>, Reason>>,
     has_saved: Cell<bool>,
@@ -108,7 +109,7 @@ pub(crate) struct Gate<'a, R> {
 
 impl<'a, R: AllocGlobal + Files<File = File>> Gate<'a, R> {
     /// The files at a place, which were not asked for yet.
-    pub(crate) fn new(rt: &'a R, place: &'a Place<'a>) -> Gate<'a, R> {
+    pub(crate) fn new(rt: &'a R, place: Place) -> Gate<'a, R> {
         Gate {
             rt,
             place,
@@ -132,12 +133,8 @@ impl<'a, R: AllocGlobal + Files<File = File>> Gate<'a, R> {
 
     // Looks at what is there, and locks it if the command may save.
     fn enter(&self) -> Result<Option<Lock>, Reason> {
-        let (rt, place) = (self.rt, self.place);
-        let Named {
-            access,
-            is_desk,
-            ..
-        } = place.named;
+        let (rt, place) = (self.rt, &self.place);
+        let (access, is_desk) = (place.access, place.is_desk);
         let file = file_at(rt, place)?;
         let has_folder = is_desk && rt.symlink_metadata(place.folder.as_str()).is_ok();
         let found = Found {
@@ -178,7 +175,7 @@ impl<'a, R: AllocGlobal + Files<File = File>> Gate<'a, R> {
         if self.entered.get().is_none() {
             let _ = self.entered.set(self.enter());
         }
-        let place = self.place;
+        let place = &self.place;
         let is_lost = place.is_folder_lost && path.starts_with(place.folder.as_str());
         self.allows(match self.entered.get() {
             Some(Err(reason)) => Err(*reason),
@@ -199,8 +196,8 @@ impl<'a, R: AllocGlobal + Files<File = File>> Gate<'a, R> {
 
     // Keeps why a rename has failed, if something has come to the place of a new ledger.
     fn look_at_place(&self) {
-        let place = self.place;
-        if place.named.access == Access::Creates
+        let place = &self.place;
+        if place.access == Access::Creates
             && self.rt.symlink_metadata(place.file.as_str()).is_ok()
         {
             self.reason.set(Some(Reason::Taken));
@@ -212,8 +209,16 @@ impl<'a, R: AllocGlobal + Files<File = File>> Gate<'a, R> {
 /// before each call that makes, renames or removes.
 #[derive(Drop)]
 pub(crate) struct Locked<'a, R, D> {
-    pub(crate) gate: &'a Gate<'a, R>,
-    pub(crate) within: D,
+    rt: &'a R,
+    gate: Rc<Gate<'a, R>>,
+    within: D,
+}
+
+impl<'a, R, D> Locked<'a, R, D> {
+    /// A disk behind a gate.
+    pub(crate) fn new(rt: &'a R, gate: Rc<Gate<'a, R>>, within: D) -> Locked<'a, R, D> {
+        Locked { rt, gate, within }
+    }
 }
 
 impl<R: AllocGlobal + Files<File = File>, D: Disk> Disk for Locked<'_, R, D> {
@@ -225,7 +230,7 @@ impl<R: AllocGlobal + Files<File = File>, D: Disk> Disk for Locked<'_, R, D> {
         if !self.gate.may_load(name) {
             return Err(StoreFault::Device);
         }
-        let kept = String::from_str(self.gate.rt.alloc(), name);
+        let kept = String::from_str(self.rt.alloc(), name);
         self.gate.loaded.set(kept.ok());
         self.within.read(name, limit)
     }

@@ -12,7 +12,7 @@ use std::{fs, io};
 #[derive(Drop)]
 pub(crate) struct NamedImages<'a, R> {
     pub(crate) rt: &'a R,
-    pub(crate) name: &'a str,
+    pub(crate) name: String,
 }
 
 /// The program's input, or a file.
@@ -39,11 +39,11 @@ impl<R: AllocGlobal + Input + Eprint + Files<File = File>> ImageFile for NamedIm
     ghost remaining = { λ _. None };
 
     fn open(&self) -> Result<BufReader<Source<R::Reader>>, InputFault> {
-        let source = if self.name == "-" {
+        let source = if self.name.as_str() == "-" {
             Source::Input(self.rt.reader())
         } else {
-            let Ok(file) = fs::open(self.rt, self.name) else {
-                note(self.rt, self.name, "can't be opened");
+            let Ok(file) = fs::open(self.rt, self.name.as_str()) else {
+                note(self.rt, self.name.as_str(), "can't be opened");
                 return Err(InputFault::Read);
             };
             Source::File(file)
@@ -56,7 +56,7 @@ impl<R: AllocGlobal + Input + Eprint + Files<File = File>> ImageFile for NamedIm
 
     fn end(&self, refused: bool) {
         if refused {
-            note(self.rt, self.name, "has images that are refused");
+            note(self.rt, self.name.as_str(), "has images that are refused");
         }
     }
 }

@@ -1,5 +1,5 @@
-//! What goes to the standard error beside the line of a refusal, since that line can't say it. Each note is one line,
-//! and is written at once.
+//! What goes to the standard error beside the line of a refusal, since that line can't say it. Each note is one line.
+//! Where there is no memory for it, nothing is said.
 
 use crate::locked::Reason;
 use crate::place::Place;
@@ -19,16 +19,17 @@ fn line_of(alloc: Global, name: &str, why: &str) -> Result<String, AllocError> {
     format!(in alloc; "relay: {name}: {why}\n")
 }
 
-/// Notes why something was refused. Where there is no memory for the line, nothing is said.
+/// Writes why something was refused, at once.
 pub(crate) fn note<R: AllocGlobal + Eprint>(rt: &R, name: &str, why: &str) {
     if let Ok(line) = line_of(rt.alloc(), name, why) {
         let _ = eprint!(rt; "{line}");
     }
 }
 
-/// Notes why a command did not find or did not get its files.
-pub(crate) fn note_reason<R: AllocGlobal + Eprint>(rt: &R, place: &Place<'_>, reason: Reason) {
-    let (file, folder, lock) = (place.named.file, place.folder.as_str(), place.lock.as_str());
+/// Why a command did not find or did not get its files.
+pub(crate) fn note_of_reason(alloc: Global, place: &Place, reason: Reason) -> Option<String> {
+    let (file, folder) = (place.named.as_str(), place.folder.as_str());
+    let lock = place.lock.as_str();
     let (path, why) = match reason {
         Reason::NoDesk => (file, "there is no desk"),
         Reason::LostLink => (file, "a link that leads nowhere"),
@@ -46,13 +47,13 @@ pub(crate) fn note_reason<R: AllocGlobal + Eprint>(rt: &R, place: &Place<'_>, re
         Reason::NotLocked => (file, "nothing can be saved there"),
         Reason::Taken => (file, "something is there already"),
     };
-    note(rt, path, why);
+    line_of(alloc, path, why).ok()
 }
 
 // The fault of a file of a desk, if it has one: of the joint file, or of one in the folder, whose name is its key.
 fn fault_in<D: Folders>(
     disk: D,
-    place: &Place<'_>,
+    place: &Place,
     path: &str,
 ) -> Result<Option<&'static str>, AllocError> {
     if path != place.file.as_str() {
@@ -72,17 +73,15 @@ fn fault_in<D: Folders>(
     }
 }
 
-/// Notes the fault of the file that a desk's command has loaded last, if it has one: the command has ended there. Where
-/// memory is refused nothing is said.
-pub(crate) fn note_faulty_file<R: AllocGlobal + Eprint, D: Folders>(
-    rt: &R,
+/// The fault of the file that a desk's command has loaded last, if it has one: the command has ended there.
+pub(crate) fn note_of_file<D: Folders>(
+    alloc: Global,
     disk: D,
-    place: &Place<'_>,
+    place: &Place,
     path: &str,
-) {
-    if let Ok(Some(name)) = fault_in(disk, place, path) {
-        note(rt, path, name);
-    }
+) -> Option<String> {
+    let name = fault_in(disk, place, path).ok()??;
+    line_of(alloc, path, name).ok()
 }
 
 // The first name in a folder that is not UTF-8, escaped, if it has one. Each name ends with a byte 0.
@@ -104,11 +103,13 @@ fn odd_name<R: AllocGlobal + Files>(rt: &R, folder: &str) -> Option<String> {
     None
 }
 
-/// Notes why the files in a desk's folder can't be listed.
-pub(crate) fn note_folder<R: AllocGlobal + Eprint + Files>(rt: &R, place: &Place<'_>) {
+/// Why the files in a desk's folder can't be listed.
+pub(crate) fn note_of_folder<R: AllocGlobal + Files>(rt: &R, place: &Place) -> Option<String> {
     let folder = place.folder.as_str();
-    match odd_name(rt, folder) {
-        Some(why) => note(rt, folder, why.as_str()),
-        None => note(rt, folder, "can't be listed"),
-    }
+    let odd = odd_name(rt, folder);
+    let why = match &odd {
+        Some(why) => why.as_str(),
+        None => "can't be listed",
+    };
+    line_of(rt.alloc(), folder, why).ok()
 }

@@ -1,7 +1,7 @@
 //! The files that a command names, and where they are.
 
 ghost use Rattle.std.specs.Prelude.{◌≡◌, [], IfOk, IfSome, IsTrue, MatchOption};
-ghost use Rattle.relay.specs.Commands.{IsPlaced, path_of};
+ghost use Rattle.relay.specs.Program.{IsPlaced, path_of};
 ghost use Rattle.relay.specs.declared.place.Access.TheVariants.{Makes};
 
 use dm_assembly_desk::MOST_CAPACITY;
@@ -11,8 +11,8 @@ use std::io::ErrorKind;
 use std::rt::Files;
 
 /// What a command does to its files.
-#[derive(Clone, Copy, PartialEq, Eq)]
-pub(crate) enum Access {
+#[derive(Clone, Copy, Debug, PartialEq, Eq)]
+pub enum Access {
     /// It makes a ledger where nothing is.
     Creates,
     /// It saves, and makes the desk if it isn't there.
@@ -29,12 +29,12 @@ pub(crate) enum Access {
 
 /// The files that a command names.
 #[derive(Clone, Copy)]
-pub(crate) struct Named<'a> {
+pub struct Named<'a> {
     /// The path of a ledger, or of a desk's joint file.
-    pub(crate) file: &'a str,
+    pub file: &'a str,
     /// Whether it is that of a desk, whose other files stand in the folder beside it.
-    pub(crate) is_desk: bool,
-    pub(crate) access: Access,
+    pub is_desk: bool,
+    pub access: Access,
 }
 
 // What a command does that gathers pages.
@@ -97,8 +97,12 @@ pub(crate) fn refuses_on_errors(command: Command) -> bool {
 
 /// Where the files that a command names are. At none of the paths is a link, but of one that leads nowhere.
 #[derive(Drop)]
-pub(crate) struct Place<'a> {
-    pub(crate) named: Named<'a>,
+pub(crate) struct Place {
+    /// The path that the command names.
+    pub(crate) named: String,
+    /// Whether it is that of a desk.
+    pub(crate) is_desk: bool,
+    pub(crate) access: Access,
     /// The ledger, or the joint file of a desk.
     pub(crate) file: String,
     /// Whether a link is there that leads nowhere.
@@ -125,12 +129,12 @@ fn follow<R: AllocGlobal + Files>(rt: &R, path: String) -> Result<(String, bool)
     }
 }
 
-impl<'a> Place<'a> {
+impl Place {
     /// Follows the links at the paths of a command. Nothing is opened.
     ///
     /// # Errors
     /// Memory was refused.
-    pub(crate) fn of<R: AllocGlobal + Files>(rt: &R, named: Named<'a>) -> Result<Self, AllocError>
+    pub(crate) fn of<R: AllocGlobal + Files>(rt: &R, named: Named<'_>) -> Result<Self, AllocError>
         ensures { IfOk result IsPlaced }
     {
         let alloc = rt.alloc();
@@ -142,7 +146,9 @@ impl<'a> Place<'a> {
         let locked = locked.as_str();
         let lock = format!(in alloc; "{locked}.lock")?;
         Ok(Place {
-            named,
+            named: String::from_str(alloc, named.file)?,
+            is_desk: named.is_desk,
+            access: named.access,
             file,
             is_file_lost,
             draft,

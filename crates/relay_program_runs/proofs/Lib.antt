@@ -9,3 +9,4 @@ pub mod Steps
 pub mod WorkedFacts
 pub mod WorkedCommands
 pub mod ShortLists
+pub mod LinePaths

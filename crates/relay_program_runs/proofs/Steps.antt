@@ -25,7 +25,7 @@ by_index P [] all j d within = absurd (omega (arith, within))
 by_index P (x ∷ xs) all zero d within = all.0
 by_index P (x ∷ xs) all (suc j) d within = by_index P xs all.1 j d (omega arith)
 
-found : {X : Type 0} (P : X → Type 0) (xs : List X) → AllByRecursion P xs → (i : ℕ) (x : X) → slice_get xs i ≡ Some x →
+pub found : {X : Type 0} (P : X → Type 0) (xs : List X) → AllByRecursion P xs → (i : ℕ) (x : X) → slice_get xs i ≡ Some x →
     P x
 found P [] all i x is = cc (is)
 found P (y ∷ ys) all zero x is = subst P (cc (is)) all.0

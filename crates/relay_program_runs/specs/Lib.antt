@@ -1,3 +1,4 @@
 pub mod Passed
 pub mod Law
 pub mod Worked
+pub mod Lines

@@ -1,6 +1,7 @@
 //! The laws: each function's contract is the law.
 
 ghost use Rattle.relay_program_runs.specs.Law.{NoIdIsPrintedTwice, WhatIsDeliveredWasPrinted, WhatIsWrittenWasPrinted};
+ghost use Rattle.relay_program_runs.specs.Lines.{NoLinePrintsAnIdAgain, WhatLinesDeliverWasPrinted};
 ghost use Rattle.relay_program_runs.specs.Worked.{RefusalsCountNot, SayAtLeast};
 
 use std::alloc::Allocator;
@@ -13,6 +14,16 @@ pub fn no_id_is_printed_twice<A: Allocator>()
 /// What is delivered was printed.
 pub fn what_is_delivered_was_printed<A: Allocator>()
     ensures { WhatIsDeliveredWasPrinted A }
+{}
+
+/// No line of the program prints an identification that was printed before.
+pub fn no_line_prints_an_id_again<A: Allocator>()
+    ensures { NoLinePrintsAnIdAgain A }
+{}
+
+/// What lines of the program deliver was printed.
+pub fn what_lines_deliver_was_printed<A: Allocator>()
+    ensures { WhatLinesDeliverWasPrinted A }
 {}
 
 /// What `deliver` wrote is nothing, or a first part of a document that was printed.

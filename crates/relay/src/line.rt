@@ -1,0 +1,258 @@
+//! What the words of a line say, done on a system.
+
+ghost use Rattle.std.specs.Prelude.{◌≡◌, ◌⊎◌, IfOk, map, option_map, slice_get};
+ghost use Rattle.relay.specs.Program.{DoesAndSaves, DoesAt, DoesFor, Helps, LacksMemory, Notes, OrNothing, Runs, SavesOutput, Shows, TellsOut, save_fault_name, system_at};
+
+use crate::place::{named_by, refuses_on_errors};
+use crate::places::Places;
+use crate::standard::{Done, StandardStreams, do_between, show, tell};
+use crate::system::System;
+use dm_store::{MemSet, MemStore, StoreFault};
+use relay_command::Command;
+use relay_line::{LineFault, OtherFiles, command_line, other_files};
+use relay_shared::ImageFile;
+use std::alloc::{AllocError, Global};
+use std::convert::AsStr;
+use std::io::{Read, Write};
+
+// The name of the refusal of an output that was not saved.
+fn save_fault_name(fault: StoreFault) -> &'static str
+    ensures { result.now ≡ save_fault_name fault }
+{
+    match fault {
+        StoreFault::Device => "Save",
+        StoreFault::Memory => "Memory",
+    }
+}
+
+// The files of images of these names.
+fn images_of<P: Places>(
+    alloc: Global,
+    places: &P,
+    names: &[&str],
+) -> Result<Vec<P::Images>, AllocError>
+    ensures { IfOk result (λ given. map P.Images.remaining given.items
+        ≡ map (P.images places.now) (map (λ name. name.now) names.now)) }
+{
+    let mut images = Vec::new(alloc);
+    for name in names {
+        images.push(places.images(*name)?)?;
+    }
+    Ok(images)
+}
+
+impl<I: Read + Drop, O: Write + Drop, E: Write + Drop> StandardStreams<I, O, E> {
+    // Puts a note, if there is one, on the standard error.
+    fn noted(self, alloc: Global, note: Option<String>) -> Self
+        ensures input { result.input ≡ self.input }
+        ensures output { result.output ≡ self.output }
+        ensures errors { Notes self.errors result.errors }
+    {
+        let Some(text) = note else {
+            return self;
+        };
+        let StandardStreams(input, output, errors) = self;
+        let (errors, _) = show(alloc, errors, text.as_str());
+        StandardStreams(input, output, errors)
+    }
+
+    // Writes the line of a refusal to the standard error, and gives the exit status.
+    fn refuse_on_errors(self, alloc: Global, name: &str) -> (u8, Self)
+        ensures input { result.1.input ≡ self.input }
+        ensures output { result.1.output ≡ self.output }
+        ensures errors { TellsOut name.now self.errors result.0 result.1.errors }
+    {
+        let StandardStreams(input, output, errors) = self;
+        let (status, errors) = tell(alloc, errors, name);
+        (status, StandardStreams(input, output, errors))
+    }
+
+    // Writes the line of a refusal to the output, and gives the exit status.
+    fn refuse_on_output(self, alloc: Global, name: &str) -> (u8, Self)
+        ensures input { result.1.input ≡ self.input }
+        ensures output { TellsOut name.now self.output result.0 result.1.output }
+        ensures errors { result.1.errors ≡ self.errors }
+    {
+        let StandardStreams(input, output, errors) = self;
+        let (status, output) = tell(alloc, output, name);
+        (status, StandardStreams(input, output, errors))
+    }
+
+    // Shows the help that a line asks for, and gives the exit status.
+    fn show_help(self, alloc: Global, text: &str) -> (u8, Self)
+        ensures { Helps text.now self result.0 result.1 }
+    {
+        let StandardStreams(input, output, errors) = self;
+        let (output, is_all) = show(alloc, output, text);
+        let standard = StandardStreams(input, output, errors);
+        if is_all {
+            return (0, standard);
+        }
+        standard.refuse_on_errors(alloc, "Write")
+    }
+
+    // Shows why a line wasn't taken, or the help that it asks for, and gives the exit status.
+    fn show_fault(self, alloc: Global, fault: &LineFault) -> (u8, Self)
+        ensures { Shows fault.now self result.0 result.1 }
+    {
+        match fault {
+            LineFault::Line { text, status: 0 } => self.show_help(alloc, text.as_str()),
+            LineFault::Line { text, status } => {
+                let StandardStreams(input, output, errors) = self;
+                let (errors, _) = show(alloc, errors, text.as_str());
+                (*status, StandardStreams(input, output, errors))
+            }
+            LineFault::Memory => self.refuse_on_errors(alloc, "Memory"),
+        }
+    }
+}
+
+impl<I: Read + Drop, O: Write + Drop, E: Write + Drop, P: Places> System<I, O, E, P> {
+    // Does a command that writes to the output, unless memory is refused for the paths that it names.
+    fn do_here<F: ImageFile>(
+        self,
+        alloc: Global,
+        images: &[F],
+        command: Command,
+    ) -> (Result<u8, AllocError>, Self)
+        ensures { OrNothing (DoesAt Global command.entry (map F.remaining images.now))
+            (system_at self.standard (P.state self.places)) result.0
+            (system_at result.1.standard (P.state result.1.places)) }
+    {
+        let System {
+            standard,
+            mut places,
+        } = self;
+        let Some(named) = named_by(command) else {
+            let (file, folder) = (MemStore::new(alloc), MemSet::new(alloc));
+            let done = do_between(alloc, file, folder, images, standard, command);
+            let Done {
+                status,
+                standard,
+                ..
+            } = done;
+            return (Ok(status), System { standard, places });
+        };
+        let Ok((file, folder)) = places.open(named) else {
+            return (Err(AllocError), System { standard, places });
+        };
+        let done = do_between(alloc, file, folder, images, standard, command);
+        let Done {
+            status,
+            store,
+            set,
+            standard,
+        } = done;
+        let note = places.close(named, store, set, status);
+        let standard = standard.noted(alloc, note);
+        (Ok(status), System { standard, places })
+    }
+
+    // Saves what a command has written as a new file, and gives the exit status.
+    fn save_output(self, alloc: Global, path: &str, bytes: &[u8]) -> (u8, Self)
+        ensures { SavesOutput path.now bytes.now (system_at self.standard (P.state self.places)) result.0
+            (system_at result.1.standard (P.state result.1.places)) }
+    {
+        let System {
+            standard,
+            mut places,
+        } = self;
+        let (answer, note) = places.save_new(path, bytes);
+        let Err(fault) = answer else {
+            return (0, System { standard, places });
+        };
+        let name = save_fault_name(fault);
+        let (status, standard) = standard.refuse_on_errors(alloc, name);
+        let standard = standard.noted(alloc, note);
+        (status, System { standard, places })
+    }
+
+    // Does a command, and saves its output as a new file, if it was done.
+    fn do_saved(self, alloc: Global, path: &str, command: Command) -> (Result<u8, AllocError>, Self)
+        ensures { OrNothing (DoesAndSaves Global command.entry path.now) (system_at self.standard (P.state self.places)) result.0
+            (system_at result.1.standard (P.state result.1.places)) }
+    {
+        let System { standard, places } = self;
+        let StandardStreams(input, own, errors) = standard;
+        let output = Vec::new(alloc);
+        let standard = StandardStreams(input, output, errors);
+        let images: [P::Images; 0] = [];
+        let (ended, system) = System { standard, places }.do_here(alloc, &images, command);
+        let System { standard, places } = system;
+        let StandardStreams(input, bytes, errors) = standard;
+        let standard = StandardStreams(input, own, errors);
+        let system = System { standard, places };
+        let Ok(status) = ended else {
+            return (Err(AllocError), system);
+        };
+        if status != 0 {
+            return (Ok(status), system);
+        }
+        let (status, system) = system.save_output(alloc, path, bytes.as_slice());
+        (Ok(status), system)
+    }
+
+    // Does a command with the other files of its line.
+    fn do_with(
+        self,
+        alloc: Global,
+        files: OtherFiles<'_>,
+        command: Command,
+    ) -> (Result<u8, AllocError>, Self)
+        ensures { OrNothing (DoesFor Global (P.images self.places) command.entry) (system_at self.standard (P.state self.places)) result.0
+            (system_at result.1.standard (P.state result.1.places)) }
+    {
+        if let Some(path) = files.saved_as {
+            return self.do_saved(alloc, path, command);
+        }
+        match images_of(alloc, &self.places, files.images.as_slice()) {
+            Ok(images) => self.do_here(alloc, images.as_slice(), command),
+            Err(AllocError) => (Err(AllocError), self),
+        }
+    }
+
+    // Refuses where the command's refusals go, and gives the exit status.
+    fn refuse_memory(self, alloc: Global, command: Command) -> (u8, Self)
+        ensures { LacksMemory (system_at self.standard (P.state self.places)) result.0 (system_at result.1.standard (P.state result.1.places)) }
+    {
+        let System { standard, places } = self;
+        let (status, standard) = if refuses_on_errors(command) {
+            standard.refuse_on_errors(alloc, "Memory")
+        } else {
+            standard.refuse_on_output(alloc, "Memory")
+        };
+        (status, System { standard, places })
+    }
+
+    // Does the command of a line, and gives the exit status.
+    fn do_line<S: AsStr>(self, alloc: Global, words: &[S], command: Command) -> (u8, Self)
+        ensures { DoesFor Global (P.images self.places) command.entry (system_at self.standard (P.state self.places)) result.0
+            (system_at result.1.standard (P.state result.1.places))
+            ⊎ LacksMemory (system_at self.standard (P.state self.places)) result.0 (system_at result.1.standard (P.state result.1.places)) }
+    {
+        let (ended, system) = match other_files(alloc, words) {
+            Ok(files) => self.do_with(alloc, files, command),
+            Err(AllocError) => (Err(AllocError), self),
+        };
+        match ended {
+            Ok(status) => (status, system),
+            Err(AllocError) => system.refuse_memory(alloc, command),
+        }
+    }
+
+    /// Does what the words of a line say, the first of which is the program's name, and gives the exit status: that of
+    /// the command, or 2 where the line was refused, or 0 where help was asked for.
+    pub fn run_line<S: AsStr>(self, alloc: Global, words: &[S]) -> (u8, Self)
+        ensures { Runs Global (P.images self.places) (option_map S.text (slice_get words.now 1)) (system_at self.standard (P.state self.places)) result.0
+            (system_at result.1.standard (P.state result.1.places)) }
+    {
+        match command_line(alloc, words) {
+            Ok(command) => self.do_line(alloc, words, command),
+            Err(fault) => {
+                let System { standard, places } = self;
+                let (status, standard) = standard.show_fault(alloc, &fault);
+                (status, System { standard, places })
+            }
+        }
+    }
+}

@@ -1,0 +1,68 @@
+//! What is at the paths that a line names.
+
+use crate::place::Named;
+use dm_store::{Store, StoreFault, StoreSet};
+use relay_shared::ImageFile;
+use std::alloc::AllocError;
+
+/// What is at the paths of a system: at each a ledger or a desk; and files of images.
+pub trait Places: Drop {
+    ghost use Rattle.std.specs.Prelude.{◌≡◌, ℕ, List, Option, IfOk, OnErr, OnOk};
+    ghost use Rattle.relay.specs.Program.{PlacesView, KeepsOthers, SavesNew, files_of};
+
+    /// A ledger, or the joint file of a desk.
+    type File: Store;
+
+    /// The folder of a desk's files.
+    type Folder: StoreSet;
+
+    /// A file of images.
+    type Images: ImageFile + Drop;
+
+    /// What is there.
+    ghost state: { Self → PlacesView };
+
+    /// The bytes of the files of images, by their names, where they are known.
+    ghost images: { Self → List ℕ → Option (List ℕ) };
+
+    /// Whether the files at a path are given out.
+    ghost is_open: { Self → List ℕ → Type 0 };
+
+    /// Gives out the file and the folder that a command names. They lock themselves at their first load, if the command
+    /// may save.
+    ///
+    /// # Errors
+    /// Memory was refused.
+    fn open(&mut self, named: Named<'_>) -> Result<(Self::File, Self::Folder), AllocError>
+        ensures there { IfOk result (λ files. files_of (Self.File.state files.0) (Self.Folder.state files.1)
+            ≡ state self.old named.entry.file.now) }
+        ensures others { KeepsOthers named.entry.file.now (state self.old) (state self.new) }
+        ensures is_open { OnOk result (is_open self.new named.entry.file.now) }
+        ensures refused { OnErr result (state self.new ≡ state self.old) };
+
+    /// Takes them back after a command of this status, ends their lock, and gives what is to be said of them on the
+    /// standard error.
+    fn close(
+        &mut self,
+        named: Named<'_>,
+        file: Self::File,
+        folder: Self::Folder,
+        status: u8,
+    ) -> Option<String>
+        requires { is_open self.old named.file.now }
+        ensures there { state self.new named.entry.file.now
+            ≡ files_of (Self.File.state file) (Self.Folder.state folder) }
+        ensures others { KeepsOthers named.entry.file.now (state self.old) (state self.new) };
+
+    /// The file of images of a name.
+    ///
+    /// # Errors
+    /// Memory was refused.
+    fn images(&self, name: &str) -> Result<Self::Images, AllocError>
+        ensures { IfOk result (λ given. Self.Images.remaining given ≡ images self.now name.now) };
+
+    /// Saves the bytes as a new file, as stores are saved: whenever the machine stops, the whole file is there or none.
+    /// If it is not saved, it may give what is to be said of it on the standard error.
+    fn save_new(&mut self, path: &str, bytes: &[u8]) -> (Result<(), StoreFault>, Option<String>)
+        ensures { SavesNew path.now bytes.now (state self.old) result.0 (state self.new) };
+}

@@ -1,0 +1,158 @@
+//! A command between the standard streams: what it writes goes out through buffers.
+
+ghost use Rattle.std.specs.Prelude.{◌≡◌, map, true, false};
+ghost use Rattle.relay.specs.Buffers.{promised};
+ghost use Rattle.relay.specs.Program.{DoesBetween, LetsOut, ShowsPart, TellsOut, files_of};
+ghost use Rattle.std.specs.Io.KnownBytes.{Appends};
+
+use crate::commands::do_command;
+use crate::line_buffer::LineBuffer;
+use crate::place::refuses_on_errors;
+use dm_store::{Store, StoreSet};
+use relay_command::Command;
+use relay_shared::{EndedDesk, ImageFile, Streams, refuse};
+use relay_streams::{Output, put_to};
+use std::alloc::Allocator;
+use std::io::{Read, Write};
+use std::marker::Model;
+
+// How many bytes of its output a command that answers once keeps, before it lets whole lines out.
+const MANY_BYTES: usize = 8192;
+
+/// The standard streams: the input, the output and the standard error.
+#[derive(Drop)]
+pub struct StandardStreams<I: Read, O: Write, E: Write>(pub I, pub O, pub E);
+
+impl<I: Read, O: Write, E: Write> Model for StandardStreams<I, O, E> {
+    ghost use Rattle.relay.specs.Program.{StandardView};
+
+    ghost Value = { StandardView };
+
+    ghost view = { λ standard. record {
+      input = I.remaining standard.0;
+      output = O.contents standard.1;
+      errors = E.contents standard.2;
+    } };
+}
+
+// Whether a command answers to each image before it waits for the next.
+fn answers_each_image(command: Command) -> bool {
+    matches!(command, Command::Read | Command::Scan { .. })
+}
+
+// How many bytes of its output a command keeps: of `read`, `scan` and `world` each line goes out before the next image
+// is waited for or the next event comes.
+fn least_of(command: Command) -> usize {
+    if answers_each_image(command) || matches!(command, Command::World) {
+        0
+    } else {
+        MANY_BYTES
+    }
+}
+
+// Whether it is said that the output has failed: but for a command that has said so itself, for one that was refused
+// and can't say it, and for one that answers to each image.
+fn says_failure(command: Command, has_failed: bool, status: u8) -> bool
+    ensures { has_failed ≡ false → status ≡ 0 → result ≡ true }
+{
+    if has_failed {
+        !refuses_on_errors(command) && !answers_each_image(command)
+    } else {
+        status == 0
+    }
+}
+
+/// Tells a stream the line of a refusal, and gives the exit status.
+pub(crate) fn tell<A: Allocator, W: Write + Drop>(alloc: A, writer: W, name: &str) -> (u8, W)
+    ensures { TellsOut name.now (W.contents writer) result.0 (W.contents result.1) }
+{
+    let mut told = Output::new(LineBuffer::new(alloc, writer, 0));
+    let status = refuse(&mut told, name);
+    let (writer, _) = told.into_writer().end();
+    (status, writer)
+}
+
+/// Writes a text, and says whether all of it is out.
+pub(crate) fn show<A: Allocator, W: Write + Drop>(alloc: A, writer: W, text: &str) -> (W, bool)
+    ensures all { result.1 ≡ true → Appends (W.contents writer) (W.contents result.0) text.now }
+    ensures part { ShowsPart (W.contents writer) (W.contents result.0) text.now }
+{
+    let mut buffer = LineBuffer::new(alloc, writer, 0);
+    let put = put_to(&mut buffer, text.as_bytes());
+    let (writer, is_all) = buffer.end();
+    (writer, is_all && put.is_ok())
+}
+
+// Lets out what a command has written, and says where it could not. The exit status, and the writers.
+fn let_out<A: Allocator, O: Write + Drop, E: Write + Drop>(
+    output: LineBuffer<O, A>,
+    errors: Output<LineBuffer<E, A>>,
+    ended: u8,
+    says: bool,
+) -> (u8, O, E)
+    ensures { LetsOut says (promised output) errors ended result.0 (O.contents result.1) (E.contents result.2) }
+{
+    let (output, is_all) = output.end();
+    let mut told = errors;
+    let status = if !is_all && says {
+        refuse(&mut told, "Write")
+    } else {
+        ended
+    };
+    let (errors, _) = told.into_writer().end();
+    (status, output, errors)
+}
+
+/// How a command has ended, and what it leaves.
+#[derive(Drop)]
+pub(crate) struct Done<S: Store, T: StoreSet, I: Read, O: Write, E: Write> {
+    pub(crate) status: u8,
+    pub(crate) store: S,
+    pub(crate) set: T,
+    pub(crate) standard: StandardStreams<I, O, E>,
+}
+
+/// Does a command over a store, a set and files of images, and lets out what it has written. It stays a function of its
+/// own, so that the frames of its instances don't add up on the stack.
+#[inline(never)]
+pub(crate) fn do_between<
+    A: Allocator + Copy,
+    S: Store,
+    T: StoreSet,
+    F: ImageFile,
+    I: Read + Drop,
+    O: Write + Drop,
+    E: Write + Drop,
+>(
+    alloc: A,
+    store: S,
+    set: T,
+    images: &[F],
+    standard: StandardStreams<I, O, E>,
+    command: Command,
+) -> Done<S, T, I, O, E>
+    ensures { DoesBetween A command.entry (map F.remaining images.now) (files_of (S.state store) (T.state set)) standard
+        result.status (files_of (S.state result.store) (T.state result.set)) result.standard }
+{
+    let StandardStreams(input, output, errors) = standard;
+    let output = LineBuffer::new(alloc, output, least_of(command));
+    let errors = LineBuffer::new(alloc, errors, 0);
+    let mut streams = Streams::new(input, output, errors);
+    let ended = do_command(alloc, store, set, images, &mut streams, command);
+    let EndedDesk { status, store, set } = ended;
+    let Streams {
+        input,
+        output,
+        errors,
+    } = streams;
+    let says = says_failure(command, output.has_failed(), status);
+    let (status, output, errors) = let_out(output.into_writer(), errors, status, says);
+    let input = input.into_reader();
+    let standard = StandardStreams(input, output, errors);
+    Done {
+        status,
+        store,
+        set,
+        standard,
+    }
+}

@@ -1,0 +1,233 @@
+-- Lines that ran over the places of a system are commands that ran at a site: the paths that they name, each once.
+use Rattle.std.proofs.Common.{◌≡◌, ◌≢◌, ◌++◌, ◌⊎◌, inl, inr, ℕ, zero, suc, List, [], ◌∷◌, None, Option, Some, slice_get, slice_set, refl, sym, ap, subst, ◌∙◌, Bool, true, false}
+use Rattle.std.specs.Prelude.{Decides, IfSome, IsTrue}
+use Rattle.std.specs.List.{AllByRecursion}
+use Rattle.std.specs.Str.{bytes_eq}
+use Rattle.std.proofs.lemmas.Slice.Eq.{bytes_eq-Decides}
+use Rattle.relay_command.specs.declared.command.Command.{Command}
+use Rattle.relay_desk_commands.specs.Desks.{DeskFiles}
+use Rattle.relay.specs.Commands.{path_of}
+use Rattle.relay.specs.Program.{IsAt, PlacesView, SystemView, at_none, at_path, does, does_and_saves, does_here, lacks_memory, shows}
+use Rattle.relay.specs.Program as program
+use Rattle.relay_program_runs.specs.Law.{At, Asks, IsBlank, IsNew, Ran, Runs}
+use Rattle.relay_program_runs.specs.Lines.{Follow, LineRan, LinesAsk, NoLinePrintsAnIdAgain, WhatLinesDeliverWasPrinted, all_commands, commands_in, if_at, ran_at, saved_as}
+use Rattle.relay_program_runs.proofs.Lists.{all_so}
+use Rattle.relay_program_runs.proofs.Steps.{Pairs, at_same, found, pairs_so, there}
+use Rattle.relay_program_runs.proofs.Walk.{no_id_is_printed_twice, what_is_delivered_was_printed}
+
+-- ---- paths, each once
+
+abbrev IsIn : List (List ℕ) → List ℕ → Type 0
+IsIn paths path = (i : ℕ) × (slice_get paths i ≡ Some path)
+
+-- the path is none of these
+abbrev IsNone : List (List ℕ) → List ℕ → Type 0
+IsNone paths path = AllByRecursion (λ other. path ≢ other) paths
+
+abbrev IsApart : List ℕ → List ℕ → Type 0
+IsApart one other = one ≢ other
+
+later_in : (first : List ℕ) (paths : List (List ℕ)) (path : List ℕ) → IsIn paths path → IsIn (first ∷ paths) path
+later_in first paths path (i, at) = (suc i, at)
+
+decided : (b : Bool) (one other : List ℕ) → Decides b (one ≡ other) → (one ≡ other) ⊎ (one ≢ other)
+decided true one other d = inl (d.0 refl)
+decided false one other d = inr (λ same. cc (d.1 same))
+
+in_or_none : (path : List ℕ) (paths : List (List ℕ)) → IsIn paths path ⊎ IsNone paths path
+in_or_none path [] = inr tt
+in_or_none path (first ∷ rest) = elim (decided (bytes_eq path first) path first (bytes_eq-Decides path first)) [
+  | inl same ↦ inl (zero, ap Some (sym same))
+  | inr other ↦ elim (in_or_none path rest) [
+    | inl is ↦ inl (later_in first rest path is)
+    | inr none ↦ inr (other, none)
+  ]
+]
+
+-- ---- a site of them
+
+abbrev site_of : List (List ℕ) → PlacesView → List At
+site_of [] places = []
+site_of (path ∷ paths) places = there path (places path) ∷ site_of paths places
+
+at_in : (paths : List (List ℕ)) (places : PlacesView) (i : ℕ) (path : List ℕ) → slice_get paths i ≡ Some path →
+    slice_get (site_of paths places) i ≡ Some (there path (places path))
+at_in [] places i path is = cc (is)
+at_in (first ∷ rest) places zero path is =
+    let same : first ≡ path = cc (is) in ap (λ (p : List ℕ). Some (there p (places p))) same
+at_in (first ∷ rest) places (suc i) path is = at_in rest places i path is
+
+-- at every other of these paths is what was there before
+abbrev KeepsIn : List (List ℕ) → List ℕ → PlacesView → PlacesView → Type 0
+KeepsIn paths path old new = (other : List ℕ) → IsIn paths other → path ≢ other → new other ≡ old other
+
+and_then : {X : Type 0} {x y : X} {xs ys : List X} → x ≡ y → xs ≡ ys → x ∷ xs ≡ y ∷ ys
+and_then first rest = λ i. first i ∷ rest i
+
+same_site : (paths : List (List ℕ)) (path : List ℕ) (old new : PlacesView) → IsNone paths path →
+    KeepsIn paths path old new → site_of paths old ≡ site_of paths new
+same_site [] path old new none keeps = refl
+same_site (first ∷ rest) path old new none keeps =
+    and_then (at_same refl (sym (keeps first (zero, refl) none.0)))
+    (same_site rest path old new none.1 (λ other is. keeps other (later_in first rest other is)))
+
+set_in_site : (paths : List (List ℕ)) → Pairs IsApart paths → (i : ℕ) (path : List ℕ) → slice_get paths i ≡ Some path →
+    (old new : PlacesView) (after : DeskFiles) → new path ≡ after → KeepsIn paths path old new →
+    slice_set (site_of paths old) i (there path after) ≡ site_of paths new
+set_in_site [] apart i path is old new after left keeps = cc (is)
+set_in_site (first ∷ rest) apart zero path is old new after left keeps =
+    let same : first ≡ path = cc (is) in
+    and_then (at_same (sym same) (sym left ∙ ap new (sym same)))
+    (same_site rest path old new (subst (IsNone rest) same apart.0)
+    (λ other is. keeps other (later_in first rest other is)))
+set_in_site (first ∷ rest) apart (suc i) path is old new after left keeps =
+    and_then (at_same refl (sym (keeps first (zero, refl)
+    (λ same. found (λ (other : List ℕ). first ≢ other) rest apart.0 i path is (sym same)))))
+    (set_in_site rest apart.1 i path is old new after left (λ other is. keeps other (later_in first rest other is)))
+
+module _ (places : PlacesView) (blank : (path : List ℕ) → IsBlank (there path (places path))) where
+  all_blank : (paths : List (List ℕ)) → AllByRecursion IsBlank (site_of paths places)
+  all_blank [] = tt
+  all_blank (path ∷ paths) = (blank path, all_blank paths)
+
+  none_there : (paths : List (List ℕ)) (path : List ℕ) → IsNone paths path →
+      AllByRecursion (λ (at : At). path ≢ at.path) (site_of paths places)
+  none_there [] path none = tt
+  none_there (first ∷ rest) path none = (none.0, none_there rest path none.1)
+
+  pairs_there : (paths : List (List ℕ)) → Pairs IsApart paths →
+      Pairs (λ (one other : At). one.path ≢ other.path) (site_of paths places)
+  pairs_there [] apart = tt
+  pairs_there (path ∷ paths) apart = (none_there paths path apart.0, pairs_there paths apart.1)
+
+  new_site : (paths : List (List ℕ)) → Pairs IsApart paths → IsNew (site_of paths places)
+  new_site paths apart = record {
+    paths = pairs_so _ (site_of paths places) (pairs_there paths apart);
+    blank = found IsBlank (site_of paths places) (all_blank paths);
+  }
+
+-- ---- commands over places
+
+all_later : {X : Type 0} (P : X → Type 0) (xs ys : List X) → AllByRecursion P (xs ++ ys) → AllByRecursion P ys
+all_later P [] ys all = all
+all_later P (x ∷ xs) ys all = all_later P xs ys all.1
+
+if_some_so : {X : Type 0} (P Q : X → Type 0) (o : Option X) → ((x : X) → P x → Q x) → IfSome o P → IfSome o Q
+if_some_so P Q None each so = tt
+if_some_so P Q (Some x) each so = each x so
+
+module _ (A : Type 0) where
+  abbrev AllIn : List (List ℕ) → List (Ran A) → Type 0
+  AllIn paths rans = AllByRecursion (λ ran. IsIn paths (path_of ran.command)) rans
+
+  abbrev IsNoPath : List (Ran A) → List ℕ → Type 0
+  IsNoPath rans path = AllByRecursion (λ ran. path ≢ path_of ran.command) rans
+
+  -- the paths of some commands, and no other
+  record Covers (rans : List (Ran A)) : Type 0 where
+    paths : List (List ℕ)
+    apart : Pairs IsApart paths
+    all : AllIn paths rans
+    no_other : (path : List ℕ) → IsNoPath rans path → IsNone paths path
+
+  covers : (rans : List (Ran A)) → Covers rans
+  covers [] = record { paths = []; apart = tt; all = tt; no_other = λ path no. tt }
+  covers (ran ∷ later) = let c = covers later in elim (in_or_none (path_of ran.command) c.paths) [
+    | inl is ↦ record {
+      paths = c.paths;
+      apart = c.apart;
+      all = (is, c.all);
+      no_other = λ path no. c.no_other path no.1;
+    }
+    | inr none ↦ record {
+      paths = path_of ran.command ∷ c.paths;
+      apart = (none, c.apart);
+      all = (
+        (zero, refl),
+        all_so _ _ later (λ other is. later_in (path_of ran.command) c.paths (path_of other.command) is) c.all,
+      );
+      no_other = λ path no. (no.0, c.no_other path no.1);
+    }
+  ]
+
+  module _ (paths : List (List ℕ)) where
+    abbrev RunsOver : PlacesView → List (Ran A) → Type 0
+    RunsOver places [] = Unit {0}
+    RunsOver places (ran ∷ later) = (ran.before.files ≡ places (path_of ran.command)) × (next : PlacesView)
+        × (next (path_of ran.command) ≡ ran.after.files) × KeepsIn paths (path_of ran.command) places next
+        × RunsOver next later
+
+    runs_there : Pairs IsApart paths → (places : PlacesView) (rans : List (Ran A)) → AllIn paths rans →
+        RunsOver places rans → Runs (site_of paths places) rans
+    runs_there apart places [] all over = tt
+    runs_there apart places (ran ∷ later) (is, all) (finds, next, leaves, keeps, rest) = (
+      is.0,
+      at_in paths places is.0 (path_of ran.command) is.1 ∙ ap Some (at_same refl (sym finds)),
+      subst (λ (site : List At). Runs site later)
+          (sym (set_in_site paths apart is.0 (path_of ran.command) is.1 places next ran.after.files leaves keeps))
+          (runs_there apart next later all rest),
+    )
+
+    agree : (old new : PlacesView) (rans : List (Ran A)) → AllIn paths rans →
+        ((other : List ℕ) → IsIn paths other → new other ≡ old other) → RunsOver new rans → RunsOver old rans
+    agree old new [] all same over = tt
+    agree old new (ran ∷ later) (is, all) same (finds, next, leaves, keeps, rest) = (
+      finds ∙ same (path_of ran.command) is,
+      next,
+      leaves,
+      λ other is' apart. keeps other is' apart ∙ same other is',
+      rest,
+    )
+
+    over_at : (ran : Ran A) (old new : PlacesView) (at : IsAt (path_of ran.command) ran.before.files old ran.after.files new)
+        (rans : List (Ran A)) → RunsOver new rans → RunsOver old (if_at at ran ++ rans)
+    over_at ran old new (at_none no_path same) rans over = subst (λ (p : PlacesView). RunsOver p rans) same over
+    over_at ran old new (at_path finds leaves keeps) rans over =
+        (finds, new, leaves, λ other is apart. keeps other (λ same. apart (sym same)), over)
+
+    over_line : (images : List ℕ → Option (List ℕ)) (name : Option (List ℕ)) (old new : SystemView) (status : ℕ)
+        (line : program.Runs A images name old status new) (rans : List (Ran A)) → AllIn paths rans →
+        IfSome (saved_as line) (IsNone paths) → RunsOver new.places rans →
+        RunsOver old.places (commands_in line ++ rans)
+    over_line images name old new status (does command named numbers (does_here names at)) rans all saved over =
+        over_at (ran_at at) old.places new.places at.is_at rans over
+    over_line images name old new status (does command named numbers (does_and_saves path to)) rans all saved over =
+        over_at (ran_at to.does) old.places to.done.places to.does.is_at rans (elim to.saves [
+          | inl kept ↦ subst (λ (s : SystemView). RunsOver s.places rans) kept.2 over
+          | inr (zero_is, saves) ↦ elim saves.saves [
+            | inl kept ↦ subst (λ (p : PlacesView). RunsOver p rans) kept.0 over
+            | inr (replaced, set, keeps) ↦ agree to.done.places new.places rans all
+                (λ other is. keeps other (λ same. found (λ (p : List ℕ). path ≢ p) paths saved is.0 other is.1 (sym same)))
+                over
+          ]
+        ])
+    over_line images name old new status (lacks_memory command named lacks) rans all saved over =
+        subst (λ (p : PlacesView). RunsOver p rans) lacks.places over
+    over_line images name old new status (shows fault ends shown same) rans all saved over =
+        subst (λ (p : PlacesView). RunsOver p rans) same over
+
+    over_lines : (lines : List (LineRan A)) (places : PlacesView) → AllIn paths (all_commands lines) →
+        AllByRecursion (λ line. IfSome (saved_as line.runs) (IsNone paths)) lines → Follow places lines →
+        RunsOver places (all_commands lines)
+    over_lines [] places all saved follow = tt
+    over_lines (line ∷ later) places all saved (same, follow) =
+        let rest = all_later _ (commands_in line.runs) (all_commands later) all in
+        subst (λ (p : PlacesView). RunsOver p (all_commands (line ∷ later))) same
+        (over_line line.images line.name line.before line.after line.status line.runs (all_commands later)
+        rest saved.0 (over_lines later line.after.places rest saved.1 follow))
+
+  asks : (lines : List (LineRan A)) (ask : LinesAsk lines) →
+      Asks (site_of (covers (all_commands lines)).paths ask.places) (all_commands lines)
+  asks lines ask = let c = covers (all_commands lines) in record {
+    is_new = new_site ask.places ask.is_new c.paths c.apart;
+    runs = runs_there c.paths c.apart ask.places (all_commands lines) c.all (over_lines c.paths lines ask.places c.all
+        (all_so _ _ lines (λ line apart. if_some_so _ _ (saved_as line.runs) c.no_other apart) ask.saved_apart) ask.follow);
+    apart = ask.apart;
+    tickets = ask.tickets;
+  }
+
+  pub no_line_prints_an_id_again : NoLinePrintsAnIdAgain A
+  no_line_prints_an_id_again lines ask = no_id_is_printed_twice A _ (all_commands lines) (asks lines ask)
+
+  pub what_lines_deliver_was_printed : WhatLinesDeliverWasPrinted A
+  what_lines_deliver_was_printed among lines ask = what_is_delivered_was_printed A among _ (all_commands lines) (asks lines ask)

@@ -1,0 +1,86 @@
+-- The laws of commands, said of the program: of lines that ran one after another over the places of one system.
+use Rattle.std.specs.Prelude.{◌≡◌, ◌≢◌, ◌++◌, ◌∷◌, ℕ, AllPairs, Bool, List, [], None, Option, Some, IfSome, IsTrue}
+use Rattle.std.specs.List.{AllByRecursion}
+use Rattle.relay_command.specs.declared.command.Command.{Command}
+use Rattle.relay_desk_commands.specs.Desks.{DeskFiles}
+use Rattle.relay.specs.Commands.{path_of}
+use Rattle.relay.specs.Program.{DoesAt, IsAt, PlacesView, SystemView, at_none, at_path, does, does_and_saves, does_here, streams_over}
+use Rattle.relay.specs.Program as program
+use Rattle.relay_program_runs.specs.Law.{AreApart, DeliversPrinted, Each, IsBlank, IsFirstOfItsId, Ran, TakesGiven, TakesPrinted, all_made, exited}
+
+-- A line that ran: the bytes of the files of images, by their names, where they are known; its first word; the system before
+-- and after it; and its status, which nobody saw if the machine cut it short. Then it left what it may leave if, from some
+-- point on, each call and each write fails.
+pub record LineRan (A : Type 0) : Type 0 where
+  pub images : List ℕ → Option (List ℕ)
+  pub name : Option (List ℕ)
+  pub before : SystemView
+  pub status : ℕ
+  pub after : SystemView
+  pub runs : program.Runs A images name before status after
+
+-- ---- the commands of lines
+
+module _ {A : Type 0} where
+  -- the command that was done, with what it found at its path, and what it left there
+  abbrev pub ran_at : {command : Command} {images : List (Option (List ℕ))} {old new : SystemView} {status : ℕ} →
+      DoesAt A command images old status new → Ran A
+  ran_at {command} {images} {old} at = record {
+    command = command;
+    images = images;
+    before = record { files = at.before; streams = streams_over old.standard };
+    after = record { files = at.after; streams = at.between.wrote };
+    ends = exited at.between.ended at.between.does;
+  }
+
+  -- a command that names no path is none of those that the laws speak of
+  abbrev pub if_at : {path : List ℕ} {before after : DeskFiles} {old new : PlacesView} →
+      IsAt path before old after new → Ran A → List (Ran A)
+  if_at (at_none no_path same) ran = []
+  if_at (at_path finds leaves keeps) ran = ran ∷ []
+
+  abbrev pub commands_in : {images : List ℕ → Option (List ℕ)} {name : Option (List ℕ)} {old new : SystemView} {status : ℕ} →
+      program.Runs A images name old status new → List (Ran A)
+  commands_in (does command named numbers (does_here names at)) = if_at at.is_at (ran_at at)
+  commands_in (does command named numbers (does_and_saves path to)) = if_at to.does.is_at (ran_at to.does)
+  commands_in other = []
+
+  abbrev pub all_commands : List (LineRan A) → List (Ran A)
+  all_commands [] = []
+  all_commands (line ∷ later) = commands_in line.runs ++ all_commands later
+
+  -- the path of the file that the output of a line was to be saved as
+  abbrev pub saved_as : {images : List ℕ → Option (List ℕ)} {name : Option (List ℕ)} {old new : SystemView} {status : ℕ} →
+      program.Runs A images name old status new → Option (List ℕ)
+  saved_as (does command named numbers (does_and_saves path to)) = Some path
+  saved_as other = None
+
+  -- ---- premises
+
+  -- the lines ran one after another, the oldest first: each found what the one before left, at each path
+  abbrev pub Follow : PlacesView → List (LineRan A) → Type 0
+  Follow places [] = Unit {0}
+  Follow places (line ∷ later) = (line.before.places ≡ places) × Follow line.after.places later
+
+  -- Nothing is there at first, nothing but these lines changes it, no output is saved as the file of a ledger or a desk,
+  -- ledgers are made apart, and tickets are taken as they were given.
+  pub record LinesAsk (lines : List (LineRan A)) : Type 0 where
+    pub places : PlacesView
+    pub is_new : (path : List ℕ) → IsBlank (record { path = path; files = places path })
+    pub follow : Follow places lines
+    pub saved_apart : AllByRecursion (λ line. IfSome (saved_as line.runs)
+        (λ path. AllByRecursion (λ ran. path ≢ path_of ran.command) (all_commands lines))) lines
+    pub apart : AllPairs AreApart (all_made (all_commands lines))
+    pub tickets : Each TakesGiven [] (all_commands lines)
+
+-- ---- the laws
+
+-- No line prints an identification that was printed before.
+abbrev pub NoLinePrintsAnIdAgain : Type 0 → Type 0
+NoLinePrintsAnIdAgain A = (lines : List (LineRan A)) → LinesAsk lines → Each IsFirstOfItsId [] (all_commands lines)
+
+-- What lines deliver at some paths was printed, if besides what they took in was printed.
+abbrev pub WhatLinesDeliverWasPrinted : Type 0 → Type 0
+WhatLinesDeliverWasPrinted A = (among : List ℕ → Bool) (lines : List (LineRan A)) → LinesAsk lines →
+    Each (TakesPrinted (λ path. IsTrue (among path))) [] (all_commands lines) →
+    Each (DeliversPrinted (λ path. IsTrue (among path))) [] (all_commands lines)
