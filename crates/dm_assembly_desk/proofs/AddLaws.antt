@@ -9,7 +9,7 @@ use Rattle.std.specs.Ordering.{nat_cmp, eq_by_cmp}
 use Rattle.std.specs.FinMap.{get, len, get-insert}
 use Rattle.dm_store.specs.Saved.{Outcome}
 use Rattle.dm_assembly_desk.specs.Documents.{Pages, page, mask, IsEntry, IsShort, Documents, AreEntries, own_pages, page_at, KeepsPages, DeskView, union_of, added_mask}
-use Rattle.dm_assembly_desk.specs.Adding.{Carries, Ends, JudgedAs, answer_by, add_kind, kind_of, pages_with, with_pages, reply_of, verdict_by, Adds}
+use Rattle.dm_assembly_desk.specs.Desk.{Carries, Ends, JudgedAs, answer_by, add_kind, kind_of, pages_with, with_pages, reply_of, verdict_by, Adds}
 use Rattle.dm_assembly_desk.specs.declared.reply.Kind.{Kind}
 use Rattle.dm_assembly_desk.specs.declared.reply.Kind.TheVariants.{New, Again, Complete}
 use Rattle.dm_assembly_desk.specs.declared.reply.Imported.{Imported}

@@ -9,7 +9,7 @@ use Rattle.std.specs.FinMap.{entries, keys, empty, len, len-entries, len-empty, 
 use Rattle.std.proofs.lemmas.List.{take_all, length-take}
 use Rattle.dm_store.specs.Saved.{Contents}
 use Rattle.dm_assembly_desk.specs.Documents.{Pages, Documents}
-use Rattle.dm_assembly_desk.specs.Opening.{entries_of, joint_file, SpellsAll, HoldsJointFile, IsOfOtherJointVersion, HasJointFileFault}
+use Rattle.dm_assembly_desk.specs.Desk.{entries_of, joint_file, SpellsAll, HoldsJointFile, IsOfOtherJointVersion, HasJointFileFault}
 use Rattle.dm_assembly_desk.specs.inner.Reading.{entries_at}
 use Rattle.dm_assembly_desk.specs.declared.fault.MoveFault.{MoveFault}
 use Rattle.dm_assembly_desk.specs.declared.fault.MoveFault.TheVariants.{NotPages, Version, Damaged, Device, Memory}

@@ -4,7 +4,7 @@ use Rattle.std.specs.Prelude.{◌≢◌, slice_set}
 use Rattle.std.specs.List.{AllByRecursion}
 use Rattle.dm_append_label.specs.Labels.{PageView}
 use Rattle.dm_assembly_desk.specs.Documents.{Pages, page, lent_bytes, mask, IsEntry, IsShort}
-use Rattle.dm_assembly_desk.specs.Adding.{lone}
+use Rattle.dm_assembly_desk.specs.Desk.{lone}
 
 blanks : (n k : ℕ) → n ≤ k → map lent_bytes (take n (replicate k None)) ≡ replicate n None
 blanks zero k le = refl

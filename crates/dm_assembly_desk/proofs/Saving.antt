@@ -8,7 +8,7 @@ use Rattle.dm_store.specs.Saved.{SavePlan, SavesFine, FaultOld, FaultNew, SavesO
 use Rattle.dm_store.specs.declared.store.StoreFault.{StoreFault}
 use Rattle.dm_store.specs.declared.store.StoreFault.TheVariants as removing
 use Rattle.dm_assembly_desk.specs.Documents.{Pages, IsEntry, file, Documents, AreEntries, HoldsFiles, DeskView, IsInOrder}
-use Rattle.dm_assembly_desk.specs.Adding.{SavesDocument, shown, Ends}
+use Rattle.dm_assembly_desk.specs.Desk.{SavesDocument, shown, Ends}
 use Rattle.dm_assembly_desk.proofs.Loading.{itself, same_key, entries_insert}
 use Rattle.dm_assembly_desk.proofs.Undoing.{get_here}
 

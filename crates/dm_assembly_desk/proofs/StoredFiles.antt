@@ -9,7 +9,7 @@ use Rattle.std.specs.FinMap.{entries, len, find, get-entries, get-from_entries, 
 use Rattle.dm_store.specs.Saved.{LoadsFine, LoadsOpen, SavedSet, Contents}
 use Rattle.dm_store.proofs.SortedMaps.{as_map, len_is}
 use Rattle.dm_assembly_desk.specs.Documents.{Pages, IsEntry, file, HasFileFault, Documents, HoldsFiles, IsCapacity}
-use Rattle.dm_assembly_desk.specs.Opening.{FirstFault, HasDeskFault}
+use Rattle.dm_assembly_desk.specs.Desk.{FirstFault, HasDeskFault}
 use Rattle.dm_assembly_desk.specs.declared.file.FileFault.{FileFault}
 use Rattle.dm_assembly_desk.specs.declared.file.FileFault.TheVariants.{NotPages, Version, Damaged}
 use Rattle.dm_assembly_desk.specs.declared.fault.DeskFault.{DeskFault}

@@ -1,6 +1,4 @@
-pub mod Adding
 pub mod Codes
 pub mod Documents
-pub mod Faults
-pub mod Opening
 pub mod inner
+pub mod Desk

@@ -12,7 +12,7 @@ use dm_store::StoreSet;
 use std::alloc::Allocator;
 
 impl<S: StoreSet, A: Allocator + Copy> Desk<S, A> {
-    ghost use Rattle.dm_assembly_desk.specs.Adding.{Accepts, AcceptsGrid};
+    ghost use Rattle.dm_assembly_desk.specs.Desk.{Accepts, AcceptsGrid};
     ghost use Rattle.dm_assembly_desk.specs.Documents.{KeepsPages, IsInOrder};
 
     /// Opens a scanned label, from any grid, and holds and saves its page where it was not held.

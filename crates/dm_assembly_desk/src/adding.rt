@@ -7,8 +7,7 @@ ghost use Rattle.std.specs.FinMap as map;
 ghost use Rattle.std.specs.Option.{option_copied};
 ghost use Rattle.dm_store.specs.Saved.{outcome_of, SavesKey};
 ghost use Rattle.dm_assembly_desk.specs.Documents.{lent_bytes, file, IsEntry, union_of};
-ghost use Rattle.dm_assembly_desk.specs.Adding.{kind_of, JudgedAs};
-ghost use Rattle.dm_assembly_desk.specs.Faults.{keep_fault};
+ghost use Rattle.dm_assembly_desk.specs.Desk.{kind_of, JudgedAs, keep_fault};
 
 use crate::desk::Desk;
 use crate::document::Document;
@@ -46,7 +45,7 @@ impl From<StoreFault> for AddFault {
 }
 
 impl<S: StoreSet, A: Allocator + Copy> Desk<S, A> {
-    ghost use Rattle.dm_assembly_desk.specs.Adding.{Adds, Ends};
+    ghost use Rattle.dm_assembly_desk.specs.Desk.{Adds, Ends};
     ghost use Rattle.dm_assembly_desk.specs.Documents.{IsInOrder};
 
     /// Answers the pages of a document, and holds and saves at once those that were not held. Where that fails, what

@@ -1,7 +1,7 @@
 //! Why a desk refuses, each with its name as it is printed.
 
 ghost use Rattle.std.specs.Prelude.{◌≡◌};
-ghost use Rattle.dm_assembly_desk.specs.Faults.{scan_fault, scan_fault_of, import_fault, import_fault_of, desk_fault_of, move_fault_of, desk_fault_name, scan_fault_name, ask_fault_name, forget_fault_name, export_fault_name, import_fault_name, move_fault_name};
+ghost use Rattle.dm_assembly_desk.specs.Desk.{scan_fault, scan_fault_of, import_fault, import_fault_of, desk_fault_of, move_fault_of, desk_fault_name, scan_fault_name, ask_fault_name, forget_fault_name, export_fault_name, import_fault_name, move_fault_name};
 
 use crate::adding::AddFault;
 use crate::file::FileFault;

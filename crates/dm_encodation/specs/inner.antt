@@ -1,4 +1,3 @@
 -- Private: only contracts inside this crate cite what stands in this folder.
 pub mod Counting
 pub mod Reading
-pub mod StepViews

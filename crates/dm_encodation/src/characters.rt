@@ -3,7 +3,7 @@
 ghost use Rattle.std.specs.Prelude.{◌≡◌, ◌<◌, ◌≤◌, ◌++◌, ◌∷◌, [], length, IfSome};
 ghost use Rattle.dm_encodation.specs.Grammar.{values_of, values_below_128};
 ghost use Rattle.dm_encodation.specs.inner.Reading;
-ghost use Rattle.dm_encodation.specs.inner.StepViews.{option_bytes};
+ghost use Rattle.dm_encodation.specs.inner.Reading.{option_bytes};
 
 use crate::letters::Letters;
 use crate::mode::Set;

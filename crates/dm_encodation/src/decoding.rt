@@ -3,8 +3,7 @@
 ghost use Rattle.std.specs.Prelude.{◌≡◌, ◌≢◌, ◌+◌, ◌-◌, ◌*◌, ◌≤◌, ◌++◌, ℕ, List, length, drop, true, IfOk, IfErr};
 ghost use Rattle.std.specs.Prelude.{IsErrOf};
 ghost use Rattle.dm_encodation.specs.Grammar.{ReadsOnly, StuckOnly};
-ghost use Rattle.dm_encodation.specs.inner.Reading.{reading};
-ghost use Rattle.dm_encodation.specs.inner.StepViews.{bytes_of, Collects};
+ghost use Rattle.dm_encodation.specs.inner.Reading.{reading, bytes_of, Collects};
 ghost use Rattle.dm_encodation.specs.declared.fault.DecodeFault.TheVariants.{Memory};
 ghost use Rattle.dm_encodation.specs.declared.mode.Mode.TheVariants.{Ascii};
 

@@ -2,7 +2,7 @@
 
 ghost use Rattle.std.specs.Prelude.{◌≡◌, ℕ, ◌+◌, ◌<◌, ◌≤◌, IfOk, Ok};
 ghost use Rattle.dm_encodation.specs.inner.Reading;
-ghost use Rattle.dm_encodation.specs.inner.StepViews.{seen, seen_end, seen_unit, IsMode};
+ghost use Rattle.dm_encodation.specs.inner.Reading.{seen, seen_end, seen_unit, IsMode};
 ghost use Rattle.dm_encodation.specs.declared.mode.Mode.TheVariants.{Length, LongLength};
 
 use crate::fault::DecodeFault;

@@ -2,7 +2,7 @@
 
 ghost use Rattle.std.specs.Prelude.{◌≡◌, ◌+◌, ◌<◌, ◌++◌, ◌∷◌, [], IfOk, IfSome};
 ghost use Rattle.dm_encodation.specs.inner.Reading;
-ghost use Rattle.dm_encodation.specs.inner.StepViews.{seen, seen_value, seen_values, bytes_of, option_bytes, fault_of, IsMode};
+ghost use Rattle.dm_encodation.specs.inner.Reading.{seen, seen_value, seen_values, bytes_of, option_bytes, fault_of, IsMode};
 
 use crate::characters::byte_in;
 use crate::fault::DecodeFault;

@@ -3,7 +3,7 @@ use Rattle.std.proofs.Common.{◌≡◌, ◌≢◌, ◌⊎◌, ◌≤◌, ℕ, z
 use Rattle.std.specs.Prelude.{is_none, is_some}
 use Rattle.std.specs.FinMap.{get, len}
 use Rattle.dm_append_label.specs.Labels.{PageView}
-use Rattle.dm_assembly_desk.specs.Adding.{lone, add_kind, add_verdict, reply_of, with_pages, Verdict, Stays, Becomes}
+use Rattle.dm_assembly_desk.specs.Desk.{lone, add_kind, add_verdict, reply_of, with_pages, Verdict, Stays, Becomes}
 use Rattle.dm_assembly_desk.specs.Documents.{Documents, own_pages, page_at, added_mask, may_join, Pages, mask, names, page}
 use Rattle.dm_assembly_desk.specs.declared.adding.AddFault.{AddFault}
 use Rattle.dm_assembly_desk.specs.declared.adding.AddFault.TheVariants as adds

@@ -13,12 +13,11 @@ use Rattle.dm_event_history.proofs.Gotten.{in_either, set_at}
 use Rattle.dm_append_label.specs.declared.opening.Opened.{Opened}
 use Rattle.dm_append_label.specs.declared.fault.LabelFault.{LabelFault}
 use Rattle.dm_event_history.specs.declared.stop.Stop.{Stop}
-use Rattle.dm_event_history.specs.Steps.{may_save, Acts, DeskGoes, IsNamed, PrinterGoes, Step}
+use Rattle.dm_event_history.specs.Steps.{may_save, Acts, DeskGoes, IsNamed, PrinterGoes, Step, Calls, Course, Ending, Looks, MayLackFirst, ends, GiveComes, PrintComes, TakeComes, ExportTells, MayBe, ScanComes, scan_course, scan_faults}
 use Rattle.dm_event_history.proofs.Deciding.{decided, true_false}
 use Rattle.dm_event_history.proofs.Having.{CourseHas, calls_have, may_lack_has}
 use Rattle.dm_event_history.specs.Relay.{Actor, HasAll, Running, Desk, Goods, Label, Relay}
 use Rattle.dm_event_history.specs.Relay as relays
-use Rattle.dm_event_history.specs.Calls.{Calls, Course, Ending, Looks, MayLackFirst, ends, GiveComes, PrintComes, TakeComes, ExportTells, MayBe, ScanComes, scan_course, scan_faults}
 use Rattle.dm_event_history.specs.Headline.{ArePrinted, HaveLeft, IsClean, IsCleanActor, IsCleanExport, IsHarmless, AreAllClean, IsFairEvent}
 use Rattle.dm_event_history.proofs.LeavingGoods.{IsClosed, Leaves, OfCourse, calls_leave, may_lack_leaves, restarts_leave}
 use Rattle.dm_event_history.proofs.DeskGoods.{ask_leaves, forget_leaves, import_leaves, scan_leaves}

@@ -15,7 +15,7 @@ use Rattle.dm_event_history.proofs.Deciding.{decided}
 use Rattle.dm_event_history.proofs.Gotten.{get_more, set_at}
 use Rattle.dm_event_history.proofs.LedgerFacts.{LosesNumbers, give_loses, made_print}
 use Rattle.dm_event_history.specs.Relay.{Actor, Running, Failed, Down, stored_of, Goods, Label, Relay, Used, nothing, with_printer}
-use Rattle.dm_event_history.specs.Calls.{Answers, Calls, Course, Ending, Faults, LacksMemory, MayLackFirst, Reaches, Restarts, Saves, cut_off, ends, GiveComes, PrintComes}
+use Rattle.dm_event_history.specs.Steps.{Answers, Calls, Course, Ending, Faults, LacksMemory, MayLackFirst, Reaches, Restarts, Saves, cut_off, ends, GiveComes, PrintComes}
 use Rattle.dm_event_history.specs.Headline.{IsInOrder, gone, is_taken, one_if, places}
 use Rattle.dm_event_history.proofs.Numbers.{all_in, free_set, gone_lost, gone_more, lost_takes_none, on_more, on_new, on_same, taken_same}
 use Rattle.dm_event_history.proofs.Reaching.{reached, reaches}

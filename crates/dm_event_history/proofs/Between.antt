@@ -11,7 +11,7 @@ use Rattle.dm_assembly_desk.specs.declared.reply.Accepted.{Accepted}
 use Rattle.dm_assembly_desk.specs.declared.reply.Kind.{Kind}
 use Rattle.dm_assembly_desk.specs.declared.reply.Kind.TheVariants as kinds
 use Rattle.dm_assembly_desk.specs.Documents.{Pages, page, Documents}
-use Rattle.dm_assembly_desk.specs.Adding.{lone, with_pages, add_kind}
+use Rattle.dm_assembly_desk.specs.Desk.{lone, with_pages, add_kind}
 use Rattle.dm_finder_frame.specs.Frame.{flipped}
 use Rattle.dm_print_ledger.specs.declared.range.Range.{Range}
 use Rattle.dm_event_history.specs.declared.event.Event.{Event}
@@ -20,12 +20,11 @@ use Rattle.dm_event_history.specs.declared.reply.Reply.{Reply}
 use Rattle.dm_event_history.specs.declared.reply.Reply.TheVariants.{Scanned}
 use Rattle.dm_event_history.specs.declared.reply.Reply.TheVariants as replies
 use Rattle.dm_event_history.specs.declared.stop.Stop.{Stop}
-use Rattle.dm_event_history.specs.Steps.{may_save, Acts, DeskGoes, HasModules, IsNamed, Step, Moment, IsRun, PrinterAt, actor_of}
+use Rattle.dm_event_history.specs.Steps.{may_save, Acts, DeskGoes, HasModules, IsNamed, Step, Moment, IsRun, PrinterAt, actor_of, Calls, Course, Ending, Faults, Looks, MayLackFirst, ends, AskTells, ExportTells, ForgetComes, ImportComes, ScanComes, forget_faults, import_faults, scan_course, scan_faults, page_reply}
 use Rattle.dm_event_history.specs.Relay.{Actor, HasAll, Running, Desk, Label, Relay, start, nothing}
 use Rattle.dm_event_history.specs.Relay as relays
-use Rattle.dm_event_history.specs.Calls.{Calls, Course, Ending, Faults, Looks, MayLackFirst, ends, AskTells, ExportTells, ForgetComes, ImportComes, ScanComes, forget_faults, import_faults, scan_course, scan_faults, page_reply}
 use Rattle.dm_event_history.specs.Headline.{ArePrinted, AreDisjoint, AreSavedFair, IsFairEvent}
-use Rattle.dm_event_history.specs.Safe.{AreBetween, Forgets, Has, IsBetween, MayForget, MayTake, Takes}
+use Rattle.dm_event_history.specs.Told.{AreBetween, Forgets, Has, IsBetween, MayForget, MayTake, Takes}
 use Rattle.dm_event_history.proofs.Deciding.{same_or_other}
 use Rattle.dm_event_history.proofs.AllClean.{unsaved_course}
 use Rattle.dm_event_history.proofs.Headline.{each_run_is_sound}

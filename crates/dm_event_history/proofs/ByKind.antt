@@ -13,7 +13,7 @@ use Rattle.dm_assembly_desk.specs.declared.fault.DeskFault.TheVariants as desk_f
 use Rattle.dm_assembly_desk.specs.Documents.{Pages, Documents}
 use Rattle.dm_assembly_desk.specs.declared.adding.AddFault.TheVariants as adds
 use Rattle.dm_assembly_desk.specs.declared.reply.Imported as imported_type
-use Rattle.dm_assembly_desk.specs.Adding.{add_verdict}
+use Rattle.dm_assembly_desk.specs.Desk.{add_verdict}
 use Rattle.dm_event_history.specs.declared.reply.Reply.TheVariants.{Imported}
 use Rattle.dm_event_history.proofs.Adds.{Answer}
 use Rattle.dm_event_history.specs.declared.event.Event.{Event}
@@ -21,10 +21,9 @@ use Rattle.dm_event_history.specs.declared.event.Event.TheVariants.{Print, Scan,
 use Rattle.dm_event_history.specs.declared.reply.Reply.{Reply}
 use Rattle.dm_event_history.specs.declared.reply.Reply.TheVariants as replies
 use Rattle.dm_event_history.specs.declared.stop.Stop.{Stop}
-use Rattle.dm_event_history.specs.Steps.{DeskAt, PrinterAt, actor_of, Acts, DeskGoes, PrinterGoes, stop_of}
+use Rattle.dm_event_history.specs.Steps.{DeskAt, PrinterAt, actor_of, Acts, DeskGoes, PrinterGoes, stop_of, Answers, Calls, Course, Ending, Faults, LacksMemory, Looks, MayLackFirst, Restarts, Saves, GiveComes, PrintComes, TakeComes, give_faults, print_faults, take_faults, AskTells, ExportTells, ForgetComes, ImportComes, MayBe, ScanComes, forget_faults, import_faults, scan_course, scan_faults, verdict_course, pages_reply}
 use Rattle.dm_event_history.specs.Relay.{Actor, Goods, Relay}
 use Rattle.dm_event_history.specs.Relay as relays
-use Rattle.dm_event_history.specs.Calls.{Answers, Calls, Course, Ending, Faults, LacksMemory, Looks, MayLackFirst, Restarts, Saves, GiveComes, PrintComes, TakeComes, give_faults, print_faults, take_faults, AskTells, ExportTells, ForgetComes, ImportComes, MayBe, ScanComes, forget_faults, import_faults, scan_course, scan_faults, verdict_course, pages_reply}
 use Rattle.dm_event_history.specs.Told.{NeedsRunning, is_new, tells_of_save, down_after, failed_after, tells_failed}
 
 -- ---- replies of calls

@@ -22,9 +22,8 @@ use Rattle.dm_event_history.specs.declared.stop.Stop.{Stop}
 use Rattle.dm_event_history.specs.declared.stop.Stop.TheVariants as stops
 use Rattle.dm_event_history.specs.declared.stop.Stop.TheVariants.{BeforeSave, InSave, SaveFault}
 use Rattle.dm_event_history.specs.Told.{CountsTickets, EachExhaustedIsSo, EachRunCountsTickets, EachTakeIsLater, gains, gives, has_saved, last_from, loses, newest_saved, next_serial, serial_from, stock, stored_at, sum_saved, tells_of_save}
-use Rattle.dm_event_history.specs.Steps.{Named, PrinterAt, actor_of, is_same, leaves_new, may_save, stop_of, Acts, PrinterGoes, Step, IsRun, Moment}
+use Rattle.dm_event_history.specs.Steps.{Named, PrinterAt, actor_of, is_same, leaves_new, may_save, stop_of, Acts, PrinterGoes, Step, IsRun, Moment, Answers, Calls, Course, Ending, Faults, LacksMemory, MayLackFirst, Reaches, Restarts, Saves, ends, GiveComes, PrintComes, TakeComes, give_faults, print_faults, take_faults}
 use Rattle.dm_event_history.specs.Relay.{Actor, Running, Failed, stored_of, Goods, Relay, fresh_from, start}
-use Rattle.dm_event_history.specs.Calls.{Answers, Calls, Course, Ending, Faults, LacksMemory, MayLackFirst, Reaches, Restarts, Saves, ends, GiveComes, PrintComes, TakeComes, give_faults, print_faults, take_faults}
 use Rattle.dm_event_history.proofs.Deciding.{other_number}
 use Rattle.dm_event_history.proofs.Having.{saves_may, Stores}
 use Rattle.dm_event_history.proofs.ByKind.{ArePlain, IsPlainCourse, fine_give, fine_print, fine_take, give_plain, print_plain, take_plain}

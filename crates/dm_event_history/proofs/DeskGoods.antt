@@ -4,7 +4,7 @@ use Rattle.dm_event_history.specs.declared.stop.Stop.{Stop}
 use Rattle.dm_finder_frame.specs.Frame.{GridView}
 use Rattle.dm_event_history.specs.Relay as relays
 use Rattle.dm_event_history.specs.Relay.{Goods, Label, Move, nothing}
-use Rattle.dm_event_history.specs.Calls.{Calls, Faults, Looks, MayLackFirst, AskTells, ForgetComes, ImportComes, ScanComes}
+use Rattle.dm_event_history.specs.Steps.{Calls, Faults, Looks, MayLackFirst, AskTells, ForgetComes, ImportComes, ScanComes}
 use Rattle.dm_event_history.proofs.LeavingGoods.{IsClosed, Leaves}
 
 pub scan_leaves : {A : Type 0} (P : Goods → Type 0) → IsClosed P → (faults : Faults A) (stop : Stop) (room : ℕ)

@@ -5,9 +5,8 @@ use Rattle.dm_assembly_desk.specs.Documents.{Documents}
 use Rattle.dm_event_history.specs.declared.event.Event.{Event}
 use Rattle.dm_event_history.specs.declared.reply.Reply.{Reply}
 use Rattle.dm_event_history.specs.declared.stop.Stop.{Stop}
-use Rattle.dm_event_history.specs.Steps.{DeskAt, Named, PrinterAt, actor_of, Acts, DeskGoes, PrinterGoes, Moment}
+use Rattle.dm_event_history.specs.Steps.{DeskAt, Named, PrinterAt, actor_of, Acts, DeskGoes, PrinterGoes, Moment, Calls, Course, Ending, Faults, Looks, MayLackFirst, Reaches, Restarts, ends}
 use Rattle.dm_event_history.specs.Relay.{Actor, Running, Failed, Down, Goods, Relay}
-use Rattle.dm_event_history.specs.Calls.{Calls, Course, Ending, Faults, Looks, MayLackFirst, Reaches, Restarts, ends}
 use Rattle.dm_event_history.specs.Told.{AreAsTold, EachFailedFailed, IsAsTold, is_failed, tells_failed}
 use Rattle.dm_event_history.proofs.Reaching.{reaches}
 use Rattle.dm_event_history.proofs.AsTold.{each_run_is_as_told}

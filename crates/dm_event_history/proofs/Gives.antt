@@ -9,14 +9,13 @@ use Rattle.dm_append_label.proofs.CutParts.{each_cut_is}
 use Rattle.dm_assembly_desk.specs.declared.fault.AskFault.{AskFault}
 use Rattle.dm_assembly_desk.specs.declared.fault.AskFault.TheVariants as ask_fault
 use Rattle.dm_assembly_desk.specs.Documents.{Pages, document_of, missing_mask, page, page_bytes, Documents}
-use Rattle.dm_assembly_desk.specs.Adding as asking
-use Rattle.dm_assembly_desk.specs.Adding.{Asks}
+use Rattle.dm_assembly_desk.specs.Desk as asking
+use Rattle.dm_assembly_desk.specs.Desk.{Asks}
 use Rattle.dm_event_history.specs.declared.event.Event.TheVariants.{Ask}
 use Rattle.dm_event_history.specs.declared.reply.Reply.{Reply}
 use Rattle.dm_event_history.specs.declared.reply.Reply.TheVariants.{Document}
 use Rattle.dm_event_history.specs.Relay.{CutDocument, Actor, Label}
-use Rattle.dm_event_history.specs.Calls.{Ending, Looks, AskTells, ask_reply}
-use Rattle.dm_event_history.specs.Steps.{Step}
+use Rattle.dm_event_history.specs.Steps.{Ending, Looks, AskTells, ask_reply, Step}
 use Rattle.dm_event_history.specs.Headline.{AreOfOneDocument, ArePrinted, EachCleanDeskGives, HasLeft, HaveLeft, IsCleanActor}
 use Rattle.dm_event_history.proofs.MergedPages.{whole_pages}
 

@@ -7,9 +7,8 @@ use Rattle.dm_event_history.specs.declared.reply.Reply.{Reply}
 use Rattle.dm_event_history.specs.declared.stop.Stop.{Stop}
 use Rattle.dm_event_history.specs.declared.stop.Stop.TheVariants.{InSave, SaveFault, AfterLabels}
 use Rattle.dm_event_history.specs.declared.stop.Stop.TheVariants as stops
-use Rattle.dm_event_history.specs.Steps.{leaves_new, may_save, stop_of}
+use Rattle.dm_event_history.specs.Steps.{leaves_new, may_save, stop_of, Answers, Calls, Course, Ending, Faults, LacksMemory, Looks, MayLackFirst, Restarts, Saves, ends}
 use Rattle.dm_event_history.specs.Relay.{Actor, HasAll, Running, Failed, Down, Goods}
-use Rattle.dm_event_history.specs.Calls.{Answers, Calls, Course, Ending, Faults, LacksMemory, Looks, MayLackFirst, Restarts, Saves, ends}
 
 -- a save under this stop leaves the new content
 abbrev pub Stores : Stop → Type 0

@@ -6,8 +6,7 @@ use Rattle.dm_assembly_desk.specs.Documents.{Documents}
 use Rattle.dm_event_history.specs.declared.event.Event.{Event}
 use Rattle.dm_event_history.specs.declared.reply.Reply.{Reply}
 use Rattle.dm_event_history.specs.Relay.{Actor, Label, Move, Relay, Used, start}
-use Rattle.dm_event_history.specs.Calls.{Ending}
-use Rattle.dm_event_history.specs.Steps.{Acts, DeskGoes, PrinterGoes, Step, IsRun, Moment}
+use Rattle.dm_event_history.specs.Steps.{Ending, Acts, DeskGoes, PrinterGoes, Step, IsRun, Moment}
 use Rattle.dm_event_history.specs.Headline.{AreOfOneDocument, ArePrinted, AreDisjoint, IsSound, gone, places, AreAllClean, AreSavedFair, AreTrueMoments, EachRunIsSound, EachRunIsTrue, EachRunKeepsNumbers, PrintsOnce}
 use Rattle.dm_event_history.proofs.Gotten.{get_more}
 use Rattle.dm_event_history.proofs.AllClean.{all_stay_so}

@@ -8,8 +8,7 @@ use Rattle.dm_event_history.specs.declared.reply.Reply.{Reply}
 use Rattle.dm_event_history.specs.declared.stop.Stop.{Stop}
 use Rattle.dm_event_history.proofs.Gotten.{get_more}
 use Rattle.dm_event_history.specs.Relay.{Actor, Desk, Goods, Relay, with_desk}
-use Rattle.dm_event_history.specs.Calls.{Calls, Ending, TakeComes, take_faults}
-use Rattle.dm_event_history.specs.Steps.{Acts, PrinterGoes}
+use Rattle.dm_event_history.specs.Steps.{Calls, Ending, TakeComes, take_faults, Acts, PrinterGoes}
 use Rattle.dm_event_history.specs.Headline.{EachStepKeepsNumbers, IsInOrder, places}
 use Rattle.dm_event_history.proofs.Balance.{Balances, balanced_order, balanced_places, calls_balance, give_balanced, may_lack_balances, print_balanced, restarts_balance}
 use Rattle.dm_event_history.proofs.Taking.{take_ends, taking_order, taking_places}

@@ -17,7 +17,7 @@ use Rattle.dm_print_ledger.specs.declared.fault.TakeFault.TheVariants as take_fa
 use Rattle.dm_print_ledger.specs.Verdicts.{are_free, has_free, least, single, without, union_of, AreFree, AreTaken, IsLeastFree, TakesOut, PutsIn, Notes, print_verdict, give_verdict, take_verdict, giver_of}
 use Rattle.dm_print_ledger.specs.Ledger.{givers_with, is_old, last_taken, is_sound, are_ranges, free_count, is_range, LedgerView, TicketView}
 use Rattle.dm_event_history.specs.declared.reply.Reply.{Reply}
-use Rattle.dm_event_history.specs.Calls.{Saves, IsCut, PrintComes, PrintLeaves, cut_of}
+use Rattle.dm_event_history.specs.Steps.{Saves, IsCut, PrintComes, PrintLeaves, cut_of}
 use Rattle.dm_event_history.specs.Relay.{Goods}
 use Rattle.dm_print_ledger.proofs.LedgerLaws.{ranges_are_numbers, first_is_least, givers_are_noted}
 use Rattle.dm_print_ledger.proofs.OutLaws.{covered_free, covers_from, takes_out}

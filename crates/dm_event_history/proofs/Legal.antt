@@ -12,9 +12,8 @@ use Rattle.dm_event_history.specs.declared.reply.Reply.TheVariants as replies
 use Rattle.dm_event_history.specs.declared.stop.Stop.{Stop}
 use Rattle.dm_event_history.specs.declared.stop.Stop.TheVariants as stops
 use Rattle.dm_event_history.specs.declared.stop.Stop.TheVariants.{InSave, SaveFault, AfterLabels}
-use Rattle.dm_event_history.specs.Steps.{DeskAt, Named, PrinterAt, actor_of, IsStopping, stop_of, Acts, DeskGoes, IsNamed, PrinterGoes}
+use Rattle.dm_event_history.specs.Steps.{DeskAt, Named, PrinterAt, actor_of, IsStopping, stop_of, Acts, DeskGoes, IsNamed, PrinterGoes, Answers, Calls, Course, Ending, Faults, LacksMemory, Looks, MayLackFirst, Reaches, Restarts, Saves, ends}
 use Rattle.dm_event_history.specs.Relay.{Actor, Running, Failed, Down, Desk, Goods, Relay}
-use Rattle.dm_event_history.specs.Calls.{Answers, Calls, Course, Ending, Faults, LacksMemory, Looks, MayLackFirst, Reaches, Restarts, Saves, ends}
 use Rattle.dm_event_history.specs.Told.{down_after, EachStepIsLegal, IsDown, IsDownAt, IsLegal, NeedsRunning, tells_of_save}
 use Rattle.dm_event_history.proofs.Reaching.{reaches}
 use Rattle.dm_event_history.proofs.ByKind.{ArePlain, IsPlainAnswer, IsPlainCourse, by_kind}

@@ -3,7 +3,7 @@ use Rattle.std.proofs.Common.{◌≡◌, ◌≢◌, ◌⊎◌, ◌+◌, ◌≤�
 use Rattle.dm_print_ledger.specs.Ledger.{is_free, is_in, LedgerView, TicketView}
 use Rattle.dm_event_history.proofs.Deciding.{other_number, same_or_other}
 use Rattle.dm_event_history.specs.Relay.{Actor, stored_of, Lost, Move, Took, Used}
-use Rattle.dm_event_history.specs.Calls.{lost}
+use Rattle.dm_event_history.specs.Steps.{lost}
 use Rattle.dm_event_history.specs.Headline.{free_at, gone, is_taken, on_tickets, one_if}
 
 -- ---- printers

@@ -11,8 +11,7 @@ use Rattle.dm_event_history.specs.declared.reply.Reply.{Reply}
 use Rattle.dm_event_history.specs.declared.stop.Stop.{Stop}
 use Rattle.dm_event_history.specs.Relay.{CutDocument, Actor, Running, Failed, Down, stored_of, Goods, Label, Move, Relay}
 use Rattle.dm_event_history.proofs.Gotten.{in_either}
-use Rattle.dm_event_history.specs.Calls.{Answers, Calls, Course, Ending, LacksMemory, MayLackFirst, Saves, AreLabelsFor, GiveComes, PrintComes, TakeComes, cut_of, print_faults}
-use Rattle.dm_event_history.specs.Steps.{Acts, PrinterGoes}
+use Rattle.dm_event_history.specs.Steps.{Answers, Calls, Course, Ending, LacksMemory, MayLackFirst, Saves, AreLabelsFor, GiveComes, PrintComes, TakeComes, cut_of, print_faults, Acts, PrinterGoes}
 use Rattle.dm_event_history.specs.Headline.{AreOfOneDocument, AreOnce, EachStepIsSound, IsSound, gone, one_if}
 use Rattle.dm_event_history.proofs.LedgerFacts.{made_print}
 use Rattle.dm_event_history.proofs.LeavingGoods.{IsClosed, OfCourse, as_known, calls_leave, ends_leave, known_goods, may_lack_leaves, restarts_leave}

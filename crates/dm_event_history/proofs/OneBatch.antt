@@ -11,7 +11,7 @@ use Rattle.dm_append_label.specs.Labels.{head_of, head_words, PageView, AreParts
 use Rattle.dm_append_label.proofs.CutParts.{one_cut}
 use Rattle.dm_print_ledger.specs.Verdicts.{IsLabelOf}
 use Rattle.dm_event_history.specs.Relay.{CutDocument, Label}
-use Rattle.dm_event_history.specs.Calls.{AreLabelsFor, IsLabelFor}
+use Rattle.dm_event_history.specs.Steps.{AreLabelsFor, IsLabelFor}
 
 pub parts_once : (size : Size) (scheme : Scheme) (document : List ℕ) (a b : List (List ℕ)) →
     AreParts size scheme document a → AreParts size scheme document b → a ≡ b

@@ -10,7 +10,7 @@ use Rattle.dm_print_ledger.specs.Ledger.{LedgerView, TicketView}
 use Rattle.dm_event_history.specs.declared.reply.Reply.{Reply}
 use Rattle.dm_event_history.specs.declared.reply.Reply.TheVariants.{PrintRefused}
 use Rattle.dm_event_history.specs.Relay.{Export, Goods}
-use Rattle.dm_event_history.specs.Calls.{Course, LacksMemory, Comes, GiveComes, IsCut, PrintComes, PrintLeaves, TakeComes, cut_of, ForgetComes, ImportComes, MayBe, ScanComes}
+use Rattle.dm_event_history.specs.Steps.{Course, LacksMemory, Comes, GiveComes, IsCut, PrintComes, PrintLeaves, TakeComes, cut_of, ForgetComes, ImportComes, MayBe, ScanComes}
 use Rattle.dm_event_history.proofs.OneReading.{reading_once}
 use Rattle.dm_event_history.proofs.OneBatch.{parts_once, labels_once}
 

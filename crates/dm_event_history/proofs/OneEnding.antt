@@ -13,7 +13,7 @@ use Rattle.dm_assembly_desk.specs.Documents.{Pages}
 use Rattle.dm_event_history.specs.declared.reply.Reply.{Reply}
 use Rattle.dm_event_history.specs.declared.stop.Stop.{Stop}
 use Rattle.dm_event_history.specs.Relay.{Actor, Down, Export, Failed, Goods, Running, nothing, stored_of}
-use Rattle.dm_event_history.specs.Calls.{Answers, Calls, Course, Ending, Faults, LacksMemory, Looks, MayLackFirst, Reaches, Restarts, Saves, ending, ends, AskTells, ExportTells, ExportsHeld, ForgetComes, GiveComes, ImportComes, MayBe, PrintComes, ScanComes, TakeComes, scan_course}
+use Rattle.dm_event_history.specs.Steps.{Answers, Calls, Course, Ending, Faults, LacksMemory, Looks, MayLackFirst, Reaches, Restarts, Saves, ending, ends, AskTells, ExportTells, ExportsHeld, ForgetComes, GiveComes, ImportComes, MayBe, PrintComes, ScanComes, TakeComes, scan_course}
 use Rattle.dm_event_history.specs.Told.{IsOfMemory}
 use Rattle.dm_event_history.proofs.OneCourse.{IsDetermined}
 use Rattle.dm_event_history.proofs.Reaching.{reaches}

@@ -11,8 +11,7 @@ use Rattle.dm_event_history.specs.declared.event.Event.TheVariants.{Print, Resta
 use Rattle.dm_event_history.specs.declared.reply.Reply.{Reply}
 use Rattle.dm_event_history.specs.Relay.{CutDocument, Actor, Goods, Label, Relay}
 use Rattle.dm_event_history.proofs.Gotten.{in_either}
-use Rattle.dm_event_history.specs.Calls.{Answers, Course, Ending, LacksMemory, Saves, AreLabelsFor, GiveComes, PrintComes, TakeComes, cut_of}
-use Rattle.dm_event_history.specs.Steps.{Acts, PrinterGoes}
+use Rattle.dm_event_history.specs.Steps.{Answers, Course, Ending, LacksMemory, Saves, AreLabelsFor, GiveComes, PrintComes, TakeComes, cut_of, Acts, PrinterGoes}
 use Rattle.dm_event_history.specs.Headline.{ArePrinted, EachStepPrints, IsPrinted}
 use Rattle.dm_event_history.proofs.LedgerFacts.{made_print}
 use Rattle.dm_event_history.proofs.LeavingGoods.{IsClosed, Leaves, OfCourse, calls_leave, known_goods, may_lack_leaves, restarts_leave}

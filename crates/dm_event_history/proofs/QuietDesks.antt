@@ -8,8 +8,7 @@ use Rattle.dm_event_history.specs.declared.stop.Stop.{Stop}
 use Rattle.dm_finder_frame.specs.Frame.{GridView, flipped}
 use Rattle.dm_event_history.specs.Relay.{Actor, Desk, Goods, Relay, with_desk}
 use Rattle.dm_event_history.specs.Relay as relays
-use Rattle.dm_event_history.specs.Calls.{Calls, Ending, Faults, Looks, MayLackFirst, Restarts, AskTells, ExportTells, ForgetComes, ImportComes, ScanComes}
-use Rattle.dm_event_history.specs.Steps.{Acts, DeskGoes, DeskAt, Named, PrinterAt, actor_of}
+use Rattle.dm_event_history.specs.Steps.{Calls, Ending, Faults, Looks, MayLackFirst, Restarts, AskTells, ExportTells, ForgetComes, ImportComes, ScanComes, Acts, DeskGoes, DeskAt, Named, PrinterAt, actor_of}
 use Rattle.dm_event_history.proofs.LeavingGoods.{IsClosed, Leaves, restarts_leave}
 use Rattle.dm_event_history.proofs.DeskGoods.{ask_leaves, forget_leaves, import_leaves, scan_leaves}
 

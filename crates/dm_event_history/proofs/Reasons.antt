@@ -21,8 +21,7 @@ use Rattle.dm_event_history.specs.declared.reply.Reply.TheVariants.{PrintRefused
 use Rattle.dm_event_history.specs.declared.stop.Stop.{Stop}
 use Rattle.dm_event_history.specs.declared.stop.Stop.TheVariants.{SaveFault}
 use Rattle.dm_event_history.specs.Relay.{Actor, Running, Goods, Label, Relay}
-use Rattle.dm_event_history.specs.Calls.{Answers, Calls, Course, Ending, Faults, Looks, MayLackFirst, Reaches, Restarts, ends, IsCut, print_faults, MayBe, ScanComes, scan_course, scan_faults}
-use Rattle.dm_event_history.specs.Steps.{Acts, DeskGoes, PrinterGoes, Step}
+use Rattle.dm_event_history.specs.Steps.{Answers, Calls, Course, Ending, Faults, Looks, MayLackFirst, Reaches, Restarts, ends, IsCut, print_faults, MayBe, ScanComes, scan_course, scan_faults, Acts, DeskGoes, PrinterGoes, Step}
 use Rattle.dm_event_history.specs.Headline.{IsFairEvent}
 use Rattle.dm_event_history.specs.Told.{EachStepIsRefusedSo, IsFramedSo, IsToFail, failed_after}
 use Rattle.dm_event_history.proofs.Reaching.{reaches}

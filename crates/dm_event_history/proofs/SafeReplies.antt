@@ -20,8 +20,8 @@ use Rattle.dm_assembly_desk.specs.declared.fault.ScanFault.TheVariants as scan_f
 use Rattle.dm_assembly_desk.specs.declared.fault.ImportFault.{ImportFault}
 use Rattle.dm_assembly_desk.specs.declared.fault.ImportFault.TheVariants as import_fault
 use Rattle.dm_assembly_desk.specs.Documents.{Pages, lacks, mask, missing_mask, names, page, document_of, Documents, page_at, own_pages, added_mask, union_of}
-use Rattle.dm_assembly_desk.specs.Adding as asking
-use Rattle.dm_assembly_desk.specs.Adding.{Asks, lone, add_verdict, add_kind, added_to, reply_of}
+use Rattle.dm_assembly_desk.specs.Desk as asking
+use Rattle.dm_assembly_desk.specs.Desk.{Asks, lone, add_verdict, add_kind, added_to, reply_of}
 use Rattle.dm_assembly_desk.specs.declared.adding.AddFault.{AddFault}
 use Rattle.dm_assembly_desk.specs.declared.adding.AddFault.TheVariants as adds
 use Rattle.dm_assembly_desk.specs.declared.reply.Accepted.{Accepted}
@@ -38,10 +38,9 @@ use Rattle.dm_event_history.specs.declared.reply.Reply.TheVariants as replies
 use Rattle.dm_event_history.specs.declared.stop.Stop.{Stop}
 use Rattle.dm_event_history.specs.Relay.{Actor, shown_of, CutDocument, Desk, Label, Relay}
 use Rattle.dm_event_history.specs.Relay as relays
-use Rattle.dm_event_history.specs.Calls.{Calls, Looks, MayLackFirst, AskTells, ExportTells, ForgetComes, ImportComes, ScanComes, ask_reply, forget_faults, import_faults, scan_course, scan_faults, verdict_course, page_reply, pages_reply}
-use Rattle.dm_event_history.specs.Steps.{Acts, DeskGoes, IsNamed, Step, Moment}
+use Rattle.dm_event_history.specs.Steps.{Calls, Looks, MayLackFirst, AskTells, ExportTells, ForgetComes, ImportComes, ScanComes, ask_reply, forget_faults, import_faults, scan_course, scan_faults, verdict_course, page_reply, pages_reply, Acts, DeskGoes, IsNamed, Step, Moment}
 use Rattle.dm_event_history.specs.Headline.{ArePrinted, AreOfOneDocument, HaveLeft, IsCleanExport, IsSound, AreAllClean, IsFairEvent}
-use Rattle.dm_event_history.specs.Safe.{EachFairReplyIsSafe, IsExportSafe, IsFullFor, IsImportKindSafe, IsImportRefusedSafe, IsImportedSafe, IsKindSafe, IsSafe, IsTrulyMissing, Known, docs, known_of, AreBetween, IsBetween}
+use Rattle.dm_event_history.specs.Told.{EachFairReplyIsSafe, IsExportSafe, IsFullFor, IsImportKindSafe, IsImportRefusedSafe, IsImportedSafe, IsKindSafe, IsSafe, IsTrulyMissing, Known, docs, known_of, AreBetween, IsBetween}
 use Rattle.dm_event_history.proofs.Deciding.{decided, if_not, if_so, or_left, or_right, same_number, true_false}
 use Rattle.dm_event_history.proofs.MergedPages.{Differs, all_held, lacks_means, one_lacks}
 use Rattle.dm_event_history.proofs.Adds.{add_refuses, length-lone, lone_some, named_there, some_added, there_named}

@@ -10,7 +10,7 @@ use Rattle.dm_append_label.specs.declared.fault.LabelFault.{LabelFault}
 use Rattle.dm_append_label.specs.declared.fault.LabelFault.TheVariants as label_fault
 use Rattle.dm_assembly_desk.specs.declared.reply.Kind.{Kind}
 use Rattle.dm_assembly_desk.specs.Documents.{Pages, page, Documents, page_at}
-use Rattle.dm_assembly_desk.specs.Adding.{lone, add_kind, add_verdict, pages_with, with_pages}
+use Rattle.dm_assembly_desk.specs.Desk.{lone, add_kind, add_verdict, pages_with, with_pages}
 use Rattle.dm_assembly_desk.proofs.Undoing.{get_here}
 use Rattle.dm_assembly_desk.proofs.AddLaws.{no_longer, page_given}
 use Rattle.dm_assembly_desk.proofs.MergingLaws.{length_both}
@@ -24,8 +24,7 @@ use Rattle.dm_event_history.proofs.Gotten.{get_more, set_at}
 use Rattle.dm_event_history.proofs.HeldDocuments.{get_left, get_other, get_removed}
 use Rattle.dm_event_history.specs.Relay.{Actor, Goods, Label, Relay}
 use Rattle.dm_event_history.specs.Relay as relays
-use Rattle.dm_event_history.specs.Calls.{Answers, Calls, Course, Ending, Faults, LacksMemory, Looks, MayLackFirst, Restarts, Saves, AskTells, ExportTells, MayBe, scan_course, verdict_course, page_reply, pages_reply, forget_reply}
-use Rattle.dm_event_history.specs.Steps.{Acts, DeskGoes, PrinterGoes}
+use Rattle.dm_event_history.specs.Steps.{Answers, Calls, Course, Ending, Faults, LacksMemory, Looks, MayLackFirst, Restarts, Saves, AskTells, ExportTells, MayBe, scan_course, verdict_course, page_reply, pages_reply, forget_reply, Acts, DeskGoes, PrinterGoes}
 use Rattle.dm_event_history.specs.Headline.{ArePrinted, EachStepKeepsClean, HasLeft, HasPages, HaveLeft, IsClean, IsCleanActor, IsCleanExport, IsHarmless, IsPrinted}
 use Rattle.dm_event_history.proofs.Adds.{length-lone, lone_some, Answer, by_verdict}
 use Rattle.dm_event_history.proofs.Told.{forget_by, page_none, second_some}

@@ -12,8 +12,7 @@ use Rattle.dm_event_history.specs.declared.reply.Reply.{Reply}
 use Rattle.dm_event_history.specs.declared.reply.Reply.TheVariants.{TakeRefused}
 use Rattle.dm_event_history.specs.declared.stop.Stop.{Stop}
 use Rattle.dm_event_history.specs.Relay.{Actor, Running, Lost, Move, Relay, Took, Used, start}
-use Rattle.dm_event_history.specs.Calls.{Answers, Calls, Course, Ending, LacksMemory, Saves, TakeComes, take_faults}
-use Rattle.dm_event_history.specs.Steps.{Acts, PrinterGoes, Step, IsRun, Moment}
+use Rattle.dm_event_history.specs.Steps.{Answers, Calls, Course, Ending, LacksMemory, Saves, TakeComes, take_faults, Acts, PrinterGoes, Step, IsRun, Moment}
 use Rattle.dm_event_history.specs.Headline.{AreDisjoint, IsInOrder, IsSound, is_taken, one_if}
 use Rattle.dm_event_history.specs.Told.{EachRunTakesOnce}
 use Rattle.dm_event_history.proofs.Deciding.{decided, same_or_other, other_number}

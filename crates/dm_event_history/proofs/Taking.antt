@@ -6,7 +6,7 @@ use Rattle.dm_print_ledger.specs.Ledger.{is_free, is_in, last_taken, LedgerView,
 use Rattle.dm_event_history.specs.declared.stop.Stop.{Stop}
 use Rattle.dm_event_history.proofs.Gotten.{get_more, set_at}
 use Rattle.dm_event_history.specs.Relay.{Actor, Running, Failed, Down, stored_of, Goods, Move, Relay, Took, with_printer}
-use Rattle.dm_event_history.specs.Calls.{Answers, Calls, Course, Ending, Faults, LacksMemory, Reaches, Saves, ends, TakeComes, take_faults}
+use Rattle.dm_event_history.specs.Steps.{Answers, Calls, Course, Ending, Faults, LacksMemory, Reaches, Saves, ends, TakeComes, take_faults}
 use Rattle.dm_event_history.specs.Headline.{IsInOrder, IsNoted, is_taken, one_if, places}
 use Rattle.dm_event_history.proofs.Numbers.{free_set, gone_more, on_taken, taken_by}
 use Rattle.dm_event_history.proofs.Reaching.{reached, reaches}

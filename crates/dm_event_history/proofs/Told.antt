@@ -8,7 +8,7 @@ use Rattle.dm_append_label.specs.Opening.{OpensNear}
 use Rattle.dm_append_label.specs.declared.opening.Opened.{Opened}
 use Rattle.dm_append_label.specs.declared.fault.LabelFault.{LabelFault}
 use Rattle.dm_append_label.specs.declared.fault.LabelFault.TheVariants as label_fault
-use Rattle.dm_assembly_desk.specs.Adding.{lone, add_kind, add_verdict, pages_with, reply_of, with_pages, Verdict, Stays, Becomes}
+use Rattle.dm_assembly_desk.specs.Desk.{lone, add_kind, add_verdict, pages_with, reply_of, with_pages, Verdict, Stays, Becomes}
 use Rattle.dm_assembly_desk.specs.declared.adding.AddFault.{AddFault}
 use Rattle.dm_assembly_desk.specs.declared.reply.Kind.{Kind}
 use Rattle.dm_assembly_desk.specs.declared.reply.Kind.TheVariants as kinds
@@ -21,8 +21,8 @@ use Rattle.dm_assembly_desk.proofs.AddLaws.{page_given}
 use Rattle.dm_event_history.specs.declared.reply.Reply.{Reply}
 use Rattle.dm_event_history.specs.declared.reply.Reply.TheVariants.{Scanned, ScanRefused, Imported}
 use Rattle.dm_event_history.specs.Relay.{Actor, Running}
-use Rattle.dm_event_history.specs.Safe.{Has}
-use Rattle.dm_event_history.specs.Calls.{Course, MayBe, import_faults, page_reply, scan_course, scan_faults, verdict_course}
+use Rattle.dm_event_history.specs.Told.{Has}
+use Rattle.dm_event_history.specs.Steps.{Course, MayBe, import_faults, page_reply, scan_course, scan_faults, verdict_course}
 use Rattle.dm_assembly_desk.specs.declared.fault.ForgetFault.{ForgetFault}
 use Rattle.dm_assembly_desk.specs.declared.fault.ForgetFault.TheVariants as forget_fault
 use Rattle.dm_event_history.proofs.Adds.{Answer}

@@ -11,7 +11,7 @@ use Rattle.dm_append_label.specs.Labels.{PageView}
 use Rattle.dm_print_ledger.specs.declared.giver.Giver.{Giver}
 use Rattle.dm_print_ledger.specs.declared.fault.TakeFault.TheVariants as take_fault
 use Rattle.dm_print_ledger.specs.Ledger.{LedgerView, TicketView}
-use Rattle.dm_print_ledger.specs.Creating.{opening}
+use Rattle.dm_print_ledger.specs.Verdicts.{opening}
 use Rattle.dm_assembly_desk.specs.declared.adding.AddFault.TheVariants as adds
 use Rattle.dm_assembly_desk.specs.declared.reply.Kind.TheVariants.{New, Again, Complete}
 use Rattle.dm_assembly_desk.specs.declared.fault.AskFault.TheVariants as ask_fault
@@ -19,18 +19,17 @@ use Rattle.dm_assembly_desk.specs.Documents.{Pages, Documents, union_of, may_joi
 use Rattle.dm_assembly_desk.specs.declared.adding.AddFault.{AddFault}
 use Rattle.dm_assembly_desk.specs.declared.reply.Accepted.{Accepted}
 use Rattle.dm_assembly_desk.specs.declared.reply.Kind.{Kind}
-use Rattle.dm_assembly_desk.specs.Adding.{lone, add_kind, pages_with, verdict_by, with_pages, kind_of, Asks}
+use Rattle.dm_assembly_desk.specs.Desk.{lone, add_kind, pages_with, verdict_by, with_pages, kind_of, Asks}
 use Rattle.dm_event_history.specs.declared.reply.Reply.TheVariants.{Printed, Scanned, Document, AskRefused, Given, Taken, TakeRefused, Restarted, Stopped, PrinterRefused}
 use Rattle.dm_event_history.specs.declared.reply.Reply.TheVariants as replies
 use Rattle.dm_event_history.specs.Worked.{digits, first_ticket, range, AreRuns, gathered, moved, one_printer, scan, stopped, two_printers}
 use Rattle.dm_event_history.proofs.HeldDocuments.{get_same}
 use Rattle.dm_event_history.specs.Relay.{Running, Down, Desk, Goods, Label, Relay, Took, nothing, with_desk, with_printer}
-use Rattle.dm_event_history.specs.Calls.{Answers, Calls, Course, LacksMemory, Saves, cut_off, ending, ends, GiveComes, PrintComes, TakeComes, take_faults, ScanComes, scan_faults, verdict_course, page_reply}
+use Rattle.dm_event_history.specs.Steps.{Answers, Calls, Course, LacksMemory, Saves, cut_off, ending, ends, GiveComes, PrintComes, TakeComes, take_faults, ScanComes, scan_faults, verdict_course, page_reply, HasModules, PrinterGoes, Step, Tells}
 use Rattle.std.proofs.lemmas.Option.{slice_get_within}
 use Rattle.dm_event_history.specs.declared.reply.Reply.{Reply}
 use Rattle.dm_store.specs.declared.fuse.Kept.TheVariants.{Old}
 use Rattle.dm_event_history.specs.declared.stop.Stop.TheVariants as stops
-use Rattle.dm_event_history.specs.Steps.{HasModules, PrinterGoes, Step, Tells}
 use Rattle.dm_event_history.proofs.WorkedLabels.{first_are, first_are_1, first_are_5, first_page, first_words, first_words_1, first_words_5, opened_page, opens, second_are, second_are_1, second_are_5, second_page, second_words, second_words_1, second_words_5}
 use Rattle.dm_event_history.proofs.WorkedSteps.{both_labels, desk_goes, label, ledger, printer_goes, saves_print}
 

@@ -13,8 +13,7 @@ use Rattle.dm_event_history.specs.declared.reply.Reply.TheVariants.{Printed}
 use Rattle.dm_event_history.specs.Worked.{digits}
 use Rattle.dm_event_history.proofs.WorkedParts.{are_rising_parts, digits_cut}
 use Rattle.dm_event_history.specs.Relay.{Actor, Desk, Goods, Label, Relay, Used, with_desk, with_printer}
-use Rattle.dm_event_history.specs.Calls.{Ending, Saves, PrintComes}
-use Rattle.dm_event_history.specs.Steps.{DeskGoes, PrinterGoes}
+use Rattle.dm_event_history.specs.Steps.{Ending, Saves, PrintComes, DeskGoes, PrinterGoes}
 use Rattle.dm_event_history.proofs.WorkedLabels.{AreWordsOf, first_page, is_label, second_page}
 
 -- ---- what goes on

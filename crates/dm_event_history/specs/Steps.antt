@@ -1,28 +1,342 @@
--- Who acts by an event, which events may have saved, what one event does to a relay, and runs of events.
-use Rattle.std.specs.Prelude.{◌==◌, ℕ, Bool, false, true, Option, Some, None, ◌≡◌, ◌⊎◌, ◌<◌, List, length, slice_get, All, [], ◌∷◌}
-use Rattle.dm_event_history.specs.declared.event.Event.{Event}
-use Rattle.dm_event_history.specs.declared.event.Event.TheVariants.{Print, Scan, RestartPrinter, RestartDesk, Ask, Forget, Give, Take, Export, Import}
-use Rattle.dm_store.specs.declared.fuse.Kept.TheVariants.{New}
+-- What becomes of a call: it is made, it is stopped, its save fails, or memory is refused. Then what each call comes
+-- to.
+use Rattle.std.specs.Prelude.{◌≡◌, ◌⊎◌, ℕ, [], ◌++◌, map, take, ◌+◌, Option, None, Some, List, ◌∷◌, length, Result, Ok, Err, IsOk, IsSomeAnd, IsTrue, is_some, ◌==◌, Bool, false, true, ◌<◌, slice_get, All}
+use Rattle.dm_store.specs.declared.fuse.Kept.TheVariants.{Old, New}
+use Rattle.dm_print_ledger.specs.Ledger.{TicketView, LedgerView, is_sound, is_range}
 use Rattle.dm_event_history.specs.declared.reply.Reply.{Reply}
-use Rattle.dm_event_history.specs.declared.reply.Reply.TheVariants.{Printed, PrintRefused, Scanned, ScanRefused, Forgotten, ForgetRefused, Given, GiveRefused, Taken, TakeRefused, Imported, ImportRefused, Stopped, NoSuch, PrinterRefused, DeskRefused}
 use Rattle.dm_event_history.specs.declared.stop.Stop.{Stop}
 use Rattle.dm_event_history.specs.declared.stop.Stop.TheVariants.{BeforeSave, InSave, SaveFault, AfterLabels}
+use Rattle.dm_event_history.specs.Relay.{Actor, Running, Failed, Down, stored_of, Goods, Move, Lost, nothing, CutDocument, Label, Used, Took, Relay, Desk, with_printer, with_desk}
+use Rattle.dm_size.specs.declared.size.Size.{Size}
+use Rattle.dm_encodation.specs.declared.scheme.Scheme.{Scheme}
+use Rattle.dm_append_label.specs.Labels.{PageView, AreParts, HasNoEnds}
+use Rattle.dm_append_label.specs.Opening.{LabelOpens}
+use Rattle.dm_print_ledger.specs.declared.range.Range.{Range}
+use Rattle.dm_print_ledger.specs.Verdicts.{least, IsLabelOf, print_verdict, give_verdict, take_verdict, ticket_of}
+use Rattle.dm_event_history.specs.declared.reply.Reply.TheVariants.{Printed, PrintRefused, Given, GiveRefused, Taken, TakeRefused, Scanned, ScanRefused, Document, AskRefused, Forgotten, ForgetRefused, Exported, ExportRefused, Imported, ImportRefused, Stopped, NoSuch, PrinterRefused, DeskRefused}
+use Rattle.dm_finder_frame.specs.Frame.{GridView, flipped}
+use Rattle.dm_append_label.specs.declared.opening.Opened.{Opened}
+use Rattle.dm_append_label.specs.declared.fault.LabelFault.{LabelFault}
+use Rattle.dm_assembly_desk.specs.declared.reply.Accepted.{Accepted}
+use Rattle.dm_assembly_desk.specs.declared.adding.AddFault.{AddFault}
+use Rattle.dm_assembly_desk.specs.declared.fault.ScanFault.{ScanFault}
+use Rattle.dm_assembly_desk.specs.declared.fault.AskFault.{AskFault}
+use Rattle.dm_assembly_desk.specs.declared.fault.ForgetFault.{ForgetFault}
+use Rattle.dm_assembly_desk.specs.declared.fault.ImportFault.{ImportFault}
+use Rattle.dm_assembly_desk.specs.Documents.{Pages, mask, Documents}
+use Rattle.dm_assembly_desk.specs.Desk.{Verdict, Stays, Becomes, add_verdict, lone, scan_of, import_of, forget_verdict, Asks}
+use Rattle.dm_event_history.specs.declared.event.Event.{Event}
+use Rattle.dm_event_history.specs.declared.event.Event.TheVariants.{Print, Scan, RestartPrinter, RestartDesk, Ask, Forget, Give, Take, Export, Import}
 use Rattle.dm_size.specs.Sizes.{side}
-use Rattle.dm_finder_frame.specs.Frame.{flipped}
-use Rattle.dm_print_ledger.specs.Ledger.{LedgerView, TicketView}
-use Rattle.dm_assembly_desk.specs.Documents.{Documents}
-use Rattle.dm_event_history.specs.Relay.{Actor, Relay, Desk, Label, with_printer, with_desk}
-use Rattle.dm_event_history.specs.Calls.{Ending, Calls, MayLackFirst, Looks, Restarts, PrintComes, GiveComes, TakeComes, print_faults, give_faults, take_faults, ScanComes, ForgetComes, ImportComes, AskTells, ExportTells, scan_faults, forget_faults, import_faults}
+use Rattle.std.specs.FinMap as finite
+use Rattle.dm_event_history.specs.Relay as relays
+use Rattle.dm_event_history.specs.declared.reply.Reply.TheVariants as replies
+use Rattle.dm_event_history.specs.declared.stop.Stop.TheVariants as stops
 use Rattle.dm_print_ledger.specs.declared.fault.PrintFault.TheVariants as print_fault
 use Rattle.dm_print_ledger.specs.declared.fault.GiveFault.TheVariants as give_fault
 use Rattle.dm_print_ledger.specs.declared.fault.TakeFault.TheVariants as take_fault
+use Rattle.dm_append_label.specs.declared.fault.LabelFault.TheVariants as label_fault
+use Rattle.dm_assembly_desk.specs.declared.reply.Imported as imported_type
 use Rattle.dm_assembly_desk.specs.declared.fault.ScanFault.TheVariants as scan_fault
 use Rattle.dm_assembly_desk.specs.declared.fault.ForgetFault.TheVariants as forget_fault
+use Rattle.dm_assembly_desk.specs.declared.fault.ExportFault.TheVariants as export_fault
 use Rattle.dm_assembly_desk.specs.declared.fault.ImportFault.TheVariants as import_fault
-use Rattle.dm_event_history.specs.declared.stop.Stop.TheVariants as stops
 use Rattle.dm_print_ledger.specs.declared.fault.OpenFault.TheVariants as open_fault
 use Rattle.dm_assembly_desk.specs.declared.fault.DeskFault.TheVariants as desk_fault
-use Rattle.dm_event_history.specs.Relay as relays
+
+-- ---- calls
+
+-- What a call comes to, where nothing is to happen to it: it saves this, lets these goods out and answers so, or it
+-- answers without a save, or memory for it is refused.
+pub data Course (A C : Type 0) : Type 0 where
+  Saves : C → Goods → Reply A → Course A C
+  Answers : Reply A → Course A C
+  LacksMemory : Course A C
+
+-- how a call of one kind tells that its printer or desk has failed, that its save did, and that its memory was refused
+pub record Faults (A : Type 0) : Type 0 where
+  pub failed : Reply A
+  pub save : Reply A
+  pub memory : Reply A
+
+-- a call ends: it is answered so, its printer or desk is so, and these goods left
+pub record Ending (A C : Type 0) : Type 0 where
+  pub reply : Reply A
+  pub actor : Actor C
+  pub goods : Goods
+
+abbrev pub ending : {A C : Type 0} → Reply A → Actor C → Goods → Ending A C
+ending reply actor goods = record { reply = reply; actor = actor; goods = goods }
+
+-- a ticket that does not leave
+abbrev pub lost : TicketView → Move
+lost ticket = Lost ticket.range
+
+-- of a call that saved and was not answered at most a number of labels left, and no ticket
+abbrev pub cut_off : ℕ → Goods → Goods
+cut_off most goods = record {
+  labels = take most goods.labels;
+  tickets = [];
+  exports = [];
+  moves = goods.moves ++ map lost goods.tickets;
+}
+
+-- The table: how a call that comes to this ends under a stop.
+abbrev pub ends : {A C : Type 0} → Faults A → Stop → Course A C → Actor C → Ending A C
+-- stopped before the new content is stored, whatever it would have come to
+ends faults BeforeSave course old = ending replies.Stopped (Down (stored_of old)) nothing
+ends faults (InSave Old) course old = ending replies.Stopped (Down (stored_of old)) nothing
+-- it saves
+ends faults stops.None (Saves next goods reply) old = ending reply (Running next) goods
+ends faults (SaveFault Old) (Saves next goods reply) old = ending faults.save (Failed (stored_of old) (stored_of old)) nothing
+ends faults (SaveFault New) (Saves next goods reply) old = ending faults.save (Failed (stored_of old) next) (cut_off 0 goods)
+ends faults (InSave New) (Saves next goods reply) old = ending replies.Stopped (Down next) (cut_off 0 goods)
+ends faults (AfterLabels most) (Saves next goods reply) old = ending replies.Stopped (Down next) (cut_off most goods)
+-- it answers without a save
+ends faults stops.None (Answers reply) old = ending reply old nothing
+ends faults (SaveFault kept) (Answers reply) old = ending reply old nothing
+ends faults (InSave New) (Answers reply) old = ending replies.Stopped (Down (stored_of old)) nothing
+ends faults (AfterLabels most) (Answers reply) old = ending replies.Stopped (Down (stored_of old)) nothing
+-- its memory is refused
+ends faults stops.None LacksMemory old = ending faults.memory old nothing
+ends faults (SaveFault kept) LacksMemory old = ending faults.memory old nothing
+ends faults (InSave New) LacksMemory old = ending replies.Memory old nothing
+ends faults (AfterLabels most) LacksMemory old = ending replies.Memory old nothing
+
+-- A call that is stopped before the new content is stored is not asked what it comes to.
+abbrev pub Reaches : Stop → Type 0 → Type 0
+Reaches BeforeSave Came = Unit {0}
+Reaches (InSave Old) Came = Unit {0}
+Reaches (InSave New) Came = Came
+Reaches stops.None Came = Came
+Reaches (SaveFault kept) Came = Came
+Reaches (AfterLabels most) Came = Came
+
+-- A call of a printer or a desk that saves, by what it comes to where that runs. One that has failed answers so; one
+-- that is down is not called, and no stop is taken notice of.
+abbrev pub Calls : {A C : Type 0} → Faults A → Stop → (C → Course A C → Type 0) → Actor C → Ending A C → Type 0
+Calls {A} {C} faults stop Comes (Running held) end =
+    (course : Course A C) × Reaches stop (Comes held course) × (end ≡ ends faults stop course (Running held))
+Calls faults stop Comes (Failed shown stored) end =
+    end ≡ ends faults stop (Answers faults.failed) (Failed shown stored)
+Calls faults stop Comes (Down stored) end = end ≡ ending replies.Down (Down stored) nothing
+
+-- Memory may be refused first, for what the relay keeps of the call: then nothing changes.
+abbrev pub MayLackFirst : {A C : Type 0} → (Actor C → Ending A C → Type 0) → Actor C → Ending A C → Type 0
+MayLackFirst Acts (Running held) end = (end ≡ ending replies.Memory (Running held) nothing) ⊎ Acts (Running held) end
+MayLackFirst Acts (Failed shown stored) end =
+    (end ≡ ending replies.Memory (Failed shown stored) nothing) ⊎ Acts (Failed shown stored) end
+MayLackFirst Acts (Down stored) end = Acts (Down stored) end
+
+-- A call that saves nothing is answered by what is shown, also by one that has failed.
+abbrev pub Looks : {A C : Type 0} → (C → Reply A → Goods → Type 0) → Actor C → Ending A C → Type 0
+Looks Tells (Running held) end = Tells held end.reply end.goods × (end.actor ≡ Running held)
+Looks Tells (Failed shown stored) end = Tells shown end.reply end.goods × (end.actor ≡ Failed shown stored)
+Looks Tells (Down stored) end = end ≡ ending replies.Down (Down stored) nothing
+
+-- A restart runs on with what is stored; where memory is refused, which `refused` tells, it is down.
+abbrev pub Restarts : {A C : Type 0} → Reply A → Actor C → Ending A C → Type 0
+Restarts refused old end =
+    (end ≡ ending replies.Restarted (Running (stored_of old)) nothing)
+    ⊎ (end ≡ ending refused (Down (stored_of old)) nothing)
+
+-- What a verdict on a ledger comes to: it is saved and this leaves by it, or it is the answer.
+abbrev pub Comes : {A F : Type 0} → (F → Reply A) → Result LedgerView F → (Goods → Reply A → Type 0) →
+    Course A LedgerView → Type 0
+Comes refuses verdict Leaves (Saves next goods reply) = (verdict ≡ Ok next) × Leaves goods reply
+Comes {A} {F} refuses verdict Leaves (Answers reply) = (fault : F) × (verdict ≡ Err fault) × (reply ≡ refuses fault)
+Comes refuses verdict Leaves LacksMemory = IsOk verdict
+
+-- a ledger that is stored is always sound
+abbrev pub IsStored : LedgerView → Type 0
+IsStored ledger = IsTrue (is_sound ledger)
+
+-- ---- prints
+
+abbrev pub print_faults : {A : Type 0} → Faults A
+print_faults = record {
+  failed = PrintRefused print_fault.Failed;
+  save = PrintRefused print_fault.Save;
+  memory = PrintRefused print_fault.Memory;
+}
+
+-- the document has these parts, or none
+abbrev pub IsCut : Size → Scheme → List ℕ → Option (List (List ℕ)) → Type 0
+IsCut size scheme document None = HasNoEnds size scheme document
+IsCut size scheme document (Some parts) = AreParts size scheme document parts
+
+-- it is the label of this page of the document
+pub record IsLabelFor (cut : CutDocument) (page : PageView) (label : Label) : Type 0 where
+  pub page_is : label.page ≡ page
+  pub cut_is : label.cut ≡ cut
+  pub grid_is : IsLabelOf cut.size cut.scheme page label.grid
+
+-- they are, in order, the labels of these parts of the document, from page m on
+abbrev pub AreLabelsFor : CutDocument → ℕ → ℕ → List (List ℕ) → List Label → Type 0
+AreLabelsFor cut id m [] [] = Unit {0}
+AreLabelsFor cut id m (part ∷ parts) (label ∷ labels) =
+    IsLabelFor cut (record { id = id; m = m; n = length cut.parts; bytes = part }) label
+    × AreLabelsFor cut id (m + 1) parts labels
+AreLabelsFor cut id m [] (label ∷ labels) = ⊥
+AreLabelsFor cut id m (part ∷ parts) [] = ⊥
+
+-- all labels of the document leave under the least free number, which is used; a number of labels left before
+pub record PrintLeaves {A : Type 0} (before : ℕ) (cut : CutDocument) (id : ℕ) (goods : Goods) (reply : Reply A)
+    : Type 0 where
+  pub labels : List Label
+  pub are_labels : AreLabelsFor cut id 1 cut.parts labels
+  pub goods_are : goods ≡ record { labels = labels; tickets = []; exports = []; moves = Used id ∷ [] }
+  pub reply_is : reply ≡ Printed id before (length cut.parts)
+
+-- the document in these parts
+abbrev pub cut_of : List ℕ → Size → Scheme → List (List ℕ) → CutDocument
+cut_of document size scheme parts = record { bytes = document; size = size; scheme = scheme; parts = parts }
+
+-- what a print comes to
+abbrev pub PrintComes : {A : Type 0} → ℕ → List ℕ → Size → Scheme → LedgerView → Course A LedgerView → Type 0
+PrintComes before document size scheme ledger course =
+    IsStored ledger × (parts : Option (List (List ℕ))) × IsCut size scheme document parts
+    × Comes PrintRefused (print_verdict ledger (is_some parts)) (λ goods reply.
+    IsSomeAnd parts (λ parts. PrintLeaves before (cut_of document size scheme parts) (least ledger.free) goods reply))
+    course
+
+-- ---- gives
+
+abbrev pub give_faults : {A : Type 0} → Faults A
+give_faults = record {
+  failed = GiveRefused give_fault.Failed;
+  save = GiveRefused give_fault.Save;
+  memory = GiveRefused give_fault.Memory;
+}
+
+-- what a give comes to: the numbers leave by a ticket; a number of tickets left before
+abbrev pub GiveComes : {A : Type 0} → ℕ → ℕ → Range → LedgerView → Course A LedgerView → Type 0
+GiveComes before receiver range ledger course =
+    IsStored ledger × Comes GiveRefused (give_verdict ledger receiver range) (λ goods reply.
+    (goods ≡ record { labels = []; tickets = ticket_of ledger receiver range ∷ []; exports = []; moves = [] })
+    × (reply ≡ Given before (ticket_of ledger receiver range))) course
+
+-- ---- takes
+
+abbrev pub take_faults : {A : Type 0} → Faults A
+take_faults = record {
+  failed = TakeRefused take_fault.Failed;
+  save = TakeRefused take_fault.Save;
+  memory = TakeRefused take_fault.Memory;
+}
+
+-- what a take comes to: the numbers of the ticket, which left under this number, are free here
+abbrev pub TakeComes : {A : Type 0} → ℕ → TicketView → LedgerView → Course A LedgerView → Type 0
+TakeComes number ticket ledger course =
+    IsStored ledger × IsTrue (is_range ticket.range) × Comes TakeRefused (take_verdict ledger ticket) (λ goods reply.
+    (goods ≡ record { labels = []; tickets = []; exports = []; moves = Took number ∷ [] }) × (reply ≡ Taken)) course
+
+-- a call that comes to this saves
+abbrev pub IsSaving : {A C : Type 0} → Course A C → Type 0
+IsSaving (Saves next goods reply) = Unit {0}
+IsSaving (Answers reply) = ⊥
+IsSaving LacksMemory = ⊥
+
+-- A call comes to what is wanted of it; if that is a save, memory for it may be refused.
+abbrev pub MayBe : {A C : Type 0} → Course A C → Course A C → Type 0
+MayBe wanted course = (course ≡ wanted) ⊎ ((course ≡ LacksMemory) × IsSaving wanted)
+
+-- what a verdict comes to; `tells` makes a reply of its answer
+abbrev pub verdict_course : {A R : Type 0} → (R → Reply A) → Verdict R → Course A Documents
+verdict_course tells (Stays answer) = Answers (tells answer)
+verdict_course tells (Becomes next answer) = Saves next nothing (tells answer)
+
+-- ---- scans
+
+abbrev pub scan_faults : {A : Type 0} → Faults A
+scan_faults = record {
+  failed = ScanRefused scan_fault.Failed;
+  save = ScanRefused scan_fault.Save;
+  memory = ScanRefused scan_fault.Memory;
+}
+
+abbrev pub scan_reply : {A : Type 0} → Result Accepted ScanFault → Reply A
+scan_reply (Ok accepted) = Scanned accepted
+scan_reply (Err fault) = ScanRefused fault
+
+-- of a page that is added
+abbrev pub page_reply : {A : Type 0} → PageView → Result imported_type.Imported AddFault → Reply A
+page_reply page added = scan_reply (scan_of page added)
+
+-- what a scan comes to, by what its grid is read as: of the document its page alone is added
+abbrev pub scan_course : {A : Type 0} → ℕ → Documents → Result (Opened A) LabelFault → Course A Documents
+scan_course room held (Ok opened) =
+    verdict_course (page_reply opened.page) (add_verdict room held opened.page.id (lone opened.page))
+scan_course room held (Err label_fault.Memory) = LacksMemory
+scan_course room held (Err fault) = Answers (ScanRefused (scan_fault.Label fault))
+
+abbrev pub ScanComes : {A : Type 0} → ℕ → GridView → Documents → Course A Documents → Type 0
+ScanComes {A} room grid held course =
+    (read : Result (Opened A) LabelFault) × LabelOpens grid read × MayBe (scan_course room held read) course
+
+-- ---- imports
+
+abbrev pub import_faults : {A : Type 0} → Faults A
+import_faults = record {
+  failed = ImportRefused import_fault.Failed;
+  save = ImportRefused import_fault.Save;
+  memory = ImportRefused import_fault.Memory;
+}
+
+abbrev pub import_reply : {A : Type 0} → Result imported_type.Imported ImportFault → Reply A
+import_reply (Ok imported) = Imported imported
+import_reply (Err fault) = ImportRefused fault
+
+-- of pages that are added
+abbrev pub pages_reply : {A : Type 0} → Result imported_type.Imported AddFault → Reply A
+pages_reply added = import_reply (import_of added)
+
+-- what an import comes to: all pages of the export are added
+abbrev pub ImportComes : {A : Type 0} → ℕ → relays.Export → Documents → Course A Documents → Type 0
+ImportComes room export held course =
+    MayBe (verdict_course pages_reply (add_verdict room held export.id export.pages)) course
+
+-- ---- forgets
+
+abbrev pub forget_faults : {A : Type 0} → Faults A
+forget_faults = record {
+  failed = ForgetRefused forget_fault.Failed;
+  save = ForgetRefused forget_fault.Save;
+  memory = ForgetRefused forget_fault.Memory;
+}
+
+abbrev pub forget_reply : {A : Type 0} → Result (Unit {0}) ForgetFault → Reply A
+forget_reply (Ok done) = Forgotten
+forget_reply (Err fault) = ForgetRefused fault
+
+abbrev pub ForgetComes : {A : Type 0} → ℕ → Documents → Course A Documents → Type 0
+ForgetComes id held course = MayBe (verdict_course forget_reply (forget_verdict held id)) course
+
+-- ---- asks and exports
+
+abbrev pub ask_reply : {A : Type 0} → Result (List ℕ) AskFault → Reply A
+ask_reply (Ok document) = Document document
+ask_reply (Err fault) = AskRefused fault
+
+abbrev pub AskTells : {A : Type 0} → ℕ → Documents → Reply A → Goods → Type 0
+AskTells id held reply goods =
+    (answer : Result (List ℕ) AskFault) × Asks (λ bytes. bytes) (finite.get held id) answer
+    × (reply ≡ ask_reply answer) × (goods ≡ nothing)
+
+-- Of what is held of a document the export has the pages; memory for it may be refused. So many left before.
+abbrev pub ExportsHeld : {A : Type 0} → ℕ → ℕ → Option Pages → Reply A → Goods → Type 0
+ExportsHeld before id None reply goods = (reply ≡ ExportRefused export_fault.NotHeld) × (goods ≡ nothing)
+ExportsHeld before id (Some pages) reply goods =
+    ((reply ≡ Exported before id (length pages) (mask pages))
+    × (goods ≡ record { labels = []; tickets = []; exports = record { id = id; pages = pages } ∷ []; moves = [] }))
+    ⊎ ((reply ≡ ExportRefused export_fault.Memory) × (goods ≡ nothing))
+
+abbrev pub ExportTells : {A : Type 0} → ℕ → ℕ → Documents → Reply A → Goods → Type 0
+ExportTells before id held reply goods = ExportsHeld before id (finite.get held id) reply goods
+
+-- ---- steps
+
+-- Who acts by an event, which events may have saved, what one event does to a relay, and runs of events.
 
 -- a printer or a desk, by its number
 pub data Named : Type 0 where

@@ -2,8 +2,7 @@
 //! nothing, or call a law below.
 
 ghost use Rattle.dm_event_history.specs.Headline.{EachCleanDeskGives, EachStepKeepsClean, EachStepPrints, EachRunIsSound, EachRunIsTrue, EachRunKeepsNumbers, EachStepIsSound, EachStepKeepsNumbers};
-ghost use Rattle.dm_event_history.specs.Told.{EachExhaustedIsSo, EachFailedFailed, EachRunCountsTickets, EachRunIsAsTold, EachRunTakesOnce, EachStepIsLegal, EachTakeIsLater, EachStepIsRefusedSo, NothingIsOpenButMemory};
-ghost use Rattle.dm_event_history.specs.Safe.{EachFairDeskIsBetween, EachFairReplyIsSafe};
+ghost use Rattle.dm_event_history.specs.Told.{EachExhaustedIsSo, EachFailedFailed, EachRunCountsTickets, EachRunIsAsTold, EachRunTakesOnce, EachStepIsLegal, EachTakeIsLater, EachStepIsRefusedSo, NothingIsOpenButMemory, EachFairDeskIsBetween, EachFairReplyIsSafe};
 ghost use Rattle.dm_event_history.specs.Worked.{AreNone, AreRuns};
 
 use dm_size::Size;

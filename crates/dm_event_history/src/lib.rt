@@ -5,8 +5,8 @@
 //! call: it ends early, or its save meets a fault.
 //!
 //! The machine is a relay without files: its printers as ledgers, its desks as documents, and what left them
-//! (`specs/Relay`). `specs/Calls` has the table of how a call ends under each stop, and says what each call comes to;
-//! `specs/Steps` says what one event does. The machine has no code: its laws are the contracts of [`laws`].
+//! (`specs/Relay`). `specs/Steps` has the table of how a call ends under each stop, and says what each call comes to
+//! and what one event does. The machine has no code: its laws are the contracts of [`laws`].
 #![tactic(auto)]
 
 mod bytes;

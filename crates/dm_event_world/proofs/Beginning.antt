@@ -2,7 +2,7 @@
 use Rattle.std.proofs.Common.{◌≡◌, ◌+◌, ℕ, zero, suc, Some, List, [], ◌∷◌, All, length, slice_get, refl, sym, ap, subst, ◌∙◌, arith}
 use Rattle.std.proofs.lemmas.List.{length-map}
 use Rattle.dm_print_ledger.specs.declared.range.Range.{Range}
-use Rattle.dm_print_ledger.specs.Creating.{opening}
+use Rattle.dm_print_ledger.specs.Verdicts.{opening}
 use Rattle.dm_print_ledger.specs.Ledger.{LedgerView, TicketView}
 use Rattle.dm_assembly_desk.specs.Documents.{IsCapacity}
 use Rattle.dm_event_history.specs.Relay.{Actor, Running, Desk, empty_desk, fresh_from, start}

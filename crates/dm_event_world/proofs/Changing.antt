@@ -8,8 +8,7 @@ use Rattle.dm_event_history.specs.declared.event.Event.{Event}
 use Rattle.dm_event_history.specs.declared.reply.Reply.{Reply}
 use Rattle.dm_event_history.specs.declared.reply.Reply.TheVariants.{NoSuch}
 use Rattle.dm_event_history.specs.Relay.{Actor, stored_of, Desk, Goods, Relay, with_desk, with_printer}
-use Rattle.dm_event_history.specs.Calls.{Ending}
-use Rattle.dm_event_history.specs.Steps.{DeskGoes, IsNamed, PrinterGoes, Step}
+use Rattle.dm_event_history.specs.Steps.{Ending, DeskGoes, IsNamed, PrinterGoes, Step}
 use Rattle.dm_event_history.proofs.Gotten.{in_either}
 use Rattle.dm_event_world.specs.declared.actor.PrinterActor.{PrinterActor}
 use Rattle.dm_event_world.specs.declared.actor.DeskActor.{DeskActor}

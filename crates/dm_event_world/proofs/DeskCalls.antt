@@ -18,7 +18,7 @@ use Rattle.dm_assembly_desk.specs.declared.fault.ScanFault.{ScanFault}
 use Rattle.dm_assembly_desk.specs.declared.fault.ScanFault.TheVariants as scan_fault
 use Rattle.dm_assembly_desk.specs.declared.fault.ImportFault.{ImportFault}
 use Rattle.dm_assembly_desk.specs.declared.fault.ImportFault.TheVariants as import_fault
-use Rattle.dm_assembly_desk.specs.Adding.{add_verdict, pages_with, reply_of, with_pages, AcceptsGrid, Scans, lone, ImportsBytes, Becomes, SavesDocument, Stays, Verdict, answer_by, Forgets, forget_verdict}
+use Rattle.dm_assembly_desk.specs.Desk.{add_verdict, pages_with, reply_of, with_pages, AcceptsGrid, Scans, lone, ImportsBytes, Becomes, SavesDocument, Stays, Verdict, answer_by, Forgets, forget_verdict}
 use Rattle.dm_assembly_desk.proofs.AddLaws as laws
 use Rattle.dm_assembly_desk.proofs.Undoing.{get_here}
 use Rattle.dm_event_history.proofs.Adds as verdicts
@@ -27,7 +27,7 @@ use Rattle.dm_store.specs.declared.fuse.Kept.TheVariants.{Old, New}
 use Rattle.dm_store.specs.declared.mem_store.NextSave.{NextSave}
 use Rattle.dm_store.specs.declared.mem_store.NextSave.TheVariants as next_save
 use Rattle.dm_assembly_desk.specs.Documents.{Pages, IsEntry, file, Documents, DeskView}
-use Rattle.dm_assembly_desk.specs.Adding as holding
+use Rattle.dm_assembly_desk.specs.Desk as holding
 use Rattle.dm_assembly_desk.specs.declared.fault.ForgetFault.{ForgetFault}
 use Rattle.dm_assembly_desk.specs.declared.fault.ForgetFault.TheVariants as forget_fault
 use Rattle.dm_assembly_desk.proofs.Saving.{few_remove}
@@ -38,7 +38,7 @@ use Rattle.dm_event_history.specs.declared.stop.Stop.{Stop}
 use Rattle.dm_event_history.specs.declared.stop.Stop.TheVariants as stops
 use Rattle.dm_event_history.specs.declared.stop.Stop.TheVariants.{BeforeSave, InSave, SaveFault, AfterLabels}
 use Rattle.dm_event_history.specs.Relay.{Actor, Running, Failed, Down, stored_of, Export, Goods, nothing}
-use Rattle.dm_event_history.specs.Calls.{Answers, Calls, Course, Ending, Faults, LacksMemory, MayLackFirst, Saves, ending, ends, ForgetComes, ImportComes, MayBe, ScanComes, forget_faults, forget_reply, import_faults, import_reply, page_reply, pages_reply, scan_course, scan_faults, scan_reply, verdict_course}
+use Rattle.dm_event_history.specs.Steps.{Answers, Calls, Course, Ending, Faults, LacksMemory, MayLackFirst, Saves, ending, ends, ForgetComes, ImportComes, MayBe, ScanComes, forget_faults, forget_reply, import_faults, import_reply, page_reply, pages_reply, scan_course, scan_faults, scan_reply, verdict_course}
 use Rattle.dm_event_world.specs.declared.actor.DeskState.{DeskState}
 use Rattle.dm_event_world.specs.declared.actor.DeskState.TheVariants as states
 use Rattle.dm_event_world.specs.declared.actor.LeftExport.{LeftExport}

@@ -9,13 +9,12 @@ use Rattle.dm_assembly_desk.specs.declared.fault.DeskFault.{DeskFault}
 use Rattle.dm_assembly_desk.specs.declared.fault.DeskFault.TheVariants as desk_fault
 use Rattle.dm_assembly_desk.specs.declared.fault.ExportFault.{ExportFault}
 use Rattle.dm_assembly_desk.specs.declared.fault.ExportFault.TheVariants as export_fault
-use Rattle.dm_assembly_desk.specs.Adding.{Asks, Exports, Gives}
+use Rattle.dm_assembly_desk.specs.Desk.{Asks, Exports, Gives, HasDeskFault, Opens}
 use Rattle.dm_assembly_desk.specs.Documents.{Documents, HoldsFiles, IsEntry, file, Pages, mask, DeskView, IsInOrder}
-use Rattle.dm_assembly_desk.specs.Opening.{HasDeskFault, Opens}
 use Rattle.dm_event_history.specs.declared.reply.Reply.{Reply}
 use Rattle.dm_event_history.specs.declared.reply.Reply.TheVariants as replies
 use Rattle.dm_event_history.specs.Relay.{Actor, Running, Failed, Down, stored_of, Export, Goods, nothing}
-use Rattle.dm_event_history.specs.Calls.{Ending, Looks, MayLackFirst, Restarts, ending, AskTells, ExportTells, ExportsHeld, ask_reply}
+use Rattle.dm_event_history.specs.Steps.{Ending, Looks, MayLackFirst, Restarts, ending, AskTells, ExportTells, ExportsHeld, ask_reply}
 use Rattle.dm_event_world.specs.declared.actor.DeskState.{DeskState}
 use Rattle.dm_event_world.specs.declared.actor.DeskState.TheVariants as desks
 use Rattle.dm_event_world.specs.declared.actor.LeftExport.{LeftExport}

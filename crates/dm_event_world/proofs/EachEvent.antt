@@ -15,8 +15,7 @@ use Rattle.dm_event_history.specs.declared.reply.Reply.TheVariants.{PrinterRefus
 use Rattle.dm_event_history.specs.declared.stop.Stop.{Stop}
 use Rattle.dm_event_history.specs.Relay.{Actor, Goods, Label, Relay}
 use Rattle.dm_event_history.specs.Relay as relays
-use Rattle.dm_event_history.specs.Calls.{Ending, Calls, MayLackFirst, Looks, Restarts, PrintComes, GiveComes, TakeComes, print_faults, give_faults, take_faults, ScanComes, ForgetComes, ImportComes, AskTells, ExportTells, scan_faults, forget_faults, import_faults}
-use Rattle.dm_event_history.specs.Steps.{DeskGoes, HasModules, PrinterGoes}
+use Rattle.dm_event_history.specs.Steps.{Ending, Calls, MayLackFirst, Looks, Restarts, PrintComes, GiveComes, TakeComes, print_faults, give_faults, take_faults, ScanComes, ForgetComes, ImportComes, AskTells, ExportTells, scan_faults, forget_faults, import_faults, DeskGoes, HasModules, PrinterGoes}
 use Rattle.dm_event_world.specs.declared.actor.PrinterActor.{PrinterActor}
 use Rattle.dm_event_world.specs.declared.actor.DeskActor.{DeskActor}
 use Rattle.dm_event_world.specs.declared.actor.DeskState.{DeskState}

@@ -8,7 +8,7 @@ use Rattle.std.proofs.lemmas.List.{length-append}
 use Rattle.std.proofs.lemmas.Option.{slice_get-get_or}
 use Rattle.dm_store.specs.Saved.{LoadsFine, SavesFine, SavedSet, Contents}
 use Rattle.dm_assembly_desk.specs.Documents.{Pages, file, Documents, AreEntries, HoldsFiles, DeskView}
-use Rattle.dm_assembly_desk.specs.Opening.{Opens}
+use Rattle.dm_assembly_desk.specs.Desk.{Opens}
 use Rattle.dm_event_world.specs.declared.actor.DeskActor.{DeskActor}
 use Rattle.dm_event_world.specs.declared.actor.DeskState.{DeskState}
 use Rattle.dm_event_world.specs.declared.actor.DeskState.TheVariants.{Running}

@@ -13,7 +13,7 @@ use Rattle.dm_event_history.specs.Relay.{Actor, Running, Failed, Down, stored_of
 use Rattle.dm_event_world.specs.declared.actor.LeftLabel.{LeftLabel}
 use Rattle.dm_event_world.specs.declared.actor.LeftExport.{LeftExport}
 use Rattle.dm_event_world.specs.Shows.{left_export, left_label}
-use Rattle.dm_event_history.specs.Calls.{Answers, Calls, Course, Ending, Faults, LacksMemory, MayLackFirst, Reaches, Saves, ending, ends}
+use Rattle.dm_event_history.specs.Steps.{Answers, Calls, Course, Ending, Faults, LacksMemory, MayLackFirst, Reaches, Saves, ending, ends}
 use Rattle.dm_event_world.specs.inner.Calls.{stops_before, EndsSo, Left, ended, ended_reply, lacks_memory}
 
 -- the stop without its early end: its plan for the save is left

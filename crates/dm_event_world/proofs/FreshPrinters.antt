@@ -4,12 +4,11 @@ use Rattle.std.proofs.Common.{◌≡◌, ◌⊎◌, inl, inr, true, ◌++◌, �
 use Rattle.dm_store.specs.Saved.{Saved, SavePlan, LoadsFine, SavesFine, Done, Follows, Replaces}
 use Rattle.dm_print_ledger.specs.declared.range.Range.{Range}
 use Rattle.dm_print_ledger.specs.Ledger.{PrinterView, is_range, ledger_bytes}
-use Rattle.dm_print_ledger.specs.Creating.{Creates, SavesFirst, opening}
+use Rattle.dm_print_ledger.specs.Verdicts.{Creates, SavesFirst, opening, open_verdict}
 use Rattle.dm_event_world.specs.declared.actor.PrinterActor.{PrinterActor}
 use Rattle.dm_event_world.specs.declared.actor.PrinterActor.TheVariants as actors
 use Rattle.dm_event_history.specs.Relay as states
 use Rattle.dm_event_world.specs.Shows.{ShowsPrinter}
-use Rattle.dm_print_ledger.specs.Verdicts.{open_verdict}
 use Rattle.dm_print_ledger.specs.declared.fault.CreateFault.{CreateFault}
 use Rattle.dm_print_ledger.specs.declared.fault.CreateFault.TheVariants as creating
 use Rattle.dm_print_ledger.proofs.LedgerLaws.{opening_sound}

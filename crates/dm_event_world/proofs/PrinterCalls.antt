@@ -15,7 +15,7 @@ use Rattle.dm_event_history.specs.declared.stop.Stop.{Stop}
 use Rattle.dm_event_history.specs.declared.stop.Stop.TheVariants as stops
 use Rattle.dm_event_history.specs.declared.stop.Stop.TheVariants.{BeforeSave, InSave, SaveFault, AfterLabels}
 use Rattle.dm_event_history.specs.Relay.{Actor, Running, Failed, Down, stored_of, Goods}
-use Rattle.dm_event_history.specs.Calls.{Answers, Calls, Course, Faults, LacksMemory, Saves, ends, Comes}
+use Rattle.dm_event_history.specs.Steps.{Answers, Calls, Course, Faults, LacksMemory, Saves, ends, Comes}
 use Rattle.dm_event_world.specs.declared.actor.PrinterActor.{PrinterActor}
 use Rattle.dm_event_world.specs.declared.actor.PrinterActor.TheVariants as actors
 use Rattle.dm_event_world.specs.Shows.{ShowsPrinter, StoresLedger}

@@ -27,7 +27,7 @@ use Rattle.dm_event_history.specs.declared.stop.Stop.{Stop}
 use Rattle.dm_event_history.specs.declared.stop.Stop.TheVariants as stops
 use Rattle.dm_event_history.specs.declared.stop.Stop.TheVariants.{BeforeSave, InSave, SaveFault, AfterLabels}
 use Rattle.dm_event_history.specs.Relay.{Actor, Running, Failed, Down, stored_of, CutDocument, Export, Goods, Label, Took, Used, nothing}
-use Rattle.dm_event_history.specs.Calls.{Calls, Course, Ending, Faults, MayLackFirst, Saves, ending, ends, AreLabelsFor, GiveComes, PrintComes, PrintLeaves, TakeComes, cut_of, give_faults, print_faults, take_faults}
+use Rattle.dm_event_history.specs.Steps.{Calls, Course, Ending, Faults, MayLackFirst, Saves, ending, ends, AreLabelsFor, GiveComes, PrintComes, PrintLeaves, TakeComes, cut_of, give_faults, print_faults, take_faults}
 use Rattle.dm_event_world.specs.declared.actor.LeftLabel.{LeftLabel}
 use Rattle.dm_event_world.specs.declared.actor.LeftExport.{LeftExport}
 use Rattle.dm_event_world.specs.declared.actor.PrinterActor.{PrinterActor}

@@ -7,7 +7,7 @@ ghost use Rattle.std.specs.Prelude.{◌≡◌, ℕ, [], All, length};
 ghost use Rattle.dm_finder_frame.specs.Frame.{IsInGrid, flipped};
 ghost use Rattle.dm_assembly_desk.specs.Documents.{IsEntry, file};
 ghost use Rattle.dm_event_history.specs.declared.reply.Reply.TheVariants.{DeskRefused as desk_refused};
-ghost use Rattle.dm_event_history.specs.Calls.{Calls, Looks, MayLackFirst, Restarts, AskTells, ExportTells, ForgetComes, ImportComes, ScanComes, forget_faults, forget_reply, import_faults, import_reply, scan_faults, scan_reply};
+ghost use Rattle.dm_event_history.specs.Steps.{Calls, Looks, MayLackFirst, Restarts, AskTells, ExportTells, ForgetComes, ImportComes, ScanComes, forget_faults, forget_reply, import_faults, import_reply, scan_faults, scan_reply};
 ghost use Rattle.dm_event_history.specs.Relay.{Export};
 ghost use Rattle.dm_event_world.specs.Shows.{ShowsDesk};
 ghost use Rattle.dm_event_world.specs.inner.Calls.{IsMadeUnder, EndsEach, Left, ended, ended_reply};

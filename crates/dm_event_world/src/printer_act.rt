@@ -7,7 +7,7 @@
 ghost use Rattle.std.specs.Prelude.{◌≡◌, ℕ, false, ◌+◌, ◌≤◌, ◌++◌, [], IfOk, IsTrue, length, take, vec_len, vec_capacity, if◌then◌else◌};
 ghost use Rattle.dm_print_ledger.specs.Verdicts.{Prints, Gives, Takes};
 ghost use Rattle.dm_print_ledger.specs.Ledger.{is_range};
-ghost use Rattle.dm_event_history.specs.Calls.{Calls, MayLackFirst, Restarts, GiveComes, PrintComes, TakeComes, give_faults, print_faults, take_faults};
+ghost use Rattle.dm_event_history.specs.Steps.{Calls, MayLackFirst, Restarts, GiveComes, PrintComes, TakeComes, give_faults, print_faults, take_faults};
 ghost use Rattle.dm_event_world.specs.Shows.{ShowsPrinter};
 ghost use Rattle.dm_event_world.specs.inner.Calls.{IsMadeUnder, ends_early, most_labels, EndsEach, Left, ended, ended_reply, RestartsAs, down_printer, give_reply, job_labels, left_labels, left_ticket, planned, print_reply, saved_of, take_reply};
 

@@ -27,7 +27,7 @@ pub struct World<A: Allocator + Copy = Global> {
 impl<A: Allocator + Copy> Model for World<A> {
     ghost use Rattle.std.specs.Prelude.{◌≤◌, length};
     ghost use Rattle.std.specs.Coded.{codes};
-    ghost use Rattle.dm_store.specs.Codes.{saved_set_code};
+    ghost use Rattle.dm_store.specs.Saved.{saved_set_code};
     ghost use Rattle.dm_assembly_desk.specs.Codes.{documents_code, desk_code};
     ghost use Rattle.dm_event_world.specs.Shows.{WorldView};
     ghost use Rattle.dm_event_world.specs.inner.Events.{contents_code};

@@ -4,8 +4,7 @@ use Rattle.dm_print_ledger.proofs.Rising.{RiseFrom, range_fact, rise_fact, rise_
 use Rattle.dm_print_ledger.specs.declared.range.Range.{Range}
 use Rattle.dm_print_ledger.specs.declared.giver.Giver.{Giver}
 use Rattle.dm_print_ledger.specs.Ledger.{is_range, are_ranges, givers_with, are_givers, is_sound}
-use Rattle.dm_print_ledger.specs.Verdicts.{without, union_of, are_free, has_free, single, least, RangesAreNumbers, FirstIsLeast, GiversAreNoted}
-use Rattle.dm_print_ledger.specs.Creating.{opening}
+use Rattle.dm_print_ledger.specs.Verdicts.{without, union_of, are_free, has_free, single, least, RangesAreNumbers, FirstIsLeast, GiversAreNoted, opening}
 use Rattle.dm_print_ledger.proofs.RangeLaws.{least_free}
 use Rattle.dm_print_ledger.proofs.OutLaws.{covered_free, covers_all, takes_out, first_out}
 use Rattle.dm_print_ledger.proofs.InLaws.{meets_no, puts_in, meets_none}

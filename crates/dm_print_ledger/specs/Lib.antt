@@ -1,3 +1,2 @@
-pub mod Creating
 pub mod Ledger
 pub mod Verdicts

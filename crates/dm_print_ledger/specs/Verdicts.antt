@@ -1,28 +1,57 @@
--- What a print, a give and a take come to: lists of ranges, verdicts, and how a printer carries them out.
-use Rattle.std.specs.Prelude.{◌≡◌, ◌+◌, ◌≤◌, ◌↔◌, ℕ, ◌&&◌, ◌||◌, not, true, false, IsTrue, List, ◌∷◌, Some, ◌==◌, if◌then◌else◌, length, Result, Ok, Err, IfOk, nat_lt, Bool, ◌-◌, [], ◌++◌, nat_le, min, max, ◌⊎◌, Option, None, unwrap_or, IsSomeAnd, is_some, codes}
-use Rattle.std.specs.List.{list_any}
+-- What the creation of a printer does to a store.
+use Rattle.std.specs.Prelude.{◌≡◌, ◌⊎◌, ℕ, [], ◌∷◌, None, Result, Ok, Err, IsTrue, IsSome, IfOk, MatchBool, ◌+◌, ◌≤◌, ◌↔◌, ◌&&◌, ◌||◌, not, true, false, List, Some, ◌==◌, if◌then◌else◌, length, nat_lt, Bool, ◌-◌, ◌++◌, nat_le, min, max, Option, unwrap_or, IsSomeAnd, is_some, codes}
+use Rattle.dm_store.specs.Saved.{Saved, Replaces, LoadsOpen}
 use Rattle.dm_print_ledger.specs.declared.range.Range.{Range}
+use Rattle.dm_print_ledger.specs.declared.fault.CreateFault.{CreateFault}
+use Rattle.dm_print_ledger.specs.Ledger.{is_range, ledger_bytes, LedgerView, PrinterView, running, are_givers, givers_with, last_taken, is_old, are_ranges, is_in, is_free, free_count, size_of, TicketView, ShownView, JobView, read_ledger, is_sound}
+use Rattle.std.specs.List.{list_any}
 use Rattle.dm_print_ledger.specs.declared.giver.Giver.{Giver}
-use Rattle.dm_print_ledger.specs.Ledger.{are_givers, givers_with, last_taken, is_old, are_ranges, is_range, is_in, is_free, free_count, size_of, LedgerView, PrinterView, TicketView, ShownView, running, JobView, read_ledger, ledger_bytes, is_sound}
 use Rattle.dm_print_ledger.specs.declared.limits.TheConstants.{MOST_RANGES, MOST_GIVERS}
 use Rattle.dm_print_ledger.specs.declared.fault.PrintFault.{PrintFault}
 use Rattle.dm_print_ledger.specs.declared.fault.GiveFault.{GiveFault}
 use Rattle.dm_print_ledger.specs.declared.fault.TakeFault.{TakeFault}
-use Rattle.dm_store.specs.Saved.{Saved, LoadsOpen, Replaces}
 use Rattle.dm_print_ledger.specs.declared.fault.OpenFault.{OpenFault}
 use Rattle.dm_print_ledger.specs.declared.fault.OpenFault.TheVariants.{Absent, Number, Device, Memory}
 use Rattle.dm_size.specs.declared.size.Size.{Size}
 use Rattle.dm_encodation.specs.declared.scheme.Scheme.{Scheme}
 use Rattle.dm_finder_frame.specs.Frame.{GridView}
 use Rattle.dm_append_label.specs.Labels.{Seals, PageView, AreEnds, HasNoEnds, parts_from}
-use Rattle.dm_print_ledger.specs.declared.fault.CreateFault.{CreateFault}
+use Rattle.dm_store.specs.declared.store.StoreFault.TheVariants as replacing
+use Rattle.dm_print_ledger.specs.declared.fault.CreateFault.TheVariants as creating
 use Rattle.dm_print_ledger.specs.declared.fault.PrintFault.TheVariants as printing
 use Rattle.dm_print_ledger.specs.declared.fault.GiveFault.TheVariants as giving
 use Rattle.dm_print_ledger.specs.declared.fault.TakeFault.TheVariants as taking
 use Rattle.dm_append_label.specs.Labels as label
-use Rattle.dm_store.specs.declared.store.StoreFault.TheVariants as replacing
-use Rattle.dm_print_ledger.specs.declared.fault.CreateFault.TheVariants as creating
-use Rattle.dm_print_ledger.specs.declared.fault.OpenFault.TheVariants as opening
+use Rattle.dm_print_ledger.specs.declared.fault.OpenFault.TheVariants as open_faults
+
+-- ---- creation
+
+-- the ledger of a printer with this number of whose range nothing was used
+abbrev pub opening : ℕ → Range → LedgerView
+opening number range = record { number = number; next_serial = 0; free = range ∷ []; givers = [] }
+
+-- a store before and after a first ledger was to be saved where nothing is held, and how it ended
+abbrev pub SavesFirst : {X : Type 0} → Saved → LedgerView → Result X CreateFault → Saved → Type 0
+SavesFirst old ledger (Ok _) new =
+    (IsTrue old.is_honest → old.content ≡ None) × Replaces old (ledger_bytes ledger) (Ok tt) new
+SavesFirst old ledger (Err creating.Exists) new = (IsTrue old.is_honest → IsSome old.content) × (new ≡ old)
+SavesFirst old ledger (Err creating.Device) new =
+    ((old.load_plan ≡ LoadsOpen) × (new ≡ old))
+    ⊎ ((IsTrue old.is_honest → old.content ≡ None) × Replaces old (ledger_bytes ledger) (Err replacing.Device) new)
+SavesFirst old ledger (Err creating.Memory) new = (new ≡ old) × IsTrue old.may_lack_memory
+SavesFirst old ledger (Err creating.Range) new = ⊥
+
+-- a printer of this number that runs over its store, with this range free, or why there is none
+pub record Creates (old : Saved) (number : ℕ) (range : Range) (answer : Result PrinterView CreateFault) (new : Saved)
+    : Type 0 where
+  pub saves : MatchBool (is_range range)
+      (SavesFirst old (opening number range) answer new)
+      ((answer ≡ Err creating.Range) × (new ≡ old))
+  pub runs : IfOk answer (λ printer. printer ≡ running new (opening number range))
+
+-- ---- verdicts
+
+-- What a print, a give and a take come to: lists of ranges, verdicts, and how a printer carries them out.
 
 -- one range has all numbers of the other
 abbrev pub covers : Range → Range → Bool
@@ -305,13 +334,13 @@ create_fault_name creating.Device = codes "Device"
 create_fault_name creating.Memory = codes "Memory"
 
 abbrev pub open_fault_name : OpenFault → List ℕ
-open_fault_name opening.Absent = codes "Absent"
-open_fault_name opening.NotALedger = codes "NotALedger"
-open_fault_name opening.Version = codes "Version"
-open_fault_name opening.Damaged = codes "Damaged"
-open_fault_name opening.Device = codes "Device"
-open_fault_name opening.Memory = codes "Memory"
-open_fault_name opening.Number = codes "Number"
+open_fault_name open_faults.Absent = codes "Absent"
+open_fault_name open_faults.NotALedger = codes "NotALedger"
+open_fault_name open_faults.Version = codes "Version"
+open_fault_name open_faults.Damaged = codes "Damaged"
+open_fault_name open_faults.Device = codes "Device"
+open_fault_name open_faults.Memory = codes "Memory"
+open_fault_name open_faults.Number = codes "Number"
 
 abbrev pub print_fault_name : PrintFault → List ℕ
 print_fault_name printing.Failed = codes "Failed"

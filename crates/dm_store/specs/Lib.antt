@@ -1,4 +1,2 @@
 pub mod Saved
-pub mod Codes
-pub mod Fused
 pub mod Disk

@@ -1,10 +1,15 @@
 -- What contracts see of a store and of a set: what it holds, whether it does what it says, and what it may do next.
-use Rattle.std.specs.Prelude.{◌≡◌, ◌+◌, ◌⊎◌, ℕ, Bool, List, take, Option, Some, option_map, Result, Ok, Err, IfOk, IsErrOf, IsTrue, None, IsErr, IsSome, true, false}
+use Rattle.std.specs.Prelude.{◌≡◌, ◌+◌, ◌⊎◌, ℕ, Bool, List, take, Option, Some, option_map, Result, Ok, Err, IfOk, IsErrOf, IsTrue, None, IsErr, IsSome, true, false, zero, suc, refl}
 use Rattle.std.specs.Ordering.{nat_cmp}
-use Rattle.std.specs.FinMap as map
 use Rattle.dm_store.specs.declared.store.StoreFault.{StoreFault}
-use Rattle.dm_store.specs.declared.store.StoreFault.TheVariants as faults
 use Rattle.dm_store.specs.declared.mem_store.NextSave.{NextSave}
+use Rattle.dm_store.specs.declared.fuse.Kept.{Kept}
+use Rattle.dm_store.specs.declared.fuse.Kept.TheVariants.{Old, New}
+use Rattle.dm_store.specs.declared.fuse.Turn.{Turn}
+use Rattle.dm_store.specs.declared.fuse.Turn.TheVariants.{Passes, Made, Stopped}
+use Rattle.std.specs.Coded.{Coded, code_by, coded×, coded_ℕ, coded_bool, coded_list, coded_option}
+use Rattle.std.specs.FinMap as map
+use Rattle.dm_store.specs.declared.store.StoreFault.TheVariants as faults
 use Rattle.dm_store.specs.declared.mem_store.NextSave.TheVariants as nexts
 
 -- what loads may do: none of them meets a device fault, or each of them may
@@ -155,3 +160,124 @@ in_memory held fails_loads next = record {
   load_plan = load_plan_of fails_loads;
   save_plan = save_plan_of next;
 }
+
+-- ---- stores behind a fuse
+
+-- What contracts see of a store or a set behind a fuse, and what becomes of its calls.
+
+-- The store or the set within; how many calls still pass, or None once a call came after the last of these; and what
+-- the first call after them leaves, if it saves.
+pub record Fused (S : Type 0) : Type 0 where
+  pub inner : S
+  pub left : Option ℕ
+  pub kept : Kept
+
+-- a store or a set behind a fuse holds what the one within holds, lacks memory as that does, and each call may fail
+abbrev pub with_open_plans : {X : Type 0} → SavedIn X → SavedIn X
+with_open_plans saved = record saved { load_plan = LoadsOpen; save_plan = SavesOpen }
+
+-- What a fuse does with a load, a call for the keys or a settle, from how many calls still pass.
+abbrev pub turn_of_load : Option ℕ → Turn
+turn_of_load (Some (suc _)) = Passes
+turn_of_load (Some zero) = Stopped
+turn_of_load None = Stopped
+
+-- and with a replace or a remove, by what the first call after them leaves
+abbrev pub turn_of_save : Option ℕ → Kept → Turn
+turn_of_save (Some (suc _)) kept = Passes
+turn_of_save (Some zero) New = Made
+turn_of_save (Some zero) Old = Stopped
+turn_of_save None kept = Stopped
+
+-- how many calls still pass after one more, or None once a call came after the last of these
+abbrev pub after_call : Option ℕ → Option ℕ
+after_call (Some (suc n)) = Some n
+after_call (Some zero) = None
+after_call None = None
+
+-- the answer of a call that is made and then stopped: a device fault in place of Ok, and any fault as it is
+abbrev pub stopped_answer : {T F : Type 0} → F → Result T F → Result T F
+stopped_answer device (Ok _) = Err device
+stopped_answer device (Err fault) = Err fault
+
+-- By its turn a call is made of the one within, and that answers; or it is made and then stopped; or the one within is
+-- left alone.
+abbrev pub Goes : {S T F : Type 0} → Turn → F → (Result T F → S → Type 0) → S → Result T F → S → Type 0
+Goes Passes device Does old answer new = Does answer new
+Goes {S} {T} {F} Made device Does old answer new =
+    (made : Result T F) × (answer ≡ stopped_answer device made) × Does made new
+Goes Stopped device Does old answer new = (answer ≡ Err device) × (new ≡ old)
+
+-- ---- codes
+
+-- How what contracts see of a store and of a set is coded as pairs, lists, numbers and truth values, which a model asks
+-- of its value. Nothing here says what a store does.
+
+-- a plan as truth values, and back
+abbrev pub load_bit : LoadPlan → Bool
+load_bit LoadsFine = false
+load_bit LoadsOpen = true
+
+abbrev pub load_of : Bool → LoadPlan
+load_of false = LoadsFine
+load_of true = LoadsOpen
+
+abbrev pub save_bits : SavePlan → Bool × Bool
+save_bits SavesFine = (false, false)
+save_bits FaultOld = (false, true)
+save_bits FaultNew = (true, false)
+save_bits SavesOpen = (true, true)
+
+abbrev pub save_of : Bool × Bool → SavePlan
+save_of (false, false) = SavesFine
+save_of (false, true) = FaultOld
+save_of (true, false) = FaultNew
+save_of (true, true) = SavesOpen
+
+same_load : (p : LoadPlan) → load_of (load_bit p) ≡ p
+same_load LoadsFine = refl
+same_load LoadsOpen = refl
+
+same_save : (p : SavePlan) → save_of (save_bits p) ≡ p
+same_save SavesFine = refl
+same_save FaultOld = refl
+same_save FaultNew = refl
+same_save SavesOpen = refl
+
+-- the parts of a store or a set whose content is of type X
+abbrev pub Parts : Type 0 → Type 0
+Parts X = X × (Bool × (Bool × (Bool × (Bool × Bool))))
+
+abbrev pub saved_parts : {X : Type 0} → SavedIn X → Parts X
+saved_parts s = (s.content, (s.is_honest, (s.may_lack_memory, (load_bit s.load_plan, save_bits s.save_plan))))
+
+abbrev pub saved_whole : {X : Type 0} → Parts X → SavedIn X
+saved_whole p = record {
+  content = p.0;
+  is_honest = p.1.0;
+  may_lack_memory = p.1.1.0;
+  load_plan = load_of p.1.1.1.0;
+  save_plan = save_of p.1.1.1.1;
+}
+
+pub saved_whole-parts : {X : Type 0} (s : SavedIn X) → saved_whole (saved_parts s) ≡ s
+saved_whole-parts s = λ i.
+    record {
+      content = s.content;
+      is_honest = s.is_honest;
+      may_lack_memory = s.may_lack_memory;
+      load_plan = same_load s.load_plan i;
+      save_plan = same_save s.save_plan i;
+    }
+
+-- the code of a store or a set, by that of its content
+abbrev pub saved_in_code : {X : Type 0} → Coded X → Coded (SavedIn X)
+saved_in_code {X} content =
+    code_by (Parts X) (coded× content (coded× coded_bool (coded× coded_bool (coded× coded_bool (coded× coded_bool coded_bool)))))
+    saved_parts saved_whole saved_whole-parts
+
+abbrev pub saved_code : Coded Saved
+saved_code = saved_in_code (coded_option (coded_list coded_ℕ))
+
+abbrev pub saved_set_code : Coded SavedSet
+saved_set_code = saved_in_code (map.code {R = nat_cmp} coded_ℕ (coded_list coded_ℕ))

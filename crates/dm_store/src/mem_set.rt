@@ -51,8 +51,7 @@ pub struct MemSet<A: Allocator + Copy = Global> {
 }
 
 impl<A: Allocator + Copy> Model for MemSet<A> {
-    ghost use Rattle.dm_store.specs.Saved.{SavedSet, in_memory};
-    ghost use Rattle.dm_store.specs.Codes.{saved_set_code};
+    ghost use Rattle.dm_store.specs.Saved.{SavedSet, in_memory, saved_set_code};
 
     ghost Value = { SavedSet };
 

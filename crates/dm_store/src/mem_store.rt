@@ -30,8 +30,7 @@ pub struct MemStore<A: Allocator + Copy = Global> {
 
 impl<A: Allocator + Copy> Model for MemStore<A> {
     ghost use Rattle.std.specs.Prelude.{option_map};
-    ghost use Rattle.dm_store.specs.Saved.{Saved, in_memory};
-    ghost use Rattle.dm_store.specs.Codes.{saved_code};
+    ghost use Rattle.dm_store.specs.Saved.{Saved, in_memory, saved_code};
 
     ghost Value = { Saved };
 

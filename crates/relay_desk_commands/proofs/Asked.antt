@@ -1,7 +1,7 @@
 -- What a desk answers is what its answer has as bytes.
 use Rattle.std.specs.Prelude.{◌≡◌, List, ℕ, Result, Ok, Err, IsErrAnd, MatchResult}
 use Rattle.std.proofs.Common.{ap}
-use Rattle.dm_assembly_desk.specs.Adding.{Gives}
+use Rattle.dm_assembly_desk.specs.Desk.{Gives}
 
 -- the same answer, of what is given its bytes
 abbrev pub as_bytes : {X F : Type 0} → (X → List ℕ) → Result X F → Result (List ℕ) F

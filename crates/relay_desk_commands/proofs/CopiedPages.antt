@@ -15,7 +15,7 @@ use Rattle.dm_append_label.specs.declared.fault.LabelFault.TheVariants as labels
 use Rattle.dm_append_label.specs.declared.opening.Opened.{Opened}
 use Rattle.std.specs.FinMap.{get}
 use Rattle.dm_assembly_desk.specs.Documents.{Documents, Pages, page, page_at}
-use Rattle.relay_desk_commands.specs.Copy.{Copies, OpensAsHeld, OpensAsNoOther}
+use Rattle.relay_desk_commands.specs.Desks.{Copies, OpensAsHeld, OpensAsNoOther}
 
 near_itself : (grid : GridView) → IsNear grid grid
 near_itself grid = record {

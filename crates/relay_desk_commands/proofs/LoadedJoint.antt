@@ -5,10 +5,10 @@ use Rattle.std.specs.FinMap.{empty, get, get-empty}
 use Rattle.std.specs.Ordering.{nat_cmp}
 use Rattle.dm_store.specs.Saved.{Saved}
 use Rattle.dm_assembly_desk.specs.Documents.{Documents}
-use Rattle.dm_assembly_desk.specs.Opening.{HasJointFileFault, HoldsJointFile}
+use Rattle.dm_assembly_desk.specs.Desk.{HasJointFileFault, HoldsJointFile}
 use Rattle.dm_assembly_desk.specs.declared.fault.MoveFault.{MoveFault}
 use Rattle.dm_assembly_desk.specs.declared.fault.MoveFault.TheVariants.{Device, Memory}
-use Rattle.relay_desk_commands.specs.Held.{SeesJoint}
+use Rattle.relay_desk_commands.specs.Desks.{SeesJoint}
 
 -- there is no file
 pub none_there : (content : Option (List ℕ)) → None ≡ option_map (take (42636295 + 1)) content →

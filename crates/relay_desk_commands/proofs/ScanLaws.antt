@@ -1,14 +1,13 @@
 -- What a desk is after a scan: if a save failed, it has failed, and else it runs on.
 use Rattle.dm_pbm_io.specs.Image.{Picture}
-use Rattle.relay_shared.specs.Cure.{EndsNote}
+use Rattle.relay_shared.specs.Command.{EndsNote}
 use Rattle.std.specs.Prelude.{◌≡◌, ◌||◌, ℕ, List, Bool, true, false, Result, Ok, Err}
 use Rattle.std.proofs.Common.{inl, inr, refl, ap, sym, ◌∙◌}
 use Rattle.dm_append_label.specs.declared.fault.LabelFault.{LabelFault}
 use Rattle.dm_append_label.specs.declared.fault.LabelFault.TheVariants as labels
 use Rattle.dm_append_label.specs.declared.opening.Opened.{Opened}
 use Rattle.dm_append_label.specs.Labels.{PageView}
-use Rattle.dm_assembly_desk.specs.Adding.{lone, scan_of, Scans}
-use Rattle.dm_assembly_desk.specs.Faults.{scan_fault}
+use Rattle.dm_assembly_desk.specs.Desk.{lone, scan_of, Scans, scan_fault}
 use Rattle.dm_assembly_desk.specs.Documents.{DeskView}
 use Rattle.dm_assembly_desk.specs.declared.adding.AddFault.{AddFault}
 use Rattle.dm_assembly_desk.specs.declared.adding.AddFault.TheVariants as adds

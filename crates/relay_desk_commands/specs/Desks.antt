@@ -1,31 +1,26 @@
--- What `deliver`, `export`, `forget`, `import` and `scan` do to the files of a desk, and what they write. `scan` prints
--- a line for each image of a file, in order, up to the end of the file, a plain image, bytes that are no image, or the
--- greatest number of images; and nothing after a save that failed.
-use Rattle.std.specs.Prelude.{◌≡◌, ◌<◌, ℕ, List, [], Option, None, IfSome, Result, Ok, Err, MatchResult, Bool, true, false}
-use Rattle.std.specs.FinMap as map
+-- What the commands of desks do to files and streams, and the lines that they write: what these show is this project's own rule.
+use Rattle.std.specs.Prelude.{ℕ, List, [], ◌∷◌, ◌++◌, codes, zero, suc, ◌+◌, ◌^◌, ◌==◌, Bool, if◌then◌else◌, ◌≡◌, ◌<◌, Option, None, IfSome, Result, Ok, Err, MatchResult, true, false, ◌≤◌, ◌⊎◌, ◌||◌, Some, is_err, IsOk, IsTrue, IsSomeAnd, IsSome, IfOk}
+use Rattle.std.specs.Fmt.{decimal}
+use Rattle.dm_assembly_desk.specs.Documents.{names, Documents, DeskView, KeepsPages, IsInOrder, Pages, summary, count_at, page_at}
+use Rattle.dm_assembly_desk.specs.declared.reply.Held.{Held}
+use Rattle.relay_shared.specs.Lines.{id_text, word_text, accepted_line, imported_line}
 use Rattle.hex.specs.Hex.{decode_sized}
-use Rattle.dm_store.specs.Saved.{Saved, SavedSet}
-use Rattle.dm_append_label.specs.Labels.{id_words, PageView}
+use Rattle.dm_store.specs.Saved.{Saved, SavedSet, ListsKeys, LoadsOpen, Settles}
+use Rattle.dm_append_label.specs.Labels.{id_words, PageView, Carries, Fits, IsTooLong, Seals}
 use Rattle.dm_append_label.specs.Opening.{OpensAs}
-use Rattle.dm_assembly_desk.specs.Adding.{Asks, Exports, Forgets, ImportsBytes, AcceptsGrid, kind_name}
-use Rattle.dm_assembly_desk.specs.Faults.{ask_fault_name, desk_fault_name, export_fault_name, forget_fault_name, import_fault_name, move_fault_name, scan_fault_name}
-use Rattle.dm_assembly_desk.specs.Opening.{Moves, HasDeskFault, Opens}
-use Rattle.dm_assembly_desk.specs.Documents.{Documents, DeskView, KeepsPages, IsInOrder}
+use Rattle.dm_assembly_desk.specs.Desk.{Asks, Exports, Forgets, ImportsBytes, AcceptsGrid, kind_name, ask_fault_name, desk_fault_name, export_fault_name, forget_fault_name, import_fault_name, move_fault_name, scan_fault_name, move_fault_of, Moves, HasDeskFault, Opens, HasJointFileFault, HoldsJointFile, SeesKey}
 use Rattle.dm_assembly_desk.specs.declared.limits.TheConstants.{MOST_CAPACITY}
 use Rattle.dm_assembly_desk.specs.declared.fault.DeskFault.{DeskFault}
 use Rattle.dm_assembly_desk.specs.declared.fault.MoveFault.{MoveFault}
-use Rattle.relay_streams.specs.Streams.{input_fault_name, OutputView, ReadsFirst}
+use Rattle.relay_streams.specs.Streams.{input_fault_name, OutputView, ReadsFirst, refused_line, AppendsPart}
 use Rattle.relay_streams.specs.declared.fault.InputFault.{InputFault}
 use Rattle.relay_desk_commands.specs.declared.documents.Given.{Given}
 use Rattle.relay_desk_commands.specs.declared.documents.Given.TheVariants.{Document, File}
 use Rattle.relay_desk_commands.specs.declared.import.TheConstants.{IMPORT_BYTES}
-use Rattle.relay_shared.specs.Lines.{accepted_line, imported_line}
-use Rattle.relay_desk_commands.specs.Lines.{forgotten_line}
-use Rattle.relay_shared.specs.Command.{HasInputFault, refusal_name, LeavesErrors, OnlyOutput, RefusesOnErrors, RefusesOnOutput, StreamsView, TellsAnswer, TellsBytes, TellsRefusal}
-use Rattle.relay_shared.specs.declared.command.Refusal.TheVariants as refusals
+use Rattle.relay_shared.specs.Command.{HasInputFault, refusal_name, LeavesErrors, OnlyOutput, RefusesOnErrors, RefusesOnOutput, StreamsView, TellsAnswer, TellsBytes, TellsRefusal, ImageCommand, Said, TellsInputs, progress_at, refusal_of, Tells, EndsNote, NotesImage}
 use Rattle.dm_finder_frame.specs.Frame.{GridView}
 use Rattle.dm_pbm_io.specs.FaultNames.{shape_fault_name}
-use Rattle.dm_pbm_io.specs.Image.{Picture, HasShape, IsGridInside}
+use Rattle.dm_pbm_io.specs.Image.{Picture, HasShape, IsGridInside, p4}
 use Rattle.dm_pbm_io.specs.declared.fault.ShapeFault.{ShapeFault}
 use Rattle.dm_pbm_io.specs.declared.fault.ShapeFault.TheVariants.{Shape, Memory}
 use Rattle.dm_assembly_desk.specs.declared.fault.ScanFault.{ScanFault}
@@ -33,8 +28,59 @@ use Rattle.dm_assembly_desk.specs.declared.reply.Accepted.{Accepted}
 use Rattle.dm_assembly_desk.specs.declared.reply.Imported.{Imported}
 use Rattle.dm_append_label.specs.declared.fault.LabelFault.TheVariants.{Border, Block}
 use Rattle.dm_assembly_desk.specs.declared.fault.ScanFault.TheVariants.{Label}
-use Rattle.relay_shared.specs.Cure.{EndsNote, NotesImage}
-use Rattle.relay_shared.specs.EachImage.{ImageCommand, Said, TellsInputs, progress_at, refusal_of}
+use Rattle.dm_store.specs.declared.store.StoreFault.{StoreFault}
+use Rattle.dm_size.specs.Sizes.{IsSide, side}
+use Rattle.dm_size.specs.declared.size.Size.{Size}
+use Rattle.dm_encodation.specs.declared.scheme.Scheme.{Scheme}
+use Rattle.dm_append_label.specs.declared.fault.LabelFault.{LabelFault}
+use Rattle.dm_append_label.specs.declared.opening.Opened.{Opened}
+use Rattle.relay_desk_commands.specs.declared.copy.CopyOptions.{CopyOptions}
+use Rattle.std.specs.FinMap as map
+use Rattle.relay_shared.specs.declared.command.Refusal.TheVariants as refusals
+use Rattle.dm_assembly_desk.specs.declared.fault.AskFault.TheVariants as asks
+use Rattle.dm_assembly_desk.specs.declared.fault.MoveFault.TheVariants as moves
+use Rattle.dm_append_label.specs.declared.fault.LabelFault.TheVariants as labels
+
+-- ---- lines
+
+-- `forgotten` and the identification
+abbrev pub forgotten_line : ℕ → List ℕ
+forgotten_line id = codes "forgotten " ++ (id_text id ++ 10 ∷ [])
+
+-- a space and the number of page m, if the mask does not name it
+abbrev pub missing_page : ℕ → ℕ → List ℕ
+missing_page mask m = if names mask m then [] else 32 ∷ decimal m
+
+-- so for each of the first pages, up to this one
+abbrev pub missing_pages : ℕ → ℕ → List ℕ
+missing_pages mask zero = []
+missing_pages mask (suc m) = missing_pages mask m ++ missing_page mask (suc m)
+
+-- whether each page is held: the mask of n pages has n bits
+abbrev pub is_complete : Held → Bool
+is_complete held = held.mask + 1 == 2 ^ held.n
+
+-- `complete`, or `lacks`, after a space
+abbrev pub held_word : Held → List ℕ
+held_word held = if is_complete held then codes " complete" else codes " lacks"
+
+-- the identification, n, whether the document is complete, and the pages that are missing
+abbrev pub held_line : Held → List ℕ
+held_line held =
+    id_text held.id ++ (32 ∷ (decimal held.n ++ (held_word held ++ (missing_pages held.mask held.n ++ 10 ∷ []))))
+
+-- the file of a key, by its name, and why it is not sound
+abbrev pub unsound_line : ℕ → List ℕ → List ℕ
+unsound_line key name =
+    codes "file " ++ (word_text key ++ (32 ∷ (name ++ 10 ∷ [])))
+
+-- the file of an older version, and why it is not sound
+abbrev pub unsound_joint_line : List ℕ → List ℕ
+unsound_joint_line name = codes "file joint " ++ (name ++ 10 ∷ [])
+
+-- What `deliver`, `export`, `forget`, `import` and `scan` do to the files of a desk, and what they write. `scan` prints
+-- a line for each image of a file, in order, up to the end of the file, a plain image, bytes that are no image, or the
+-- greatest number of images; and nothing after a save that failed.
 
 -- ---- a desk's files
 
@@ -222,3 +268,162 @@ ScansAll A images desk old status new = (after : DeskView) × TellsInputs (scan_
 -- how `scan` ends; if there is no desk, nothing was read
 abbrev pub EndsScan : Type 0 → ℕ → List (Option (List ℕ)) → OnDesk → ℕ → OnDesk → Type 0
 EndsScan A capacity images = EndsAtDesk RefusesOnOutput capacity (ScansAll A images)
+
+-- ---- held
+
+-- What `held` prints: what the files of a desk hold, file by file, without a desk. It changes no file.
+
+-- ---- what is seen
+
+-- what the file of an older version gives: its documents, if there is such a file, or why it is not sound
+abbrev pub SeenJoint : Type 0
+SeenJoint = Result (Option Documents) MoveFault
+
+-- its documents: none if there is no such file, or if it is not sound
+abbrev pub documents_in : SeenJoint → Documents
+documents_in (Ok (Some documents)) = documents
+documents_in _ = map.empty
+
+-- what was found of the file of an older version is true of it
+abbrev pub SeesJoint : Saved → SeenJoint → Type 0
+SeesJoint saved (Err moves.Device) = saved.load_plan ≡ LoadsOpen
+SeesJoint saved (Err moves.Memory) = IsTrue saved.may_lack_memory
+SeesJoint saved (Err fault) = IsTrue saved.is_honest → IsSomeAnd saved.content (λ bytes. HasJointFileFault bytes fault)
+SeesJoint saved (Ok found) = IsTrue saved.is_honest → HoldsJointFile saved.content (documents_in (Ok found))
+
+-- What is seen of the document of a number: that of its own file, if there is one, or else what the file of an older
+-- version has of it.
+abbrev pub SeesNumber : SavedSet → SeenJoint → ℕ → Result (Option Held) DeskFault → Type 0
+SeesNumber set joint number (Err fault) = SeesKey set number (Err fault)
+SeesNumber set joint number (Ok None) = SeesKey set number (Ok None) × (map.get (documents_in joint) number ≡ None)
+SeesNumber set joint number (Ok (Some held)) =
+    SeesKey set number (Ok (Some held))
+    ⊎ (SeesKey set number (Ok None) × ((pages : Pages)
+    × (map.get (documents_in joint) number ≡ Some pages) × (held ≡ summary (number, pages))))
+
+-- ---- what is printed
+
+-- the line of what was seen of a number; nothing is held of it, so there is none
+abbrev pub seen_line : ℕ → Result (Option Held) DeskFault → List ℕ
+seen_line number (Ok None) = []
+seen_line number (Ok (Some held)) = held_line held
+seen_line number (Err fault) = unsound_line number (desk_fault_name fault)
+
+-- the line of the file of an older version, if it is not sound
+abbrev pub joint_line : SeenJoint → List ℕ
+joint_line (Ok _) = []
+joint_line (Err fault) = unsound_joint_line (move_fault_name fault)
+
+-- the lines of the numbers below this one, as they rise, after that of the file of an older version; and whether one of
+-- them is of a file that is not sound
+pub data Lists (set : SavedSet) (joint : SeenJoint) : ℕ → List ℕ → Bool → Type 0 where
+  begun : Lists set joint 0 (joint_line joint) (is_err joint)
+  further : {number : ℕ} {text : List ℕ} {unsound : Bool} (found : Result (Option Held) DeskFault)
+      → Lists set joint number text unsound → SeesNumber set joint number found
+      → Lists set joint (number + 1) (text ++ seen_line number found) (unsound || is_err found)
+
+-- What is said of one document, or of all, and the exit status. If nothing is held of the one that is asked for, that
+-- is refused, unless the file of an older version is not sound, which may have held it.
+pub data Says (set : SavedSet) (joint : SeenJoint) : Option ℕ → List ℕ → ℕ → Type 0 where
+  is_held : {id : ℕ} (held : Held) → SeesNumber set joint id (Ok (Some held))
+      → Says set joint (Some id) (held_line held) 0
+  not_held : {id : ℕ} → IsOk joint → SeesNumber set joint id (Ok None)
+      → Says set joint (Some id) (refused_line (ask_fault_name asks.NotHeld)) 1
+  joint_unsound : {id : ℕ} (fault : MoveFault) → joint ≡ Err fault → SeesNumber set joint id (Ok None)
+      → Says set joint (Some id) (unsound_joint_line (move_fault_name fault)) 1
+  unsound : {id : ℕ} (fault : DeskFault) → SeesNumber set joint id (Err fault)
+      → Says set joint (Some id) (unsound_line id (desk_fault_name fault)) 1
+  all : {text : List ℕ} {unsound : Bool} → Lists set joint 65536 text unsound
+      → Says set joint None text (if unsound then 1 else 0)
+  no_keys : (why : StoreFault) → ListsKeys (λ (keys : List ℕ). keys) set 65536 (Err why) set
+      → Says set joint None (refused_line (move_fault_name (move_fault_of why))) 1
+
+-- so it was told; or the output has failed at one of all documents, and a part of some first lines is out
+pub data TellsHeld (set : SavedSet) (joint : SeenJoint) (old : OutputView) (status : ℕ) (new : OutputView)
+    : Option ℕ → Type 0 where
+  whole : {id : Option ℕ} (text : List ℕ) (wanted : ℕ) → Says set joint id text wanted → Tells text wanted old status new
+      → TellsHeld set joint old status new id
+  cut_off : {number : ℕ} {text : List ℕ} {unsound : Bool} → Lists set joint number text unsound → number ≤ 65536
+      → new.has_failed ≡ true → AppendsPart old.contents new.contents text → status ≡ 1
+      → TellsHeld set joint old status new None
+
+-- and what was seen was settled; or it could not be, though all was well, and that was refused
+abbrev pub TellsSettled : SavedSet → SeenJoint → OutputView → ℕ → OutputView → Option ℕ → Type 0
+TellsSettled set joint old status new id = TellsHeld set joint old status new id
+    ⊎ ((mid : OutputView) × (why : StoreFault) × TellsHeld set joint old 0 mid id × Settles set (Err why) set
+    × TellsRefusal (move_fault_name (move_fault_of why)) mid status new)
+
+-- how `held` ends for an identification, or for all: it changes no file, and no other stream
+pub record EndsHeldOf (id : Option ℕ) (old : OnDesk) (status : ℕ) (new : OnDesk) : Type 0 where
+  pub joint : SeenJoint
+  pub sees : SeesJoint old.files.joint joint
+  pub told : TellsSettled old.files.set joint old.streams.output status new.streams.output id
+  pub only : OnlyOutput old.streams new.streams
+  pub same : new.files ≡ old.files
+
+-- how `held` ends, with a text or none
+abbrev pub EndsHeld : Option (List ℕ) → OnDesk → ℕ → OnDesk → Type 0
+EndsHeld None = EndsHeldOf None
+EndsHeld (Some text) = EndsOnId RefusesOnOutput text (λ id. EndsHeldOf (Some id))
+
+-- ---- copy
+
+-- What `copy` does to the files of a desk, and what it writes: the image of the label of a page that the desk holds.
+
+-- ---- the label
+
+-- the page is page m of the document, as it is held
+pub record IsPageHeld (held : Documents) (id m : ℕ) (page : PageView) : Type 0 where
+  pub id_is : page.id ≡ id
+  pub m_is : page.m ≡ m
+  pub n_is : page.n ≡ count_at held id
+  pub bytes_are : page_at held id m ≡ Some page.bytes
+
+-- the grid is the label, of this size and encodation, of page m of the document, as it is held: it has room for the
+-- page, and it carries it
+pub record Copies (held : Documents) (id m : ℕ) (size : Size) (scheme : Scheme) (grid : GridView) : Type 0 where
+  pub page : PageView
+  pub is_held : IsPageHeld held id m page
+  pub fits : Fits size scheme page.bytes
+  pub sealed : Seals size scheme page grid
+  pub carries : Carries page grid
+
+-- the name of the reason that there is no such label, or no image of it: the first, in this order, that applies
+pub data HasNoCopy (held : Documents) (id m : ℕ) (size : Size) (scheme : Scheme) : List ℕ → Type 0 where
+  not_held : map.get held id ≡ None → HasNoCopy held id m size scheme (codes "NotHeld")
+  incomplete : IsSome (map.get held id) → page_at held id m ≡ None
+      → HasNoCopy held id m size scheme (codes "Incomplete")
+  too_long : IsSomeAnd (page_at held id m) (IsTooLong size scheme) → HasNoCopy held id m size scheme (codes "TooLong")
+  no_memory : IsSomeAnd (page_at held id m) (Fits size scheme) → HasNoCopy held id m size scheme (codes "Memory")
+
+-- the bytes of the label's image, or that name
+abbrev pub GivesCopy : ℕ → ℕ → Size → Scheme → Documents → Result (List ℕ) (List ℕ) → Type 0
+GivesCopy id m size scheme held (Ok bytes) = (grid : GridView) × Copies held id m size scheme grid × (bytes ≡ p4 grid)
+GivesCopy id m size scheme held (Err name) = HasNoCopy held id m size scheme name
+
+-- ---- the command
+
+-- how `copy` ends for an identification: the side is that of no size; or by what the desk gives
+pub data EndsCopyOf (options : CopyOptions) (id : ℕ) (old : OnDesk) (status : ℕ) (new : OnDesk) : Type 0 where
+  no_side : ¬ IsSide options.side → new.files ≡ old.files
+      → RefusesOnErrors (refusal_name refusals.Side) old.streams status new.streams
+      → EndsCopyOf options id old status new
+  of_side : (size : Size) → side size ≡ options.side → EndsAtDesk RefusesOnErrors MOST_CAPACITY
+      (GivesOut (GivesCopy id options.page size options.scheme)) old status new → EndsCopyOf options id old status new
+
+-- how `copy` ends
+abbrev pub EndsCopy : CopyOptions → OnDesk → ℕ → OnDesk → Type 0
+EndsCopy options = EndsOnId RefusesOnErrors options.id.now (EndsCopyOf options)
+
+-- ---- what a copy opens as
+
+-- what was opened is page m of the document, as it is held, and no word and no module of a finder pattern was wrong;
+-- only memory can be refused
+abbrev pub OpensAsHeld : {A : Type 0} → Documents → ℕ → ℕ → Result (Opened A) LabelFault → Type 0
+OpensAsHeld held id m (Ok label) = IsPageHeld held id m label.page × (label.corrected ≡ 0) × (label.wrong ≡ 0)
+OpensAsHeld held id m (Err labels.Memory) = Unit {0}
+OpensAsHeld held id m (Err _) = ⊥
+
+-- if a page was opened, it is page m of the document as it is held, and no other
+abbrev pub OpensAsNoOther : {A : Type 0} → Documents → ℕ → ℕ → Result (Opened A) LabelFault → Type 0
+OpensAsNoOther held id m result = IfOk result (λ label. IsPageHeld held id m label.page)

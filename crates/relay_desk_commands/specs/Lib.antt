@@ -1,4 +1,1 @@
-pub mod Lines
 pub mod Desks
-pub mod Held
-pub mod Copy

@@ -5,8 +5,7 @@ ghost use Rattle.dm_append_label.specs.Labels.{Fits, IsTooLong};
 ghost use Rattle.dm_append_label.specs.declared.opening.TheConstants.{MOST_PAGE_BYTES};
 ghost use Rattle.dm_assembly_desk.specs.Documents.{Documents, count_at, lent_bytes, page, page_at};
 ghost use Rattle.dm_pbm_io.specs.Image.{picture, written};
-ghost use Rattle.relay_desk_commands.specs.Copy.{EndsCopy, GivesCopy};
-ghost use Rattle.relay_desk_commands.specs.Desks.{desk_at};
+ghost use Rattle.relay_desk_commands.specs.Desks.{EndsCopy, GivesCopy, desk_at};
 
 use crate::desk_opening::{id_of, open_desk};
 use dm_append_label::{FileId, Page, SealFault, seal};

@@ -4,11 +4,10 @@ ghost use Rattle.std.specs.Prelude.{◌≡◌, ◌+◌, ◌++◌, ◌<◌, ◌�
 ghost use Rattle.std.specs.FinMap as map;
 ghost use Rattle.std.specs.Option.{option_copied};
 ghost use Rattle.dm_store.specs.Saved.{Loads, Saved};
-ghost use Rattle.dm_assembly_desk.specs.Opening.{IsFirstFrom};
+ghost use Rattle.dm_assembly_desk.specs.Desk.{IsFirstFrom};
 ghost use Rattle.relay_streams.specs.Streams.{OutputView};
 ghost use Rattle.relay_shared.specs.Command.{Puts};
-ghost use Rattle.relay_desk_commands.specs.Desks.{desk_at};
-ghost use Rattle.relay_desk_commands.specs.Held.{EndsHeld, SeenJoint, SeesJoint, SeesNumber, TellsHeld, TellsSettled, documents_in, joint_line, seen_line};
+ghost use Rattle.relay_desk_commands.specs.Desks.{desk_at, EndsHeld, SeenJoint, SeesJoint, SeesNumber, TellsHeld, TellsSettled, documents_in, joint_line, seen_line};
 
 use crate::desk_opening::id_of;
 use crate::lines::{put_held, put_unsound, put_unsound_joint};

@@ -4,7 +4,7 @@ ghost use Rattle.std.specs.Prelude.{◌≡◌, ℕ};
 ghost use Rattle.dm_finder_frame.specs.Frame.{GridView};
 ghost use Rattle.dm_symbol.specs.Correction.{IsNear};
 ghost use Rattle.dm_assembly_desk.specs.Documents.{Documents};
-ghost use Rattle.relay_desk_commands.specs.Copy.{Copies, OpensAsHeld, OpensAsNoOther};
+ghost use Rattle.relay_desk_commands.specs.Desks.{Copies, OpensAsHeld, OpensAsNoOther};
 ghost use Rattle.dm_size.specs.declared.size.Size.{Size};
 ghost use Rattle.dm_encodation.specs.declared.scheme.Scheme.{Scheme};
 

@@ -1,7 +1,7 @@
 //! The lines that the commands of desks write. They take no memory; an `Err` is a write that the output has refused.
 
 ghost use Rattle.std.specs.Prelude.{◌≡◌, ◌∷◌, [], ◌/◌, ◌%◌, ◌<◌, ◌≤◌, ◌+◌, ◌++◌, length};
-ghost use Rattle.relay_desk_commands.specs.Lines.{forgotten_line, held_line, held_word, missing_page, missing_pages, unsound_joint_line, unsound_line};
+ghost use Rattle.relay_desk_commands.specs.Desks.{forgotten_line, held_line, held_word, missing_page, missing_pages, unsound_joint_line, unsound_line};
 ghost use Rattle.relay_shared.specs.Command.{Puts};
 
 use arrayvec::ArrayString;

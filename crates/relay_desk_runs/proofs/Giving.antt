@@ -6,9 +6,8 @@ use Rattle.dm_append_label.specs.Labels.{Carries, PageView}
 use Rattle.dm_size.specs.declared.size.Size.{Size}
 use Rattle.dm_encodation.specs.declared.scheme.Scheme.{Scheme}
 use Rattle.dm_store.specs.Saved.{SavedSet}
-use Rattle.dm_assembly_desk.specs.Adding.{Asks, Exports}
+use Rattle.dm_assembly_desk.specs.Desk.{Asks, Exports, ask_fault_name, export_fault_name}
 use Rattle.dm_assembly_desk.specs.Documents.{DeskView, Documents, Pages, page as held_page}
-use Rattle.dm_assembly_desk.specs.Faults.{ask_fault_name, export_fault_name}
 use Rattle.dm_assembly_desk.specs.declared.limits.TheConstants.{MOST_CAPACITY}
 use Rattle.dm_event_history.specs.Relay.{CutDocument, Label}
 use Rattle.dm_event_history.specs.Headline.{AreOfOneDocument, ArePrinted, HaveLeft, IsCleanExport, IsTheDocument}
@@ -19,13 +18,11 @@ use Rattle.relay_streams.specs.declared.fault.WriteFault.TheVariants.{Write}
 use Rattle.relay_streams.proofs.Parts.{part_whole}
 use Rattle.relay_shared.specs.Command.{RefusesOnErrors, StreamsView, TellsBytes, TellsRefusal, refusal_name}
 use Rattle.relay_shared.specs.declared.command.Refusal.TheVariants as refusals
-use Rattle.relay_desk_commands.specs.Copy.{EndsCopy, EndsCopyOf, GivesCopy, IsPageHeld}
-use Rattle.relay_desk_commands.specs.Copy.EndsCopyOf.{no_side, of_side}
-use Rattle.relay_desk_commands.specs.Desks.{ByName, EndsDeliver, EndsExport, IsTextOfId, OnDesk}
+use Rattle.relay_desk_commands.specs.Desks.{EndsCopy, EndsCopyOf, GivesCopy, IsPageHeld, ByName, EndsDeliver, EndsExport, IsTextOfId, OnDesk}
+use Rattle.relay_desk_commands.specs.Desks.EndsCopyOf.{no_side, of_side}
 use Rattle.relay_desk_commands.specs.Desks.EndsAtDesk.{no_desk, opened}
 use Rattle.relay_desk_commands.specs.Desks.EndsOnId.{no_id, of_id}
-use Rattle.relay_desk_runs.specs.Answered.{file_exported, if_copied, if_given, label_copied}
-use Rattle.relay_desk_runs.specs.Printed.{EachCopyIsPrinted, EachDeliverIsPrinted, EachExportIsPrinted, GivesPrinted, HoldsPrinted, IsClean, IsOfLabel, IsPrintedFile, document, nothing}
+use Rattle.relay_desk_runs.specs.Answered.{file_exported, if_copied, if_given, label_copied, EachCopyIsPrinted, EachDeliverIsPrinted, EachExportIsPrinted, GivesPrinted, HoldsPrinted, IsClean, IsOfLabel, IsPrintedFile, document, nothing}
 use Rattle.relay_desk_runs.proofs.OneDesk.{asked}
 use Rattle.relay_desk_runs.proofs.Opened.{IsOpened, as_they_were, at_desk_keeps, is_opened, on_id_keeps, still_clean}
 

@@ -1,7 +1,7 @@
 -- An import keeps a desk so, and so does a forget.
 use Rattle.std.proofs.Common.{◌≡◌, ℕ, List, Result, Ok, Err, sym, subst}
 use Rattle.std.specs.Prelude.{IfSome}
-use Rattle.dm_assembly_desk.specs.Adding.{Imports, ImportsBytes, IsReadAs, import_of}
+use Rattle.dm_assembly_desk.specs.Desk.{Imports, ImportsBytes, IsReadAs, import_of}
 use Rattle.dm_assembly_desk.specs.Documents.{DeskView, Pages, Spells}
 use Rattle.dm_assembly_desk.specs.declared.adding.AddFault.{AddFault}
 use Rattle.dm_assembly_desk.specs.declared.adding.AddFault.TheVariants as adds
@@ -14,8 +14,7 @@ use Rattle.dm_event_history.specs.Headline.{ArePrinted, IsCleanExport}
 use Rattle.relay_desk_commands.specs.Desks.{EndsImport}
 use Rattle.relay_desk_commands.specs.Desks.EndsAtDesk.{no_desk, opened}
 use Rattle.relay_desk_commands.specs.Desks.EndsImport.{not_read, read}
-use Rattle.relay_desk_runs.specs.Answered.{file_imported, if_imported}
-use Rattle.relay_desk_runs.specs.Printed.{EachForgetKeeps, EachImportKeeps, HasNoDocuments, HoldsPrinted, IsClean, IsPrintedFile}
+use Rattle.relay_desk_runs.specs.Answered.{file_imported, if_imported, EachForgetKeeps, EachImportKeeps, HasNoDocuments, HoldsPrinted, IsClean, IsPrintedFile}
 use Rattle.relay_desk_runs.proofs.Saving.{MayBeAdded, ShowsPrinted, adding, forgetting}
 use Rattle.relay_desk_runs.proofs.Opened.{as_they_were, at_desk_keeps, is_opened, on_id_keeps, still_clean, unopened}
 

@@ -2,7 +2,7 @@
 use Rattle.std.proofs.Common.{◌≡◌, inl, ℕ, List, [], ◌∷◌, Result, Ok, refl, sym, ap, subst, arith}
 use Rattle.std.proofs.lemmas.List.{append-nil}
 use Rattle.std.specs.FinMap as finite
-use Rattle.dm_assembly_desk.specs.Adding.{Asks, Becomes, add_verdict, forget_verdict}
+use Rattle.dm_assembly_desk.specs.Desk.{Asks, Becomes, add_verdict, forget_verdict}
 use Rattle.dm_assembly_desk.specs.Documents.{Documents}
 use Rattle.dm_assembly_desk.specs.declared.adding.AddFault.{AddFault}
 use Rattle.dm_assembly_desk.specs.declared.fault.AskFault.{AskFault}
@@ -13,8 +13,7 @@ use Rattle.dm_event_history.specs.declared.reply.Reply.{Reply}
 use Rattle.dm_event_history.specs.declared.reply.Reply.TheVariants.{Document}
 use Rattle.dm_event_history.specs.declared.stop.Stop.TheVariants as stops
 use Rattle.dm_event_history.specs.Relay.{Desk, Export, Label, Relay, Running, nothing, with_desk}
-use Rattle.dm_event_history.specs.Calls.{Saves, ending, forget_reply, pages_reply, verdict_course}
-use Rattle.dm_event_history.specs.Steps.{Step}
+use Rattle.dm_event_history.specs.Steps.{Saves, ending, forget_reply, pages_reply, verdict_course, Step}
 use Rattle.dm_event_history.specs.Headline.{AreOfOneDocument, ArePrinted, HaveLeft, IsClean, IsCleanActor, IsCleanExport, IsTheDocument}
 use Rattle.dm_event_history.proofs.Gives.{each_clean_desk_gives}
 use Rattle.dm_event_history.proofs.Stays.{each_step_keeps_clean}

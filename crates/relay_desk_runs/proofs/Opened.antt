@@ -2,23 +2,21 @@
 use Rattle.std.proofs.Common.{◌≡◌, ℕ, false, List, None, Option, Some, Result, sym, ap, subst}
 use Rattle.dm_store.specs.Saved.{Saved, SavedSet}
 use Rattle.dm_assembly_desk.specs.Documents.{DeskView, HoldsFiles}
-use Rattle.dm_assembly_desk.specs.Opening.{Moves, early, at_key, at_last}
+use Rattle.dm_assembly_desk.specs.Desk.{Moves, early, at_key, at_last}
 use Rattle.dm_assembly_desk.specs.declared.fault.MoveFault.{MoveFault}
 use Rattle.dm_assembly_desk.specs.declared.limits.TheConstants.{MOST_CAPACITY}
 use Rattle.dm_assembly_desk.proofs.Reopening.{one_held}
 use Rattle.dm_event_history.specs.Relay.{Label}
 use Rattle.dm_event_history.specs.Headline.{HaveLeft}
 use Rattle.relay_shared.specs.Command.{StreamsView}
-use Rattle.relay_desk_commands.specs.Copy.{EndsCopy, EndsCopyOf}
-use Rattle.relay_desk_commands.specs.Copy.EndsCopyOf.{no_side, of_side}
-use Rattle.relay_desk_commands.specs.Held.{EndsHeld}
+use Rattle.relay_desk_commands.specs.Desks.{EndsCopy, EndsCopyOf, EndsHeld, DeskFiles, EndsAtDesk, EndsImport, EndsOnId, HasNoDesk, OnDesk, OpensDesk}
+use Rattle.relay_desk_commands.specs.Desks.EndsCopyOf.{no_side, of_side}
 use Rattle.relay_desk_commands.specs.declared.copy.CopyOptions.{CopyOptions}
-use Rattle.relay_desk_commands.specs.Desks.{DeskFiles, EndsAtDesk, EndsImport, EndsOnId, HasNoDesk, OnDesk, OpensDesk}
 use Rattle.relay_desk_commands.specs.Desks.EndsImport.{not_read, read}
 use Rattle.relay_desk_commands.specs.Desks.HasNoDesk.{not_moved, not_opened}
 use Rattle.relay_desk_commands.specs.Desks.EndsAtDesk.{no_desk, opened}
 use Rattle.relay_desk_commands.specs.Desks.EndsOnId.{no_id, of_id}
-use Rattle.relay_desk_runs.specs.Printed.{HasNoDocuments, HoldsPrinted, IsClean}
+use Rattle.relay_desk_runs.specs.Answered.{HasNoDocuments, HoldsPrinted, IsClean}
 use Rattle.relay_desk_runs.proofs.Saving.{ShowsPrinted}
 
 -- nothing is moved

@@ -2,7 +2,7 @@
 use Rattle.std.proofs.Common.{◌≡◌, ◌⊎◌, inl, inr, ℕ, List, IsSome, Option, None, Some, Result, Ok, Err, refl, sym, ap, subst, ◌∙◌, arith}
 use Rattle.std.specs.FinMap as finite
 use Rattle.dm_store.specs.Saved.{Done, Faulted, HeldAfterFault, Outcome, Refused, SavePlan, SavedSet}
-use Rattle.dm_assembly_desk.specs.Adding.{Becomes, Carries, Ends, SavesDocument, Stays, Verdict, add_kind, add_verdict, answer_by, forget_verdict, verdict_by}
+use Rattle.dm_assembly_desk.specs.Desk.{Becomes, Carries, Ends, SavesDocument, Stays, Verdict, add_kind, add_verdict, answer_by, forget_verdict, verdict_by}
 use Rattle.dm_assembly_desk.specs.Documents.{DeskView, Documents, Pages}
 use Rattle.dm_assembly_desk.specs.declared.adding.AddFault.{AddFault}
 use Rattle.dm_assembly_desk.specs.declared.adding.AddFault.TheVariants as adds
@@ -13,7 +13,7 @@ use Rattle.dm_assembly_desk.specs.declared.reply.Kind.{Kind}
 use Rattle.dm_assembly_desk.specs.declared.reply.Kind.TheVariants.{New, Again, Complete}
 use Rattle.dm_event_history.specs.Relay.{Label}
 use Rattle.dm_event_history.specs.Headline.{ArePrinted, HaveLeft, IsCleanExport}
-use Rattle.relay_desk_runs.specs.Printed.{HoldsPrinted}
+use Rattle.relay_desk_runs.specs.Answered.{HoldsPrinted}
 use Rattle.relay_desk_runs.proofs.OneDesk.{added, let_go}
 
 -- what is held after a device fault is what was held, or what was to be

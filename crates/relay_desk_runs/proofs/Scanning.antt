@@ -3,11 +3,11 @@ use Rattle.std.proofs.Common.{◌++◌, ℕ, Bool, List, [], ◌∷◌, Option, 
 use Rattle.std.specs.List.{AllByRecursion}
 use Rattle.dm_finder_frame.specs.Frame.{GridView}
 use Rattle.dm_append_label.specs.Labels.{PageView}
+use Rattle.dm_append_label.specs.Opening.{LabelOpens}
 use Rattle.dm_append_label.specs.declared.fault.LabelFault.{LabelFault}
 use Rattle.dm_append_label.specs.declared.opening.Opened.{Opened}
-use Rattle.dm_append_label.specs.Opening.{LabelOpens}
 use Rattle.dm_pbm_io.specs.Image.{Picture}
-use Rattle.dm_assembly_desk.specs.Adding.{AcceptsGrid, Scans, lone, scan_of}
+use Rattle.dm_assembly_desk.specs.Desk.{AcceptsGrid, Scans, lone, scan_of}
 use Rattle.dm_assembly_desk.specs.Documents.{DeskView}
 use Rattle.dm_assembly_desk.specs.declared.adding.AddFault.{AddFault}
 use Rattle.dm_assembly_desk.specs.declared.adding.AddFault.TheVariants as adds
@@ -19,19 +19,18 @@ use Rattle.dm_event_history.specs.Relay.{Label}
 use Rattle.dm_event_history.specs.Headline.{ArePrinted, IsCleanExport}
 use Rattle.dm_event_history.proofs.Stays.{lone_clean, lone_export}
 use Rattle.relay_streams.specs.Streams.{InputView}
-use Rattle.relay_shared.specs.EachImage.{AnswersImages, AtImage, Comes, EndsImages, Progress, Said, TellsFile, TellsFiles, TellsImages, TellsInputs}
-use Rattle.relay_shared.specs.EachImage.Comes.{image, unread, too_many}
-use Rattle.relay_shared.specs.EachImage.AnswersImages.{none, another}
-use Rattle.relay_shared.specs.EachImage.EndsImages.{no_image, last_line}
-use Rattle.relay_shared.specs.EachImage.TellsImages.{ended, stopped}
-use Rattle.relay_shared.specs.EachImage.TellsFile.{not_opened, opened as was_opened}
-use Rattle.relay_shared.specs.EachImage.TellsFiles.{last_file, next_file, no_file}
-use Rattle.relay_shared.specs.EachImage.TellsInputs.{of_files, of_input}
+use Rattle.relay_shared.specs.Command.{AnswersImages, AtImage, Comes, EndsImages, Progress, Said, TellsFile, TellsFiles, TellsImages, TellsInputs}
+use Rattle.relay_shared.specs.Command.Comes.{image, unread, too_many}
+use Rattle.relay_shared.specs.Command.AnswersImages.{none, another}
+use Rattle.relay_shared.specs.Command.EndsImages.{no_image, last_line}
+use Rattle.relay_shared.specs.Command.TellsImages.{ended, stopped}
+use Rattle.relay_shared.specs.Command.TellsFile.{not_opened, opened as was_opened}
+use Rattle.relay_shared.specs.Command.TellsFiles.{last_file, next_file, no_file}
+use Rattle.relay_shared.specs.Command.TellsInputs.{of_files, of_input}
 use Rattle.relay_desk_commands.specs.Desks.{AtDesk, EndsScan, ScansPicture, scan_images}
 use Rattle.relay_desk_commands.specs.Desks.ScansPicture.{accepted, refused, no_grid}
 use Rattle.relay_desk_commands.specs.Desks.EndsAtDesk.{no_desk, opened}
-use Rattle.relay_desk_runs.specs.Answered.{grids_at_end, grids_before, grids_of_bytes, grids_of_file, grids_of_files, grids_of_images, grids_of_inputs, grids_of_picture, grids_scanned, if_saved}
-use Rattle.relay_desk_runs.specs.Printed.{EachScanKeeps, HasNoDocuments, HoldsPrinted, IsClean, IsNearPrinted, IsOfLabel}
+use Rattle.relay_desk_runs.specs.Answered.{grids_at_end, grids_before, grids_of_bytes, grids_of_file, grids_of_files, grids_of_images, grids_of_inputs, grids_of_picture, grids_scanned, if_saved, EachScanKeeps, HasNoDocuments, HoldsPrinted, IsClean, IsNearPrinted, IsOfLabel}
 use Rattle.relay_desk_runs.proofs.Saving.{MayBeAdded, ShowsPrinted, adding}
 use Rattle.relay_desk_runs.proofs.Opened.{is_opened, still_clean, unopened}
 

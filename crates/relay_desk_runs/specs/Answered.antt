@@ -1,33 +1,41 @@
 -- What commands of a desk took in and gave out, by their contracts: the grids of a scan, the file of an import, the file
 -- of an export, and the label that `copy` wrote.
-use Rattle.std.specs.Prelude.{ℕ, Bool, List, [], ◌∷◌, ◌++◌, Option, None, Some, Result, Ok, Err}
+use Rattle.std.specs.Prelude.{ℕ, Bool, List, [], ◌∷◌, ◌++◌, Option, None, Some, Result, Ok, Err, ◌≡◌, ◌<◌, IfSome, IsTrue, slice_get}
 use Rattle.dm_finder_frame.specs.Frame.{GridView}
 use Rattle.dm_size.specs.declared.size.Size.{Size}
 use Rattle.dm_encodation.specs.declared.scheme.Scheme.{Scheme}
 use Rattle.dm_pbm_io.specs.Image.{Picture}
-use Rattle.dm_assembly_desk.specs.Documents.{Documents}
+use Rattle.dm_assembly_desk.specs.Documents.{Documents, HoldsFiles, IsEntry, Pages, file}
 use Rattle.dm_assembly_desk.specs.declared.fault.ScanFault.{ScanFault}
-use Rattle.dm_assembly_desk.specs.declared.fault.ScanFault.TheVariants as scans
 use Rattle.dm_assembly_desk.specs.declared.fault.ImportFault.{ImportFault}
-use Rattle.dm_assembly_desk.specs.declared.fault.ImportFault.TheVariants as imports
 use Rattle.dm_assembly_desk.specs.declared.reply.Imported.{Imported}
-use Rattle.relay_streams.specs.Streams.{InputView}
-use Rattle.relay_shared.specs.EachImage.{AnswersImages, AtImage, Comes, EndsImages, Progress, Said, TellsFile, TellsFiles, TellsImages, TellsInputs}
-use Rattle.relay_shared.specs.EachImage.Comes.{image, unread, too_many}
-use Rattle.relay_shared.specs.EachImage.AnswersImages.{none, another}
-use Rattle.relay_shared.specs.EachImage.EndsImages.{no_image, last_line}
-use Rattle.relay_shared.specs.EachImage.TellsImages.{ended, stopped}
-use Rattle.relay_shared.specs.EachImage.TellsFile.{not_opened, opened as was_opened}
-use Rattle.relay_shared.specs.EachImage.TellsFiles.{last_file, next_file, no_file}
-use Rattle.relay_shared.specs.EachImage.TellsInputs.{of_files, of_input}
-use Rattle.relay_desk_commands.specs.Copy.{EndsCopy, GivesCopy}
-use Rattle.relay_desk_commands.specs.Copy.EndsCopyOf.{no_side, of_side}
+use Rattle.relay_streams.specs.Streams.{InputView, AppendsPart}
+use Rattle.relay_shared.specs.Command.{AnswersImages, AtImage, Comes, EndsImages, Progress, Said, TellsFile, TellsFiles, TellsImages, TellsInputs}
+use Rattle.relay_shared.specs.Command.Comes.{image, unread, too_many}
+use Rattle.relay_shared.specs.Command.AnswersImages.{none, another}
+use Rattle.relay_shared.specs.Command.EndsImages.{no_image, last_line}
+use Rattle.relay_shared.specs.Command.TellsImages.{ended, stopped}
+use Rattle.relay_shared.specs.Command.TellsFile.{not_opened, opened as was_opened}
+use Rattle.relay_shared.specs.Command.TellsFiles.{last_file, next_file, no_file}
+use Rattle.relay_shared.specs.Command.TellsInputs.{of_files, of_input}
+use Rattle.relay_desk_commands.specs.Desks.{EndsCopy, GivesCopy, AtDesk, EndsExport, EndsImport, EndsScan, OnDesk, ScansPicture, scan_images, EndsDeliver, EndsForget, IsTextOfId}
+use Rattle.relay_desk_commands.specs.Desks.EndsCopyOf.{no_side, of_side}
 use Rattle.relay_desk_commands.specs.declared.copy.CopyOptions.{CopyOptions}
-use Rattle.relay_desk_commands.specs.Desks.{AtDesk, EndsExport, EndsImport, EndsScan, OnDesk, ScansPicture, scan_images}
 use Rattle.relay_desk_commands.specs.Desks.ScansPicture.{accepted, refused, no_grid}
 use Rattle.relay_desk_commands.specs.Desks.EndsAtDesk.{no_desk, opened}
 use Rattle.relay_desk_commands.specs.Desks.EndsOnId.{no_id, of_id}
 use Rattle.relay_desk_commands.specs.Desks.EndsImport.{not_read, read}
+use Rattle.std.specs.List.{AllByRecursion}
+use Rattle.dm_symbol.specs.Correction.{IsNear}
+use Rattle.dm_append_label.specs.Labels.{Carries, PageView}
+use Rattle.dm_store.specs.Saved.{Saved, SavedSet}
+use Rattle.dm_assembly_desk.specs.Desk.{HoldsJointFile}
+use Rattle.dm_event_history.specs.Relay.{Label}
+use Rattle.dm_event_history.specs.Headline.{AreOfOneDocument, ArePrinted, HaveLeft, IsCleanExport, IsTheDocument}
+use Rattle.std.specs.Io.KnownBytes.{Appends}
+use Rattle.dm_assembly_desk.specs.declared.fault.ScanFault.TheVariants as scans
+use Rattle.dm_assembly_desk.specs.declared.fault.ImportFault.TheVariants as imports
+use Rattle.std.specs.FinMap as finite
 
 -- ---- a scan: the grids that were accepted, and one that may have been, since its save failed
 
@@ -120,3 +128,90 @@ label_copied (of_id id text_is (no_side isnt same refuses)) = None
 label_copied (of_id id text_is (of_side size is (no_desk name has refuses))) = None
 label_copied {options} (of_id id text_is (of_side size is (opened desk opens rest))) =
     if_copied id options.page size options.scheme desk.held rest.0 rest.1
+
+-- ---- desks of printed pages
+
+-- Desks that hold pages of printed labels alone: which commands keep them so, and what they give out.
+
+-- an honest set holds the files of documents, and of each page in them a label left
+pub record HoldsPrinted (labels : List Label) (set : SavedSet) : Type 0 where
+  pub honest : IsTrue set.is_honest
+  pub held : Documents
+  pub files : HoldsFiles set.content held
+  pub printed : HaveLeft labels held
+
+-- an honest store is no joint file that holds a document
+pub record HasNoDocuments (joint : Saved) : Type 0 where
+  pub honest : IsTrue joint.is_honest
+  pub none : (held : Documents) → HoldsJointFile joint.content held → 0 < finite.len held → ⊥
+
+-- what these commands need, and keep
+pub record IsClean (labels : List Label) (on : OnDesk) : Type 0 where
+  pub set : HoldsPrinted labels on.files.set
+  pub joint : HasNoDocuments on.files.joint
+
+-- a label of this page left
+pub record IsOfLabel (labels : List Label) (page : PageView) : Type 0 where
+  pub number : ℕ
+  pub label : Label
+  pub there : slice_get labels number ≡ Some label
+  pub page_is : label.page ≡ page
+
+-- the grid is near one that carries the page of a label that left
+pub record IsNearPrinted (labels : List Label) (grid : GridView) : Type 0 where
+  pub page : PageView
+  pub own : GridView
+  pub near : IsNear grid own
+  pub carries : Carries page own
+  pub of_label : IsOfLabel labels page
+
+-- the bytes are a file of pages of which labels left
+pub record IsPrintedFile (labels : List Label) (bytes : List ℕ) : Type 0 where
+  pub id : ℕ
+  pub pages : Pages
+  pub sound : IsEntry id pages
+  pub is_file : bytes ≡ file id pages
+  pub clean : IsCleanExport labels (record { id = id; pages = pages })
+
+-- The output got nothing, and the status is 1; or it got a first part of the one document that the labels of this
+-- identification are cut from, and all of it where the status is 0.
+pub data GivesPrinted (labels : List Label) (text : List ℕ) (old : OnDesk) (status : ℕ) (new : OnDesk) : Type 0 where
+  nothing : new.streams.output ≡ old.streams.output → status ≡ 1 → GivesPrinted labels text old status new
+  document : (id : ℕ) (bytes : List ℕ) → IsTextOfId text id → IsTheDocument labels id bytes
+      → AppendsPart old.streams.output.contents new.streams.output.contents bytes
+      → (status ≡ 0 → Appends old.streams.output.contents new.streams.output.contents bytes)
+      → GivesPrinted labels text old status new
+
+-- ---- laws
+
+abbrev pub EachScanKeeps : Type 0 → Type 0
+EachScanKeeps A = (labels : List Label) (capacity : ℕ) (images : List (Option (List ℕ))) (old : OnDesk) (status : ℕ)
+    (new : OnDesk) → ArePrinted labels → IsClean labels old → (ends : EndsScan A capacity images old status new) →
+    AllByRecursion (IsNearPrinted labels) (grids_scanned ends) → IsClean labels new
+
+abbrev pub EachImportKeeps : Type 0
+EachImportKeeps = (labels : List Label) (capacity : ℕ) (old : OnDesk) (status : ℕ) (new : OnDesk) → ArePrinted labels →
+    IsClean labels old → (ends : EndsImport capacity old status new) →
+    IfSome (file_imported ends) (IsPrintedFile labels) → IsClean labels new
+
+abbrev pub EachForgetKeeps : Type 0
+EachForgetKeeps = (labels : List Label) (text : List ℕ) (old : OnDesk) (status : ℕ) (new : OnDesk) → ArePrinted labels →
+    IsClean labels old → EndsForget text old status new → IsClean labels new
+
+-- what `export` gives is such a file
+abbrev pub EachExportIsPrinted : Type 0
+EachExportIsPrinted = (labels : List Label) (text : List ℕ) (old : OnDesk) (status : ℕ) (new : OnDesk) → IsClean labels old →
+    (ends : EndsExport text old status new) →
+    IsClean labels new × IfSome (file_exported ends) (IsPrintedFile labels)
+
+-- what `copy` writes carries the page of a label that left
+abbrev pub EachCopyIsPrinted : Type 0
+EachCopyIsPrinted = (labels : List Label) (options : CopyOptions) (old : OnDesk) (status : ℕ) (new : OnDesk) →
+    ArePrinted labels → AreOfOneDocument labels → IsClean labels old → (ends : EndsCopy options old status new) →
+    IsClean labels new
+    × IfSome (label_copied ends) (λ grid. (page : PageView) × Carries page grid × IsOfLabel labels page)
+
+abbrev pub EachDeliverIsPrinted : Type 0
+EachDeliverIsPrinted = (labels : List Label) (text : List ℕ) (old : OnDesk) (status : ℕ) (new : OnDesk) →
+    ArePrinted labels → AreOfOneDocument labels → IsClean labels old → EndsDeliver text old status new →
+    IsClean labels new × GivesPrinted labels text old status new

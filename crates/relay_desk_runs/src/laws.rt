@@ -1,6 +1,6 @@
 //! Laws of commands at a desk that holds pages of printed labels alone: each function's contract is the law.
 
-ghost use Rattle.relay_desk_runs.specs.Printed.{EachCopyIsPrinted, EachDeliverIsPrinted, EachExportIsPrinted, EachForgetKeeps, EachImportKeeps, EachScanKeeps};
+ghost use Rattle.relay_desk_runs.specs.Answered.{EachCopyIsPrinted, EachDeliverIsPrinted, EachExportIsPrinted, EachForgetKeeps, EachImportKeeps, EachScanKeeps};
 
 use std::alloc::Allocator;
 

@@ -10,8 +10,7 @@ use Rattle.dm_gf256.specs.Field.{differ, IsBlockWord}
 use Rattle.dm_gf256.proofs.OneBlockWord.{one_block_word}
 use Rattle.hex.specs.Hex.{decode_sized, encode_lower, encode_with, IsBytes}
 use Rattle.hex.proofs.HexLemmas.{decode_sized-ok, decode_sized-encode_lower}
-use Rattle.relay_printer_commands.specs.Lines.{check_text, grouped}
-use Rattle.relay_printer_commands.specs.Tickets.{HasTicket, IsCheckText, IsChecked, IsGroupedText, digits_in_groups}
+use Rattle.relay_printer_commands.specs.Printers.{check_text, grouped, HasTicket, IsCheckText, IsChecked, IsGroupedText, digits_in_groups}
 
 -- twelve bytes that differ in at most two places, and have their check words, are the same
 pub same_checked : (bytes whole other_bytes other : List ℕ) → IsChecked bytes whole → IsChecked other_bytes other

@@ -11,7 +11,7 @@ use Rattle.dm_size.proofs.Sound.{sound}
 use Rattle.dm_encodation.specs.declared.scheme.Scheme.{Scheme}
 use Rattle.dm_print_ledger.specs.Verdicts.{HasLabels}
 use Rattle.relay_printer_commands.specs.declared.lines.PlannedSide.{PlannedSide}
-use Rattle.relay_printer_commands.specs.Print.{IsPlan, IsPlanned}
+use Rattle.relay_printer_commands.specs.Printers.{IsPlan, IsPlanned}
 
 -- a number of labels of a side
 abbrev pub planned_at : ℕ → ℕ → PlannedSide

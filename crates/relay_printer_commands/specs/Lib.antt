@@ -1,4 +1,1 @@
-pub mod Lines
 pub mod Printers
-pub mod Print
-pub mod Tickets

@@ -1,18 +1,169 @@
--- What `ledger`, `give`, `take` and `left` do to the store of a ledger and to the streams.
-use Rattle.std.specs.Prelude.{◌≡◌, ℕ, List, Result, Ok, Err}
+-- What the commands of printers do to ledgers and streams, and the lines that they write: what these show is this project's own rule.
+use Rattle.std.specs.Prelude.{ℕ, List, [], ◌∷◌, ◌++◌, codes, zero, suc, Option, Some, None, take, drop, ◌≡◌, ◌⊎◌, ◌<◌, ◌+◌, ◌*◌, ◌/◌, Ok, length, map, slice_index, Result, Err, ◌↔◌, ◌≤◌, ◌≢◌, true}
+use Rattle.std.specs.Fmt.{decimal}
+use Rattle.std.specs.List.{flat_map, All, range_with_len, AllPairs, Contains}
+use Rattle.hex.specs.Hex.{encode_lower, decode_sized}
+use Rattle.dm_print_ledger.specs.Ledger.{ticket_bytes, TicketView, free_count, ShownView, AreOfTicket, PrinterView, JobView}
+use Rattle.dm_print_ledger.specs.declared.giver.Giver.{Giver}
+use Rattle.dm_print_ledger.specs.declared.range.Range.{Range}
+use Rattle.relay_shared.specs.Lines.{id_text}
+use Rattle.relay_printer_commands.specs.declared.lines.PlannedSide.{PlannedSide}
+use Rattle.dm_gf256.specs.Field.{IsBlockWord}
+use Rattle.relay_shared.specs.Command.{refusal_name, RefusesOnOutput, StreamsView, TellsOnOutput, OnlyOutput, TellsAnswer, HasInputFault, ReadsDocument, ReadsNothing, RefusesOnErrors, TellsRefusal}
+use Rattle.relay_shared.specs.declared.command.Refusal.TheVariants.{Ticket, Memory, Output, Side}
 use Rattle.dm_store.specs.Saved.{Saved}
-use Rattle.dm_print_ledger.specs.Creating.{Creates}
-use Rattle.dm_print_ledger.specs.Verdicts.{create_fault_name, open_fault_name, give_fault_name, take_fault_name, Opens, Gives, Takes, LoadsLedger, show_verdict}
-use Rattle.dm_print_ledger.specs.Ledger.{free_count, PrinterView, TicketView, ShownView}
+use Rattle.dm_print_ledger.specs.Verdicts.{Creates, create_fault_name, open_fault_name, give_fault_name, take_fault_name, Opens, Gives, Takes, LoadsLedger, show_verdict, print_fault_name, Prints, HasLabels}
 use Rattle.dm_print_ledger.specs.declared.fault.CreateFault.{CreateFault}
 use Rattle.dm_print_ledger.specs.declared.fault.GiveFault.{GiveFault}
 use Rattle.dm_print_ledger.specs.declared.fault.OpenFault.{OpenFault}
 use Rattle.dm_print_ledger.specs.declared.fault.TakeFault.{TakeFault}
-use Rattle.dm_print_ledger.specs.declared.range.Range.{Range}
-use Rattle.relay_printer_commands.specs.Lines.{left_line, taken_line, ticket_line, shown_lines}
-use Rattle.relay_shared.specs.Command.{refusal_name, OnlyOutput, RefusesOnOutput, StreamsView, TellsOnOutput, TellsAnswer}
-use Rattle.relay_shared.specs.declared.command.Refusal.TheVariants.{Ticket}
-use Rattle.relay_printer_commands.specs.Tickets.{HasTicket, IsTextOf}
+use Rattle.std.specs.Io.KnownBytes.{Appends}
+use Rattle.dm_size.specs.declared.size.Size.{Size}
+use Rattle.dm_size.specs.Sizes.{IsSide, side}
+use Rattle.dm_encodation.specs.declared.scheme.Scheme.{Scheme}
+use Rattle.dm_finder_frame.specs.Frame.{GridView}
+use Rattle.dm_pbm_io.specs.Image.{p4}
+use Rattle.dm_print_ledger.specs.declared.fault.PrintFault.{PrintFault}
+use Rattle.dm_print_ledger.specs.declared.fault.PrintFault.TheVariants.{TooLong}
+use Rattle.relay_command.specs.declared.command.Labels.{Labels}
+use Rattle.relay_command.specs.declared.command.Labels.TheVariants.{OfSide, AtMost}
+use Rattle.relay_streams.specs.Streams.{input_fault_name, AppendsPart, InputView, OutputView}
+use Rattle.relay_streams.specs.declared.fault.InputFault.{InputFault}
+use Rattle.relay_streams.specs.declared.fault.WriteFault.{WriteFault}
+use Rattle.relay_shared.specs.declared.command.Refusal.{Refusal}
+
+-- ---- lines
+
+-- `left` and how many identifications are free
+abbrev pub left_line : ℕ → List ℕ
+left_line left = codes "left " ++ (decimal left ++ 10 ∷ [])
+
+-- `printed`, the two words of the identification in hexadecimal, the number of labels, and how many are left
+abbrev pub printed_line : ℕ → ℕ → ℕ → List ℕ
+printed_line id count left = codes "printed " ++ (id_text id ++ (32 ∷ (decimal count ++ (32 ∷ left_line left))))
+
+-- `ticket` and its ten bytes in hexadecimal
+abbrev pub ticket_line : TicketView → List ℕ
+ticket_line ticket = codes "ticket " ++ (encode_lower (ticket_bytes ticket) ++ 10 ∷ [])
+
+-- `taken`, and how many are left
+abbrev pub taken_line : ℕ → List ℕ
+taken_line left = codes "taken " ++ left_line left
+
+-- `printer` and its number, or a hyphen for none
+abbrev pub number_line : Option ℕ → List ℕ
+number_line None = codes "printer -\n"
+number_line (Some number) = codes "printer " ++ (decimal number ++ 10 ∷ [])
+
+-- `free`, the first and the last number in decimal, and as identifications
+abbrev pub free_line : Range → List ℕ
+free_line range = codes "free " ++ (decimal range.first ++ (32 ∷ (decimal range.last ++
+    (32 ∷ (id_text range.first ++ (32 ∷ (id_text range.last ++ 10 ∷ [])))))))
+
+-- `given` and how many tickets were given
+abbrev pub given_line : ℕ → List ℕ
+given_line given = codes "given " ++ (decimal given ++ 10 ∷ [])
+
+-- `took`, a giver and the serial of its last ticket
+abbrev pub took_line : Giver → List ℕ
+took_line giver = codes "took " ++ (decimal giver.number ++ (32 ∷ (decimal giver.serial ++ 10 ∷ [])))
+
+-- the printer, how many identifications are free and which, how many tickets were given, and the last taken of each
+-- giver
+abbrev pub shown_lines : ShownView → List ℕ
+shown_lines shown = number_line shown.number ++ (left_line (free_count shown.free) ++ (flat_map free_line shown.free ++
+    (given_line shown.next_serial ++ flat_map took_line shown.givers)))
+
+-- `side` and its modules, `labels` and how many there are
+abbrev pub side_line : PlannedSide → List ℕ
+side_line planned =
+    codes "side " ++ (decimal planned.side ++ (codes " labels " ++ (decimal planned.count ++ 10 ∷ [])))
+
+-- the numbers of a ticket, each after its word, and what comes after them
+abbrev pub range_before : TicketView → List ℕ → List ℕ
+range_before ticket rest =
+    codes " first " ++ (decimal ticket.range.first ++ (codes " last " ++ (decimal ticket.range.last ++ rest)))
+
+-- `from` the printer that gave the ticket, `to` the receiver, `serial`, and the first and the last number
+abbrev pub from_line : TicketView → List ℕ
+from_line ticket = codes "from " ++ (decimal ticket.giver ++ (codes " to " ++ (decimal ticket.receiver ++
+    (codes " serial " ++ (decimal ticket.serial ++ range_before ticket (10 ∷ []))))))
+
+-- digits in groups of four, joined by hyphens: this many groups, and after them the digits that are left
+unfoldable pub grouped : ℕ → List ℕ → List ℕ
+grouped zero digits = digits
+grouped (suc more) digits = take 4 digits ++ 45 ∷ grouped more (drop 4 digits)
+
+-- twelve bytes in lower-case hexadecimal, in six groups
+abbrev pub check_text : List ℕ → List ℕ
+check_text bytes = grouped 5 (encode_lower bytes)
+
+-- `check` and the twelve bytes
+abbrev pub check_line : List ℕ → List ℕ
+check_line bytes = codes "check " ++ (check_text bytes ++ 10 ∷ [])
+
+-- The text of a ticket, in its two forms, which this project lays down, and what `ticket` says of one.
+
+-- ---- tickets
+
+-- ---- twelve bytes: ten, and two check words of them
+
+pub record IsChecked (bytes whole : List ℕ) : Type 0 where
+  pub count : length whole ≡ 12
+  pub words : All (λ word. word < 256) whole
+  pub begins : take 10 whole ≡ bytes
+  pub block_word : IsBlockWord 2 whole
+
+-- ---- texts
+
+-- the text is twenty digits, and they are those of these ten bytes
+abbrev pub IsBareText : List ℕ → List ℕ → Type 0
+IsBareText text bytes = decode_sized text 10 ≡ Ok bytes
+
+-- the 24 digits of a text in groups of four, without what stands between the groups
+unfoldable pub digits_in_groups : List ℕ → List ℕ
+digits_in_groups text = map (λ k. slice_index text (k + k / 4)) (range_with_len 0 24)
+
+-- the text is 24 digits in groups of four, joined by hyphens, and they are those of these twelve bytes
+pub record IsGroupedText (text whole : List ℕ) : Type 0 where
+  pub size : length text ≡ 29
+  pub hyphens : (j : ℕ) → j < 5 → slice_index text (5 * j + 4) ≡ 45
+  pub decoded : decode_sized (digits_in_groups text) 12 ≡ Ok whole
+
+-- the check form: these ten bytes and two check words of them are spelled in groups
+pub record IsCheckText (text bytes : List ℕ) : Type 0 where
+  pub whole : List ℕ
+  pub in_groups : IsGroupedText text whole
+  pub checked : IsChecked bytes whole
+
+-- the text is one of the two forms of these ten bytes
+abbrev pub Spells : List ℕ → List ℕ → Type 0
+Spells text bytes = IsBareText text bytes ⊎ IsCheckText text bytes
+
+-- the text is one of the two forms of this ticket
+abbrev pub IsTextOf : List ℕ → TicketView → Type 0
+IsTextOf text ticket = Spells text (ticket_bytes ticket)
+
+-- the text is one of the two forms of a ticket
+abbrev pub HasTicket : List ℕ → Type 0
+HasTicket text = (bytes : List ℕ) × Spells text bytes × AreOfTicket bytes
+
+-- ---- the command
+
+-- what a ticket says, and its bytes with their check words
+abbrev pub ticket_lines : TicketView → List ℕ → List ℕ
+ticket_lines ticket whole = from_line ticket ++ check_line whole
+
+-- how `ticket` ends: the two lines of the ticket of the text were written, or the text is that of no ticket
+pub data EndsTicket (text : List ℕ) (old : StreamsView) (status : ℕ) (new : StreamsView) : Type 0 where
+  shown : (ticket : TicketView) (whole : List ℕ) → HasTicket text → IsTextOf text ticket
+      → IsChecked (ticket_bytes ticket) whole → TellsOnOutput (ticket_lines ticket whole) old status new
+      → EndsTicket text old status new
+  no_ticket : ¬ HasTicket text → RefusesOnOutput (refusal_name Ticket) old status new → EndsTicket text old status new
+
+-- ---- ledger, give, take and left
+
+-- What `ledger`, `give`, `take` and `left` do to the store of a ledger and to the streams.
 
 -- the store of a printer's ledger, and the streams
 pub record OnLedger : Type 0 where
@@ -62,3 +213,121 @@ pub data EndsLeft (old : OnLedger) (status : ℕ) (new : OnLedger) : Type 0 wher
   refused : (fault : OpenFault) → LoadsLedger old.saved (show_verdict old.saved.content) (Err fault)
       → new.saved ≡ old.saved
       → RefusesOnOutput (open_fault_name fault) old.streams status new.streams → EndsLeft old status new
+
+-- ---- print and plan
+
+-- What `print` does to the store of a ledger and to the streams, in the size that suits the labels that are asked for;
+-- and what `plan` writes: each side of which a document has labels, and how many.
+
+-- ---- the labels of a job
+
+-- the images of labels, one after another
+abbrev pub images_of : List GridView → List ℕ
+images_of grids = flat_map p4 grids
+
+-- What is out of the images of labels where one is lost: without memory for it those before it, and it is not; if a
+-- write fails, the images up to a byte.
+pub data LosesImages (labels : List GridView) (old new : OutputView) : Refusal → Type 0 where
+  memory : (done : List GridView) (next : GridView) (rest : List GridView) → labels ≡ done ++ next ∷ rest
+      → Appends old.contents new.contents (images_of done) → LosesImages labels old new Memory
+  write : (fault : WriteFault) → new.has_failed ≡ true → AppendsPart old.contents new.contents (images_of labels)
+      → LosesImages labels old new (Output fault)
+
+-- How the labels of a job go out: first the line, to the standard error, then the images, to the output. If the line
+-- can't be written, no byte of an image goes out. If an image is lost, the line of the refusal follows the first.
+pub data PrintsLabels (labels : List GridView) (line : List ℕ) (old : StreamsView) (status : ℕ) (new : StreamsView)
+    : Type 0 where
+  no_line : new.errors.has_failed ≡ true → AppendsPart old.errors.contents new.errors.contents line
+      → new.output ≡ old.output → status ≡ 1 → PrintsLabels labels line old status new
+  all : Appends old.errors.contents new.errors.contents line
+      → Appends old.output.contents new.output.contents (images_of labels) → status ≡ 0
+      → PrintsLabels labels line old status new
+  lost : (errors : OutputView) (refusal : Refusal) → Appends old.errors.contents errors.contents line
+      → LosesImages labels old.output new.output refusal → TellsRefusal (refusal_name refusal) errors status new.errors
+      → PrintsLabels labels line old status new
+
+-- how a printer's answer to a document goes out, if this many identifications are free then: the labels of the job, or
+-- the line of a refusal
+abbrev pub TellsPrint : Result JobView PrintFault → ℕ → StreamsView → ℕ → StreamsView → Type 0
+TellsPrint (Ok job) left old status new =
+    PrintsLabels job.labels (printed_line job.id job.count left) old status new × ReadsNothing old new
+TellsPrint (Err fault) left old status new = RefusesOnErrors (print_fault_name fault) old status new
+
+-- ---- the size
+
+-- a side that is asked for is that of a size
+abbrev pub HasSide : Labels → Type 0
+HasSide (OfSide n) = IsSide n
+HasSide (AtMost most) = Unit {0}
+
+-- the size is of the side that is asked for; or the document has labels of it, and not more than are asked for
+abbrev pub Suits : Labels → Scheme → List ℕ → Size → Type 0
+Suits (OfSide n) scheme document size = side size ≡ n
+Suits (AtMost most) scheme document size = (count : ℕ) × HasLabels size scheme document count × (count ≤ most)
+
+-- the smallest size that suits a document
+pub record IsChosen (labels : Labels) (scheme : Scheme) (document : List ℕ) (size : Size) : Type 0 where
+  pub suits : Suits labels scheme document size
+  pub smallest : (smaller : Size) → side smaller < side size → ¬ Suits labels scheme document smaller
+
+-- ---- the whole
+
+-- What comes of a document that was read: the printer was opened and has answered to it, and its answer has gone out;
+-- or the standard error was told why the printer was not opened.
+pub data PrintsDocument (number : ℕ) (size : Size) (scheme : Scheme) (document : List ℕ) (old : OnLedger) (status : ℕ)
+    (new : OnLedger) : Type 0 where
+  opened : (before after : PrinterView) (answer : Result JobView PrintFault) → Opens old.saved number (Ok before)
+      → Prints before size scheme document answer after → new.saved ≡ after.saved
+      → TellsPrint answer (free_count after.ledger.free) old.streams status new.streams
+      → PrintsDocument number size scheme document old status new
+  not_opened : (fault : OpenFault) → Opens old.saved number (Err fault) → new.saved ≡ old.saved
+      → RefusesOnErrors (open_fault_name fault) old.streams status new.streams
+      → PrintsDocument number size scheme document old status new
+
+-- How `print` ends, where `rest` is the input once it was read: a document was read, and this is what came of it in the
+-- smallest size that suits it; or, in this order, the side that is asked for is none, the input could not be read, or
+-- no size suits the document.
+pub data EndsPrint (number : ℕ) (labels : Labels) (scheme : Scheme) (old : OnLedger) (status : ℕ) (new : OnLedger)
+    : Type 0 where
+  no_side : ¬ HasSide labels → new.saved ≡ old.saved
+      → RefusesOnErrors (refusal_name Side) old.streams status new.streams
+      → EndsPrint number labels scheme old status new
+  not_read : (fault : InputFault) (rest : InputView) → HasSide labels → HasInputFault old.streams.input rest fault
+      → new.saved ≡ old.saved
+      → RefusesOnErrors (input_fault_name fault) (record old.streams { input = rest }) status new.streams
+      → EndsPrint number labels scheme old status new
+  too_long : (document : List ℕ) (rest : InputView) → HasSide labels → ReadsDocument old.streams.input rest document
+      → ((size : Size) → ¬ Suits labels scheme document size) → new.saved ≡ old.saved
+      → RefusesOnErrors (print_fault_name TooLong) (record old.streams { input = rest }) status new.streams
+      → EndsPrint number labels scheme old status new
+  read : (size : Size) (document : List ℕ) (rest : InputView) → ReadsDocument old.streams.input rest document
+      → IsChosen labels scheme document size
+      → PrintsDocument number size scheme document (record old { streams = record old.streams { input = rest } }) status
+      new → EndsPrint number labels scheme old status new
+
+-- ---- the plan
+
+-- the document has this many labels of this side
+abbrev pub IsPlanned : Scheme → List ℕ → PlannedSide → Type 0
+IsPlanned scheme document planned =
+    (size : Size) × (side size ≡ planned.side) × HasLabels size scheme document planned.count
+
+-- each side of which the document has labels, and no other, the smallest first
+pub record IsPlan (scheme : Scheme) (document : List ℕ) (plan : List PlannedSide) : Type 0 where
+  pub names : (planned : PlannedSide) → Contains plan planned ↔ IsPlanned scheme document planned
+  pub rising : AllPairs (λ before after. before.side < after.side) plan
+
+-- How `plan` ends, where `rest` is the input once it was read: the lines of the plan of the document were written; or
+-- there is no line, since the document has labels of no side; or the input could not be read.
+pub data EndsPlan (scheme : Scheme) (old : StreamsView) (status : ℕ) (new : StreamsView) : Type 0 where
+  planned : (document : List ℕ) (rest : InputView) (plan : List PlannedSide) → ReadsDocument old.input rest document
+      → IsPlan scheme document plan → plan ≢ []
+      → TellsOnOutput (flat_map side_line plan) (record old { input = rest }) status new
+      → EndsPlan scheme old status new
+  too_long : (document : List ℕ) (rest : InputView) → ReadsDocument old.input rest document
+      → ((size : Size) (count : ℕ) → ¬ HasLabels size scheme document count)
+      → RefusesOnOutput (print_fault_name TooLong) (record old { input = rest }) status new
+      → EndsPlan scheme old status new
+  not_read : (fault : InputFault) (rest : InputView) → HasInputFault old.input rest fault
+      → RefusesOnOutput (input_fault_name fault) (record old { input = rest }) status new
+      → EndsPlan scheme old status new

@@ -2,8 +2,7 @@
 
 ghost use Rattle.std.specs.Prelude.{◌≢◌, ◌≤◌, List, ℕ};
 ghost use Rattle.dm_gf256.specs.Field.{differ};
-ghost use Rattle.relay_printer_commands.specs.Lines.{check_text};
-ghost use Rattle.relay_printer_commands.specs.Tickets.{HasTicket, IsCheckText, IsChecked, IsGroupedText};
+ghost use Rattle.relay_printer_commands.specs.Printers.{check_text, HasTicket, IsCheckText, IsChecked, IsGroupedText};
 
 /// If one or two of the twelve bytes that a text in the check form spells are changed, the new text is no ticket's.
 pub fn changed_bytes_are_refused()

@@ -3,8 +3,7 @@
 ghost use Rattle.std.specs.Prelude.{◌≡◌, Ok, Err, IfErr, MatchResult};
 ghost use Rattle.dm_print_ledger.specs.Verdicts.{Opens, give_fault_name, open_fault_name};
 ghost use Rattle.dm_print_ledger.specs.declared.fault.OpenFault.{OpenFault};
-ghost use Rattle.relay_printer_commands.specs.Printers.{EndsLedger, ledger_at, EndsGive};
-ghost use Rattle.relay_printer_commands.specs.Lines.{ticket_line};
+ghost use Rattle.relay_printer_commands.specs.Printers.{EndsLedger, ledger_at, EndsGive, ticket_line};
 ghost use Rattle.relay_shared.specs.Command.{TellsAnswer, TellsRefusal};
 
 use crate::lines::{put_left, put_ticket};

@@ -3,9 +3,8 @@
 ghost use Rattle.std.specs.Prelude.{IsTrue};
 ghost use Rattle.std.specs.List.{All, flat_map};
 ghost use Rattle.dm_print_ledger.specs.Ledger.{is_range};
-ghost use Rattle.relay_printer_commands.specs.Lines.{free_line, shown_lines, took_line};
+ghost use Rattle.relay_printer_commands.specs.Printers.{free_line, shown_lines, took_line, EndsLeft, ledger_at};
 ghost use Rattle.relay_shared.specs.Command.{Puts};
-ghost use Rattle.relay_printer_commands.specs.Printers.{EndsLeft, ledger_at};
 
 use crate::lines::{put_free, put_given, put_left, put_number, put_took};
 use dm_print_ledger::{Giver, Range, Shown};

@@ -3,7 +3,7 @@
 
 ghost use Rattle.std.specs.Prelude.{◌≡◌, ◌≤◌, IsTrue};
 ghost use Rattle.relay_shared.specs.Lines.{id_text};
-ghost use Rattle.relay_printer_commands.specs.Lines.{left_line, printed_line, taken_line, ticket_line, check_line, from_line, free_line, given_line, number_line, took_line, side_line};
+ghost use Rattle.relay_printer_commands.specs.Printers.{left_line, printed_line, taken_line, ticket_line, check_line, from_line, free_line, given_line, number_line, took_line, side_line};
 ghost use Rattle.relay_shared.specs.Command.{Puts};
 ghost use Rattle.dm_print_ledger.specs.Ledger.{is_range};
 

@@ -1,10 +1,9 @@
 //! `relay plan`: the sides at which a document can be cut into labels.
 
 ghost use Rattle.std.specs.Prelude.{◌≡◌, ◌↔◌, ℕ, Some};
-ghost use Rattle.relay_printer_commands.specs.Print.{IsPlan, IsPlanned, EndsPlan};
+ghost use Rattle.relay_printer_commands.specs.Printers.{IsPlan, IsPlanned, EndsPlan, side_line};
 ghost use Rattle.std.specs.List.{flat_map};
 ghost use Rattle.relay_streams.specs.Streams.{TakesPart};
-ghost use Rattle.relay_printer_commands.specs.Lines.{side_line};
 ghost use Rattle.relay_shared.specs.Command.{Puts};
 
 use crate::lines::{PlannedSide, put_side};

@@ -4,8 +4,7 @@ ghost use Rattle.std.specs.Prelude.{◌↔◌, IsTrue, MatchOption, MatchResult}
 ghost use Rattle.std.specs.Io.KnownBytes.{Appends};
 ghost use Rattle.dm_size.specs.declared.size.Size.{Size};
 ghost use Rattle.relay_streams.specs.Streams.{TakesPart};
-ghost use Rattle.relay_printer_commands.specs.Print.{EndsPrint, HasSide, IsChosen, LosesImages, Suits, TellsPrint, images_of};
-ghost use Rattle.relay_printer_commands.specs.Printers.{ledger_at};
+ghost use Rattle.relay_printer_commands.specs.Printers.{EndsPrint, HasSide, IsChosen, LosesImages, Suits, TellsPrint, images_of, ledger_at};
 ghost use Rattle.relay_shared.specs.Command.{ReadsNothing};
 
 use crate::ledger::open_printer;

@@ -5,11 +5,9 @@
 ghost use Rattle.std.specs.Prelude.{◌≡◌, ◌+◌, ◌*◌, ◌<◌, ◌↔◌, ℕ, List, length, slice_index, IsTrue, MatchOption};
 ghost use Rattle.std.specs.List.{All};
 ghost use Rattle.dm_print_ledger.specs.Ledger.{AreOfTicket, ticket_bytes};
-ghost use Rattle.relay_printer_commands.specs.Lines.{taken_line};
-ghost use Rattle.relay_printer_commands.specs.Tickets.{HasTicket, IsBareText, IsCheckText, IsChecked, IsTextOf, EndsTicket, digits_in_groups, ticket_lines};
+ghost use Rattle.relay_printer_commands.specs.Printers.{taken_line, HasTicket, IsBareText, IsCheckText, IsChecked, IsTextOf, EndsTicket, digits_in_groups, ticket_lines, ledger_at, EndsTake};
 ghost use Rattle.relay_shared.specs.Command.{Puts, TellsAnswer};
 ghost use Rattle.dm_print_ledger.specs.Verdicts.{take_fault_name};
-ghost use Rattle.relay_printer_commands.specs.Printers.{ledger_at, EndsTake};
 
 use crate::ledger::open_printer;
 use crate::lines::{put_check, put_from, put_taken};

@@ -21,13 +21,13 @@ use Rattle.dm_event_history.proofs.Stays.{have_more, more_left, more_pages}
 use Rattle.relay_command.specs.declared.command.Command.{Command}
 use Rattle.relay_command.specs.declared.command.Command.TheVariants.{Words, Draw, Read, Plan, Ticket, Ledger, Print, Give, Take, Left, Scan, Deliver, Forget, Export, Import, Held, Copy, World}
 use Rattle.relay_desk_commands.specs.Desks.{DeskFiles, OnDesk}
-use Rattle.relay_desk_runs.specs.Printed.{GivesPrinted, HoldsPrinted, IsClean, IsNearPrinted, IsOfLabel, IsPrintedFile}
-use Rattle.relay_desk_runs.specs.Printed.GivesPrinted.{nothing as gives_nothing, document as gives_document}
+use Rattle.relay_desk_runs.specs.Answered.{GivesPrinted, HoldsPrinted, IsClean, IsNearPrinted, IsOfLabel, IsPrintedFile}
+use Rattle.relay_desk_runs.specs.Answered.GivesPrinted.{nothing as gives_nothing, document as gives_document}
 use Rattle.relay_desk_runs.proofs.Scanning.{each_scan_keeps}
 use Rattle.relay_desk_runs.proofs.Importing.{each_forget_keeps, each_import_keeps}
 use Rattle.relay_desk_runs.proofs.Giving.{each_copy_is_printed, each_deliver_is_printed, each_export_is_printed}
 use Rattle.relay_desk_runs.proofs.Opened.{held_same}
-use Rattle.relay.specs.Commands.{Does, path_of}
+use Rattle.relay.specs.Program.{Does, path_of}
 use Rattle.relay_program_runs.specs.Law.{At, DeliversPrinted, Ends, IsBlank, LetsOut, Prints, Ran, SomeRan, TakesPrinted, WritesPrinted, at_its_path, cut_short, exited, passed, passed_at, status_of, writes, writes_nothing}
 use Rattle.relay_program_runs.specs.Passed.{Passed, passed_by, text_of}
 use Rattle.relay_program_runs.proofs.Effects.{no_documents}

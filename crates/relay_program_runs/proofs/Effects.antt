@@ -6,16 +6,15 @@ use Rattle.std.specs.FinMap as finite
 use Rattle.std.specs.Ordering.{nat_cmp}
 use Rattle.dm_store.specs.Saved.{Saved}
 use Rattle.dm_print_ledger.specs.declared.range.Range.{Range}
-use Rattle.dm_print_ledger.specs.Creating.{opening}
+use Rattle.dm_print_ledger.specs.Verdicts.{opening}
 use Rattle.dm_print_ledger.specs.Ledger.{JobView, LedgerView, TicketView, is_range, ledger_bytes}
 use Rattle.dm_assembly_desk.specs.Documents.{Documents, Pages}
-use Rattle.dm_assembly_desk.specs.Opening.{HoldsJointFile, joint_file}
+use Rattle.dm_assembly_desk.specs.Desk.{HoldsJointFile, joint_file}
 use Rattle.dm_assembly_desk.specs.declared.limits.TheConstants.{MOST_CAPACITY}
 use Rattle.dm_event_history.specs.Relay.{Actor, Relay, stored_of}
 use Rattle.relay_command.specs.declared.command.Command.{Command}
 use Rattle.relay_command.specs.declared.command.Command.TheVariants.{Words, Draw, Read, Plan, Ticket, Ledger, Print, Give, Take, Left, Scan, Deliver, Forget, Export, Import, Held, Copy, World}
-use Rattle.relay_printer_commands.specs.Print.{images_of}
-use Rattle.relay_printer_commands.specs.Printers.{ledger_at}
+use Rattle.relay_printer_commands.specs.Printers.{images_of, ledger_at}
 use Rattle.relay_streams.specs.Streams.{AppendsPart}
 use Rattle.relay_desk_commands.specs.Desks.{DeskFiles, OnDesk}
 use Rattle.relay_runs.specs.Runs.{Follows, Keeps}
@@ -24,9 +23,9 @@ use Rattle.relay_runs.proofs.EachPrint.{print_follows}
 use Rattle.relay_runs.proofs.EachTake.{take_follows}
 use Rattle.relay_runs.proofs.Ledgers.{give_idle, is_made, made_same, print_idle, shown_same, take_idle}
 use Rattle.relay_runs.proofs.PrintTold.{print_out}
-use Rattle.relay_desk_runs.specs.Printed.{HasNoDocuments}
+use Rattle.relay_desk_runs.specs.Answered.{HasNoDocuments}
 use Rattle.relay_desk_runs.proofs.Opened.{at_desk_joint, copy_joint, held_same, import_joint, on_id_joint}
-use Rattle.relay.specs.Commands.{Does}
+use Rattle.relay.specs.Program.{Does}
 use Rattle.relay_program_runs.specs.Passed.{Made, Passed, made_by, made_where, passed_by}
 
 -- the store is honest, and holds nothing, or what the printer of this number stores

@@ -18,14 +18,14 @@ use Rattle.dm_pbm_io.proofs.TakenBack.{taken_back}
 use Rattle.dm_assembly_desk.specs.declared.fault.ScanFault.{ScanFault}
 use Rattle.dm_assembly_desk.specs.declared.fault.ScanFault.TheVariants as scan_fault
 use Rattle.relay_streams.specs.Streams.{InputView}
-use Rattle.relay_shared.specs.EachImage.{AnswersImages, Comes, EndsImages, Progress, Said, Takes, TellsImages, TellsInputs}
-use Rattle.relay_shared.specs.EachImage.Comes.{image, unread, too_many}
-use Rattle.relay_shared.specs.EachImage.AnswersImages.{none, another}
-use Rattle.relay_shared.specs.EachImage.EndsImages.{no_image, last_line}
-use Rattle.relay_shared.specs.EachImage.TellsImages.{ended, stopped}
-use Rattle.relay_shared.specs.EachImage.TellsInputs.{of_input}
+use Rattle.relay_shared.specs.Command.{AnswersImages, Comes, EndsImages, Progress, Said, Takes, TellsImages, TellsInputs}
+use Rattle.relay_shared.specs.Command.Comes.{image, unread, too_many}
+use Rattle.relay_shared.specs.Command.AnswersImages.{none, another}
+use Rattle.relay_shared.specs.Command.EndsImages.{no_image, last_line}
+use Rattle.relay_shared.specs.Command.TellsImages.{ended, stopped}
+use Rattle.relay_shared.specs.Command.TellsInputs.{of_input}
 use Rattle.relay_printer_commands.proofs.Sizes.{same_size}
-use Rattle.relay_printer_commands.specs.Print.{images_of}
+use Rattle.relay_printer_commands.specs.Printers.{images_of}
 use Rattle.relay_desk_commands.specs.Desks.{AtDesk, EndsScan, OnDesk, ScansPicture, scan_images}
 use Rattle.relay_desk_commands.specs.Desks.ScansPicture.{accepted, refused, no_grid}
 use Rattle.relay_desk_commands.specs.Desks.EndsAtDesk.{no_desk, opened}

@@ -6,8 +6,7 @@ use Rattle.std.specs.Str.{bytes_eq}
 use Rattle.std.proofs.lemmas.Slice.Eq.{bytes_eq-Decides}
 use Rattle.relay_command.specs.declared.command.Command.{Command}
 use Rattle.relay_desk_commands.specs.Desks.{DeskFiles}
-use Rattle.relay.specs.Commands.{path_of}
-use Rattle.relay.specs.Program.{IsAt, PlacesView, SystemView, at_none, at_path, does, does_and_saves, does_here, lacks_memory, shows}
+use Rattle.relay.specs.Program.{path_of, IsAt, PlacesView, SystemView, at_none, at_path, does, does_and_saves, does_here, lacks_memory, shows}
 use Rattle.relay.specs.Program as program
 use Rattle.relay_program_runs.specs.Law.{At, Asks, IsBlank, IsNew, Ran, Runs}
 use Rattle.relay_program_runs.specs.Lines.{Follow, LineRan, LinesAsk, NoLinePrintsAnIdAgain, WhatLinesDeliverWasPrinted, all_commands, commands_in, if_at, ran_at, saved_as}

@@ -6,7 +6,7 @@ use Rattle.dm_finder_frame.specs.Frame.{GridView}
 use Rattle.dm_append_label.specs.Labels.{Carries, PageView}
 use Rattle.dm_store.specs.Saved.{Saved}
 use Rattle.dm_print_ledger.specs.declared.range.Range.{Range}
-use Rattle.dm_print_ledger.specs.Creating.{opening}
+use Rattle.dm_print_ledger.specs.Verdicts.{opening}
 use Rattle.dm_print_ledger.specs.Ledger.{JobView, TicketView}
 use Rattle.dm_print_ledger.proofs.LedgerLaws.{opening_sound}
 use Rattle.dm_event_history.specs.Relay.{CutDocument, Label, Move, Relay, Running, Used, fresh_from, start}
@@ -21,7 +21,7 @@ use Rattle.relay_command.specs.declared.command.Command.{Command}
 use Rattle.relay_desk_commands.specs.Desks.{OnDesk}
 use Rattle.relay_runs.specs.Runs.{Follows, IsOfJob, Keeps, grids_in, grids_of, listed}
 use Rattle.relay_runs.proofs.Places.{set_there}
-use Rattle.relay_printer_commands.specs.Print.{images_of}
+use Rattle.relay_printer_commands.specs.Printers.{images_of}
 use Rattle.relay_streams.specs.Streams.{AppendsPart}
 use Rattle.relay_program_runs.specs.Law.{At, Ends, IsBlank, IsFirstOfItsId, IsOnePart, Prints, Ran, SomeRan, all_made, at_its_path, cut_short, exited, passed, passed_at}
 use Rattle.relay_program_runs.specs.Passed.{Made, made_by}

@@ -6,7 +6,7 @@ use Rattle.dm_encodation.specs.declared.scheme.Scheme.TheVariants.{Ascii}
 use Rattle.relay_command.specs.declared.command.Command.TheVariants.{Deliver, Give, Import, Ledger, Print, Scan, Take}
 use Rattle.relay_command.specs.declared.command.Labels.TheVariants.{OfSide}
 use Rattle.relay_streams.specs.Streams.{OutputView}
-use Rattle.relay_printer_commands.specs.Tickets.{IsTextOf}
+use Rattle.relay_printer_commands.specs.Printers.{IsTextOf}
 use Rattle.relay_desk_commands.specs.Desks.{DeskFiles}
 use Rattle.relay_runs.proofs.TicketTexts.{ten_ticket}
 use Rattle.relay_program_runs.specs.Law.{AreApart, Prints, Ran, SomeRan, WritesPrinted, passed, writes, writes_nothing}

@@ -3,12 +3,11 @@
 use Rattle.std.proofs.Common.{◌≡◌, ◌≢◌, ◌≤◌, ◌<◌, ◌+◌, ◌++◌, ℕ, zero, suc, List, [], ◌∷◌, Option, Some, length, slice_get, slice_index_or, slice_set, refl, sym, ap, subst, ◌∙◌, arith}
 use Rattle.std.specs.Prelude.{AllPairs, IfSome, IsSomeAnd}
 use Rattle.std.specs.List.{AllByRecursion}
-use Rattle.dm_store.specs.Fused.{with_open_plans}
-use Rattle.dm_store.specs.Saved.{Saved, SavedSet}
+use Rattle.dm_store.specs.Saved.{with_open_plans, Saved, SavedSet}
 use Rattle.dm_print_ledger.specs.Ledger.{JobView, TicketView}
 use Rattle.relay_command.specs.declared.command.Command.{Command}
 use Rattle.relay_desk_commands.specs.Desks.{DeskFiles}
-use Rattle.relay.specs.Commands.{path_of}
+use Rattle.relay.specs.Program.{path_of}
 use Rattle.relay_program_runs.specs.Passed.{Made}
 use Rattle.relay_program_runs.specs.Law.{At, Each, IsBlank, IsFirstOfItsId, IsNew, Ran, Runs, SomeRan, TakesGiven, all_made, cut_short, exited, passed}
 use Rattle.relay_program_runs.proofs.Lists.{all_so}

@@ -11,12 +11,11 @@ use Rattle.dm_symbol.specs.Correction.{IsNear, words_of_grid}
 use Rattle.dm_print_ledger.specs.Ledger.{JobView}
 use Rattle.relay_command.specs.declared.command.Command.TheVariants.{Copy, Deliver, Export, Give, Import, Ledger, Print, Scan, Take}
 use Rattle.relay_command.specs.declared.command.Labels.TheVariants.{OfSide}
-use Rattle.relay_printer_commands.specs.Tickets.{IsTextOf}
-use Rattle.relay_printer_commands.specs.Print.{images_of}
+use Rattle.relay_printer_commands.specs.Printers.{IsTextOf, images_of}
 use Rattle.relay_desk_commands.specs.Desks.{DeskFiles}
 use Rattle.relay_runs.proofs.TicketTexts.{ten_ticket}
 use Rattle.relay_desk_runs.specs.Answered.{grids_scanned}
-use Rattle.relay.specs.Commands.{path_of}
+use Rattle.relay.specs.Program.{path_of}
 use Rattle.relay_program_runs.specs.Law.{AreApart, Asks, At, Each, LetsOut, Ran, SomeRan, TakesPrinted, passed}
 use Rattle.relay_program_runs.specs.Worked.{Delivers, IsDone, IsWorked, given, no_files}
 use Rattle.relay_program_runs.proofs.Images.{Is12, scanned_so}

@@ -20,37 +20,32 @@ use Rattle.dm_finder_frame.proofs.FramedGrids.{grid_is_whole}
 use Rattle.dm_pbm_io.specs.Image.{p4}
 use Rattle.dm_store.specs.Saved.{Saved}
 use Rattle.dm_print_ledger.proofs.LedgerLaws.{opening_sound}
-use Rattle.dm_print_ledger.specs.Creating.{SavesFirst, opening}
+use Rattle.dm_print_ledger.specs.Verdicts.{SavesFirst, opening, AreLabels, Carries, IsJobOf, IsMade, Takes, giver_of, least, take_verdict, ticket_of, union_of}
 use Rattle.dm_print_ledger.specs.declared.fault.CreateFault.{CreateFault}
 use Rattle.dm_print_ledger.specs.declared.fault.CreateFault.TheVariants as create_fault
 use Rattle.dm_print_ledger.specs.declared.range.Range.{Range}
 use Rattle.dm_print_ledger.specs.declared.fault.TakeFault.TheVariants as take_fault
 use Rattle.dm_print_ledger.specs.Ledger.{JobView, LedgerView, PrinterView, TicketView, givers_with, is_range, ledger_bytes, running}
-use Rattle.dm_print_ledger.specs.Verdicts.{AreLabels, Carries, IsJobOf, IsMade, Takes, giver_of, least, take_verdict, ticket_of, union_of}
 use Rattle.dm_event_history.specs.Relay.{Running}
 use Rattle.relay_command.specs.declared.command.Command.TheVariants.{Copy, Export, Give, Ledger, Print, Take}
 use Rattle.relay_command.specs.declared.command.Labels.TheVariants.{OfSide}
 use Rattle.relay_shared.specs.Command.{StreamsView}
-use Rattle.relay_printer_commands.specs.Tickets.{IsTextOf}
+use Rattle.relay_printer_commands.specs.Printers.{IsTextOf, EndsPrint, PrintsLabels, images_of, EndsGive, EndsLedger, EndsTake, OnLedger, ledger_at}
 use Rattle.relay_printer_commands.proofs.Sizes.{same_size}
-use Rattle.relay_printer_commands.specs.Print.{EndsPrint, PrintsLabels, images_of}
-use Rattle.relay_printer_commands.specs.Print.EndsPrint.{no_side, not_read, too_long, read as was_read}
-use Rattle.relay_printer_commands.specs.Print.PrintsDocument.{opened as print_opened, not_opened as print_not_opened}
-use Rattle.relay_printer_commands.specs.Print.PrintsLabels.{no_line, all, lost}
-use Rattle.relay_printer_commands.specs.Printers.{EndsGive, EndsLedger, EndsTake, OnLedger, ledger_at}
+use Rattle.relay_printer_commands.specs.Printers.EndsPrint.{no_side, not_read, too_long, read as was_read}
+use Rattle.relay_printer_commands.specs.Printers.PrintsDocument.{opened as print_opened, not_opened as print_not_opened}
+use Rattle.relay_printer_commands.specs.Printers.PrintsLabels.{no_line, all, lost}
 use Rattle.relay_printer_commands.specs.Printers.EndsGive.{opened as give_opened, not_opened as give_not_opened}
 use Rattle.relay_printer_commands.specs.Printers.EndsLedger.{created, refused as not_created}
 use Rattle.relay_printer_commands.specs.Printers.EndsTake.{no_ticket, not_opened as take_not_opened, opened as take_opened}
-use Rattle.relay_desk_commands.specs.Desks.{DeskFiles, EndsExport, EndsImport, OnDesk}
+use Rattle.relay_desk_commands.specs.Desks.{DeskFiles, EndsExport, EndsImport, OnDesk, EndsCopy}
 use Rattle.relay_desk_commands.specs.Desks.EndsAtDesk.{no_desk, opened}
 use Rattle.relay_desk_commands.specs.Desks.EndsOnId.{no_id, of_id}
-use Rattle.relay_desk_commands.specs.Copy.{EndsCopy}
-use Rattle.relay_desk_commands.specs.Copy.EndsCopyOf.{no_side as no_size, of_side as of_size}
+use Rattle.relay_desk_commands.specs.Desks.EndsCopyOf.{no_side as no_size, of_side as of_size}
 use Rattle.relay_desk_commands.specs.Desks.EndsImport.{not_read, read}
 use Rattle.relay_runs.proofs.Files.{opened as open_as}
 use Rattle.relay_runs.proofs.TicketTexts.{text_once}
-use Rattle.relay_runs.specs.Answered.{job_ended, ticket_given, ticket_taken}
-use Rattle.relay_runs.specs.Runs.{Keeps}
+use Rattle.relay_runs.specs.Runs.{job_ended, ticket_given, ticket_taken, Keeps}
 use Rattle.relay_desk_runs.specs.Answered.{file_exported, file_imported, if_imported, label_copied}
 use Rattle.relay_program_runs.specs.Law.{passed}
 use Rattle.relay_program_runs.specs.Passed.{Made, made_where}

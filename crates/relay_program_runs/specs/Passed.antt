@@ -6,9 +6,9 @@ use Rattle.dm_print_ledger.specs.Ledger.{JobView, TicketView}
 use Rattle.relay_command.specs.declared.command.Command.{Command}
 use Rattle.relay_command.specs.declared.command.Command.TheVariants.{Copy, Deliver, Export, Give, Import, Ledger, Print, Scan, Take}
 use Rattle.relay_desk_commands.specs.Desks.{OnDesk}
-use Rattle.relay_runs.specs.Answered.{job_ended, ticket_given, ticket_taken}
+use Rattle.relay_runs.specs.Runs.{job_ended, ticket_given, ticket_taken}
 use Rattle.relay_desk_runs.specs.Answered.{file_exported, file_imported, grids_scanned, label_copied}
-use Rattle.relay.specs.Commands.{Does}
+use Rattle.relay.specs.Program.{Does}
 
 -- the text of the identification that `deliver` is to give
 abbrev pub text_of : Command → Option (List ℕ)

@@ -5,8 +5,7 @@ use Rattle.std.specs.FinMap as finite
 use Rattle.dm_finder_frame.specs.Frame.{GridView}
 use Rattle.dm_symbol.specs.Correction.{IsNear}
 use Rattle.dm_store.specs.declared.mem_store.NextSave.TheVariants.{Fine}
-use Rattle.dm_store.specs.Fused.{with_open_plans}
-use Rattle.dm_store.specs.Saved.{Saved, SavedSet, in_memory}
+use Rattle.dm_store.specs.Saved.{with_open_plans, Saved, SavedSet, in_memory}
 use Rattle.dm_print_ledger.specs.Ledger.{JobView, TicketView}
 use Rattle.dm_print_ledger.specs.declared.fault.TakeFault.{TakeFault}
 use Rattle.dm_print_ledger.specs.declared.fault.TakeFault.TheVariants as takes
@@ -14,14 +13,14 @@ use Rattle.dm_assembly_desk.specs.declared.fault.ScanFault.{ScanFault}
 use Rattle.dm_assembly_desk.specs.declared.fault.ScanFault.TheVariants as scans
 use Rattle.dm_assembly_desk.specs.declared.fault.ImportFault.{ImportFault}
 use Rattle.dm_assembly_desk.specs.declared.fault.ImportFault.TheVariants as imports
-use Rattle.relay_runs.specs.Answered.{if_taken}
+use Rattle.relay_runs.specs.Runs.{if_taken}
 use Rattle.relay_desk_runs.specs.Answered.{if_imported, if_saved}
 use Rattle.relay_command.specs.declared.command.Command.{Command}
 use Rattle.relay_streams.specs.Streams.{AppendsPart, InputView}
 use Rattle.relay_shared.specs.Command.{ReadsDocument, StreamsView}
 use Rattle.dm_event_history.specs.Headline.{IsApart}
 use Rattle.relay_desk_commands.specs.Desks.{DeskFiles, IsTextOfId, OnDesk}
-use Rattle.relay.specs.Commands.{Does, path_of}
+use Rattle.relay.specs.Program.{Does, path_of}
 use Rattle.relay_program_runs.specs.Passed.{Made, made_where, text_of}
 use Rattle.relay_program_runs.specs.Law.{AreApart, Asks, At, DeliversPrinted, Each, IsBlank, IsFirstOfItsId, IsNew, LetsOut, NoIdIsPrintedTwice, Prints, Ran, Runs, SomeRan, TakesGiven, TakesPrinted, WhatIsDeliveredWasPrinted, WritesPrinted, all_made, at_its_path, passed, status_of}
 

@@ -1,7 +1,7 @@
 //! A worked list of commands, over stores in memory.
 
 ghost use Rattle.std.specs.Prelude.{◌≡◌, All, IfSome, IsTrue, codes};
-ghost use Rattle.dm_store.specs.Fused.{with_open_plans};
+ghost use Rattle.dm_store.specs.Saved.{with_open_plans};
 ghost use Rattle.relay_program_runs.specs.Worked.{EndWell, IsDone, IsWorked, files_of, no_files};
 
 use dm_encodation::Scheme;

@@ -9,12 +9,11 @@ use Rattle.dm_print_ledger.specs.Verdicts.{Gives, give_verdict}
 use Rattle.dm_event_history.specs.declared.event.Event.{Event}
 use Rattle.dm_event_history.specs.declared.event.Event.TheVariants.{Give}
 use Rattle.dm_event_history.specs.Relay.{Actor, Relay, stored_of, with_printer}
-use Rattle.dm_event_history.specs.Calls.{Calls, GiveComes, MayLackFirst, give_faults}
+use Rattle.dm_event_history.specs.Steps.{Calls, GiveComes, MayLackFirst, give_faults}
 use Rattle.dm_event_world.specs.inner.Calls.{give_reply}
 use Rattle.relay_printer_commands.specs.Printers.{EndsGive, OnLedger}
 use Rattle.relay_printer_commands.specs.Printers.EndsGive.{opened as was_opened, not_opened}
-use Rattle.relay_runs.specs.Answered.{answered, ticket_given}
-use Rattle.relay_runs.specs.Runs.{EachGiveIsARun, Follows, Keeps, grids_of}
+use Rattle.relay_runs.specs.Runs.{answered, ticket_given, EachGiveIsARun, Follows, Keeps, grids_of}
 use Rattle.relay_runs.proofs.Places.{calling, restart, restarted, run_of, still_within}
 use Rattle.relay_runs.proofs.Files.{HoldsFile, holds_file, opened}
 use Rattle.relay_runs.proofs.Calling.{keeps_shown, shows_opened}

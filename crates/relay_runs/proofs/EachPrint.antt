@@ -11,17 +11,15 @@ use Rattle.dm_print_ledger.specs.Verdicts.{Prints, print_verdict}
 use Rattle.dm_event_history.specs.declared.event.Event.{Event}
 use Rattle.dm_event_history.specs.declared.event.Event.TheVariants.{Print}
 use Rattle.dm_event_history.specs.Relay.{Actor, Label, Relay, stored_of, with_printer}
-use Rattle.dm_event_history.specs.Calls.{Calls, MayLackFirst, PrintComes, print_faults}
+use Rattle.dm_event_history.specs.Steps.{Calls, MayLackFirst, PrintComes, print_faults}
 use Rattle.dm_event_world.specs.inner.Calls.{print_reply}
 use Rattle.relay_command.specs.declared.command.Labels.{Labels}
 use Rattle.relay_streams.specs.Streams.{InputView}
 use Rattle.relay_shared.specs.Command.{ReadsDocument}
-use Rattle.relay_printer_commands.specs.Print.{EndsPrint, PrintsDocument}
-use Rattle.relay_printer_commands.specs.Print.EndsPrint.{no_side, not_read, too_long, read as was_read}
-use Rattle.relay_printer_commands.specs.Print.PrintsDocument.{opened as was_opened, not_opened}
-use Rattle.relay_printer_commands.specs.Printers.{OnLedger}
-use Rattle.relay_runs.specs.Answered.{answered, job_ended, job_printed}
-use Rattle.relay_runs.specs.Runs.{EachPrintIsARun, Follows, IsOfJob, Keeps}
+use Rattle.relay_printer_commands.specs.Printers.{EndsPrint, PrintsDocument, OnLedger}
+use Rattle.relay_printer_commands.specs.Printers.EndsPrint.{no_side, not_read, too_long, read as was_read}
+use Rattle.relay_printer_commands.specs.Printers.PrintsDocument.{opened as was_opened, not_opened}
+use Rattle.relay_runs.specs.Runs.{answered, job_ended, job_printed, EachPrintIsARun, Follows, IsOfJob, Keeps}
 use Rattle.relay_runs.proofs.Places.{calling, restart, restarted, run_of, still_within}
 use Rattle.relay_runs.proofs.Files.{HoldsFile, holds_file, opened}
 use Rattle.relay_runs.proofs.Calling.{keeps_shown, shows_opened}

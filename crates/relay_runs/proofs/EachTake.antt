@@ -11,13 +11,11 @@ use Rattle.dm_print_ledger.specs.Verdicts.{Takes, take_verdict}
 use Rattle.dm_event_history.specs.declared.event.Event.{Event}
 use Rattle.dm_event_history.specs.declared.event.Event.TheVariants.{Take}
 use Rattle.dm_event_history.specs.Relay.{Actor, Relay, stored_of, with_printer}
-use Rattle.dm_event_history.specs.Calls.{Calls, TakeComes, take_faults}
+use Rattle.dm_event_history.specs.Steps.{Calls, TakeComes, take_faults}
 use Rattle.dm_event_world.specs.inner.Calls.{take_reply}
-use Rattle.relay_printer_commands.specs.Printers.{EndsTake, OnLedger}
+use Rattle.relay_printer_commands.specs.Printers.{EndsTake, OnLedger, HasTicket, IsTextOf}
 use Rattle.relay_printer_commands.specs.Printers.EndsTake.{no_ticket, opened as was_opened, not_opened}
-use Rattle.relay_printer_commands.specs.Tickets.{HasTicket, IsTextOf}
-use Rattle.relay_runs.specs.Answered.{if_taken, ticket_taken}
-use Rattle.relay_runs.specs.Runs.{EachTakeIsARun, Follows, Keeps, grids_of}
+use Rattle.relay_runs.specs.Runs.{if_taken, ticket_taken, EachTakeIsARun, Follows, Keeps, grids_of}
 use Rattle.relay_runs.proofs.Places.{calling, restart, restarted, run_of, still_within}
 use Rattle.relay_runs.proofs.Files.{HoldsFile, holds_file, opened, unchanged}
 use Rattle.relay_runs.proofs.Calling.{keeps_shown, shows_opened}

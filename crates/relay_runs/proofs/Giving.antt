@@ -8,13 +8,12 @@ use Rattle.dm_print_ledger.specs.Ledger.{LedgerView, PrinterView, TicketView}
 use Rattle.dm_print_ledger.specs.Verdicts.{Gives, MayLackMemory, give_verdict}
 use Rattle.dm_event_history.specs.declared.stop.Stop.{Stop}
 use Rattle.dm_event_history.specs.Relay.{Running}
-use Rattle.dm_event_history.specs.Calls.{Calls, Ending, GiveComes, MayLackFirst, give_faults}
+use Rattle.dm_event_history.specs.Steps.{Calls, Ending, GiveComes, MayLackFirst, give_faults}
 use Rattle.dm_event_world.specs.declared.actor.PrinterActor.TheVariants as actors
 use Rattle.dm_event_world.specs.Shows.{ShowsPrinter, left_label}
 use Rattle.dm_event_world.specs.inner.Calls.{EndsSo, Left, ends_early, give_reply, left_ticket}
 use Rattle.dm_event_world.proofs.PrinterEvents.{give_ends}
-use Rattle.relay_runs.specs.Answered.{answered}
-use Rattle.relay_runs.specs.Runs.{listed}
+use Rattle.relay_runs.specs.Runs.{answered, listed}
 use Rattle.relay_runs.proofs.Plans.{IsMet, IsUnder, fine_printer, under_stop}
 use Rattle.relay_runs.proofs.Calling.{met_ended, met_reply}
 use Rattle.relay_runs.proofs.Printing.{cancel, none_mapped}

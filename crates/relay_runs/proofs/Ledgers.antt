@@ -7,21 +7,18 @@ use Rattle.dm_encodation.specs.declared.scheme.Scheme.{Scheme}
 use Rattle.dm_print_ledger.specs.declared.fault.CreateFault.{CreateFault}
 use Rattle.dm_print_ledger.specs.declared.fault.CreateFault.TheVariants as create_fault
 use Rattle.dm_print_ledger.specs.declared.range.Range.{Range}
-use Rattle.dm_print_ledger.specs.Creating.{Creates, SavesFirst, opening}
+use Rattle.dm_print_ledger.specs.Verdicts.{Creates, SavesFirst, opening, Opens, open_verdict}
 use Rattle.dm_print_ledger.specs.Ledger.{LedgerView, PrinterView, is_range, ledger_bytes}
-use Rattle.dm_print_ledger.specs.Verdicts.{Opens, open_verdict}
 use Rattle.dm_event_history.specs.Relay.{Actor, stored_of}
 use Rattle.relay_command.specs.declared.command.Labels.{Labels}
-use Rattle.relay_printer_commands.specs.Print.{EndsPrint}
-use Rattle.relay_printer_commands.specs.Print.EndsPrint.{no_side, not_read, too_long, read as was_read}
-use Rattle.relay_printer_commands.specs.Print.PrintsDocument.{opened as print_opened, not_opened as print_not_opened}
-use Rattle.relay_printer_commands.specs.Printers.{EndsGive, EndsLeft, EndsLedger, EndsTake, OnLedger}
+use Rattle.relay_printer_commands.specs.Printers.{EndsPrint, EndsGive, EndsLeft, EndsLedger, EndsTake, OnLedger}
+use Rattle.relay_printer_commands.specs.Printers.EndsPrint.{no_side, not_read, too_long, read as was_read}
+use Rattle.relay_printer_commands.specs.Printers.PrintsDocument.{opened as print_opened, not_opened as print_not_opened}
 use Rattle.relay_printer_commands.specs.Printers.EndsGive.{opened as give_opened, not_opened as give_not_opened}
 use Rattle.relay_printer_commands.specs.Printers.EndsTake.{no_ticket, opened as take_opened, not_opened as take_not_opened}
 use Rattle.relay_printer_commands.specs.Printers.EndsLedger.{created, refused as not_created}
 use Rattle.relay_printer_commands.specs.Printers.EndsLeft.{shown as was_shown, refused as not_shown}
-use Rattle.relay_runs.specs.Answered.{job_ended, ticket_given}
-use Rattle.relay_runs.specs.Runs.{Keeps}
+use Rattle.relay_runs.specs.Runs.{job_ended, ticket_given, Keeps}
 use Rattle.relay_runs.proofs.Files.{ok_of}
 use Rattle.relay_runs.proofs.Plans.{old_or_new}
 

@@ -9,8 +9,7 @@ use Rattle.dm_event_history.specs.declared.event.Event.TheVariants.{RestartPrint
 use Rattle.dm_event_history.specs.declared.reply.Reply.{Reply}
 use Rattle.dm_event_history.specs.declared.reply.Reply.TheVariants.{Restarted}
 use Rattle.dm_event_history.specs.Relay.{Actor, Running, Goods, Relay, nothing, stored_of, with_printer}
-use Rattle.dm_event_history.specs.Calls.{Ending, ending}
-use Rattle.dm_event_history.specs.Steps.{Moment, PrinterGoes, Step}
+use Rattle.dm_event_history.specs.Steps.{Ending, ending, Moment, PrinterGoes, Step}
 use Rattle.relay_runs.specs.Runs.{Keeps, Runs}
 
 -- ---- lists

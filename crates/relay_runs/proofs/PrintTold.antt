@@ -7,16 +7,15 @@ use Rattle.dm_print_ledger.specs.declared.fault.PrintFault.{PrintFault}
 use Rattle.dm_print_ledger.specs.Ledger.{JobView}
 use Rattle.relay_streams.specs.Streams.{AppendsPart, OutputView}
 use Rattle.relay_shared.specs.Command.{StreamsView}
-use Rattle.relay_printer_commands.specs.Print.{LosesImages, PrintsLabels, TellsPrint, images_of, EndsPrint}
-use Rattle.relay_printer_commands.specs.Print.LosesImages.{memory, write}
-use Rattle.relay_printer_commands.specs.Print.PrintsLabels.{no_line, all, lost}
-use Rattle.relay_printer_commands.specs.Print.EndsPrint.{no_side, not_read, too_long, read as was_read}
-use Rattle.relay_printer_commands.specs.Print.PrintsDocument.{opened as was_opened, not_opened}
-use Rattle.relay_printer_commands.specs.Printers.{OnLedger}
+use Rattle.relay_printer_commands.specs.Printers.{LosesImages, PrintsLabels, TellsPrint, images_of, EndsPrint, OnLedger}
+use Rattle.relay_printer_commands.specs.Printers.LosesImages.{memory, write}
+use Rattle.relay_printer_commands.specs.Printers.PrintsLabels.{no_line, all, lost}
+use Rattle.relay_printer_commands.specs.Printers.EndsPrint.{no_side, not_read, too_long, read as was_read}
+use Rattle.relay_printer_commands.specs.Printers.PrintsDocument.{opened as was_opened, not_opened}
 use Rattle.relay_command.specs.declared.command.Labels.{Labels}
 use Rattle.relay_streams.proofs.Parts.{part_none, part_whole}
 use Rattle.dm_encodation.specs.declared.scheme.Scheme.{Scheme}
-use Rattle.relay_runs.specs.Answered.{answered, job_ended}
+use Rattle.relay_runs.specs.Runs.{answered, job_ended}
 
 no_part : (old new : OutputView) (text : List ℕ) → new ≡ old → AppendsPart old.contents new.contents text
 no_part old new text same =

@@ -14,7 +14,7 @@ use Rattle.dm_event_history.specs.declared.stop.Stop.TheVariants as stops
 use Rattle.dm_event_history.specs.declared.reply.Reply.TheVariants as replies
 use Rattle.dm_event_history.specs.declared.reply.Reply.TheVariants.{Printed, PrintRefused}
 use Rattle.dm_event_history.specs.Relay.{CutDocument, Running, Goods, Label, Used}
-use Rattle.dm_event_history.specs.Calls.{Answers, AreLabelsFor, Calls, Ending, LacksMemory, MayLackFirst, PrintComes, Saves, cut_of, print_faults}
+use Rattle.dm_event_history.specs.Steps.{Answers, AreLabelsFor, Calls, Ending, LacksMemory, MayLackFirst, PrintComes, Saves, cut_of, print_faults}
 use Rattle.dm_append_label.specs.Labels.{PageView}
 use Rattle.dm_event_history.proofs.LedgerFacts.{made_print}
 use Rattle.dm_event_world.specs.declared.actor.LeftLabel.{LeftLabel}
@@ -22,8 +22,7 @@ use Rattle.dm_event_world.specs.declared.actor.PrinterActor.TheVariants as actor
 use Rattle.dm_event_world.specs.Shows.{ShowsPrinter, left_label}
 use Rattle.dm_event_world.specs.inner.Calls.{EndsSo, Left, job_labels, left_labels, most_labels, print_reply}
 use Rattle.dm_event_world.proofs.PrinterEvents.{few_labels, print_ends}
-use Rattle.relay_runs.specs.Answered.{answered}
-use Rattle.relay_runs.specs.Runs.{grids_in, grids_of}
+use Rattle.relay_runs.specs.Runs.{answered, grids_in, grids_of}
 use Rattle.relay_runs.proofs.Plans.{IsUnder, fine_printer, under_stop}
 use Rattle.relay_runs.proofs.Calling.{met_ended, met_reply}
 

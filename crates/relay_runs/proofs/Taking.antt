@@ -7,7 +7,7 @@ use Rattle.dm_print_ledger.specs.Ledger.{LedgerView, PrinterView, TicketView, is
 use Rattle.dm_print_ledger.specs.Verdicts.{MayLackMemory, Takes, take_verdict}
 use Rattle.dm_event_history.specs.declared.stop.Stop.{Stop}
 use Rattle.dm_event_history.specs.Relay.{Running}
-use Rattle.dm_event_history.specs.Calls.{Calls, Ending, TakeComes, take_faults}
+use Rattle.dm_event_history.specs.Steps.{Calls, Ending, TakeComes, take_faults}
 use Rattle.dm_event_world.specs.declared.actor.PrinterActor.TheVariants as actors
 use Rattle.dm_event_world.specs.Shows.{ShowsPrinter, left_label}
 use Rattle.dm_event_world.specs.inner.Calls.{EndsSo, Left, take_reply}

@@ -11,7 +11,7 @@ use Rattle.dm_finder_frame.specs.Frame.{GridView}
 use Rattle.dm_pbm_io.specs.Image.{Picture}
 use Rattle.dm_symbol.specs.Correction.{CorrectedView, CorrectsGrid}
 use Rattle.dm_symbol.specs.declared.fault.SymbolFault.{SymbolFault}
-use Rattle.relay_shared.specs.Cure.{cure_text, module_after, IsCure}
+use Rattle.relay_shared.specs.Command.{cure_text, module_after, IsCure}
 use Rattle.relay_shared.specs.declared.cure.Cure.{Cure}
 
 -- how the text of a change ends

@@ -5,12 +5,11 @@ use Rattle.std.proofs.Common.{inl, inr, ⊎_elim, refl, sym, subst, ◌∙◌}
 use Rattle.std.proofs.KnownBytes.{Appends-nil}
 use Rattle.std.proofs.lemmas.Bool.{or_parts, or_right}
 use Rattle.relay_streams.specs.Streams.{InputView, OutputView}
-use Rattle.relay_shared.specs.EachImage.{AnswersImages, Comes, ImageCommand, IsOfFailedRead, Progress, Said, Takes, TellsImages, progress_at, refusal_of}
-use Rattle.relay_shared.specs.EachImage.AnswersImages.{another}
-use Rattle.relay_shared.specs.EachImage.Comes.{image, unread, too_many}
-use Rattle.relay_shared.specs.EachImage.EndsImages.{no_image, last_line}
-use Rattle.relay_shared.specs.EachImage.TellsImages.{ended, stopped}
-use Rattle.relay_shared.specs.Command.{TellsRefusal}
+use Rattle.relay_shared.specs.Command.{AnswersImages, Comes, ImageCommand, IsOfFailedRead, Progress, Said, Takes, TellsImages, progress_at, refusal_of, TellsRefusal}
+use Rattle.relay_shared.specs.Command.AnswersImages.{another}
+use Rattle.relay_shared.specs.Command.Comes.{image, unread, too_many}
+use Rattle.relay_shared.specs.Command.EndsImages.{no_image, last_line}
+use Rattle.relay_shared.specs.Command.TellsImages.{ended, stopped}
 use Rattle.relay_shared.specs.declared.images.TheConstants.{MOST_IMAGES}
 use Rattle.relay_shared.specs.declared.images.Answered.{Answered}
 use Rattle.relay_shared.specs.inner.Steps.{StopsStep, TakesStep}

@@ -1,15 +1,29 @@
 -- The document that a command reads; how it says what has happened, by a line and by its exit status, and what is out
 -- if its output fails; and which of its streams it changes.
-use Rattle.std.specs.Prelude.{◌≡◌, ℕ, true, List, ◌⊎◌, Result, Ok, Err, OnErr, OnOk, codes}
-use Rattle.relay_streams.specs.Streams.{InputView, ReadsFirst, AppendsPart, OutputView, refused_line, write_fault_name}
+use Rattle.std.specs.Prelude.{◌≡◌, ℕ, true, List, ◌⊎◌, Result, Ok, Err, OnErr, OnOk, codes, ◌+◌, ◌<◌, ◌≤◌, Bool, false, ◌||◌, if◌then◌else◌, [], ◌∷◌, Option, max, MatchResult, ◌*◌, ◌-◌, ◌/◌, ◌%◌, ◌==◌, ◌++◌, map, slice_index_or, None, Some}
+use Rattle.relay_streams.specs.Streams.{InputView, ReadsFirst, AppendsPart, OutputView, refused_line, write_fault_name, input_fault_name}
 use Rattle.relay_streams.specs.declared.fault.InputFault.{InputFault}
-use Rattle.relay_streams.specs.declared.fault.InputFault.TheVariants as input_faults
 use Rattle.relay_shared.specs.declared.command.TheConstants.{DOCUMENT_BYTES}
-use Rattle.std.specs.Io.KnownBytes.{Appends}
+use Rattle.std.specs.Io.KnownBytes.{Appends, Consumes, IsAtEnd, Keeps}
 use Rattle.relay_streams.specs.declared.fault.WriteFault.{WriteFault}
 use Rattle.relay_streams.specs.declared.fault.WriteFault.TheVariants.{Write}
 use Rattle.relay_shared.specs.declared.command.Refusal.{Refusal}
 use Rattle.relay_shared.specs.declared.command.Refusal.TheVariants.{Side, FileId, Ticket, TooMany, Memory, Output}
+use Rattle.dm_pbm_io.specs.Image.{Picture, Spells, Refuses}
+use Rattle.dm_pbm_io.specs.declared.fault.PbmFault.{PbmFault}
+use Rattle.dm_pbm_io.specs.FaultNames.{pbm_fault_name}
+use Rattle.relay_shared.specs.declared.images.TheConstants.{MOST_IMAGES}
+use Rattle.relay_shared.specs.declared.images.Answered.{Answered}
+use Rattle.std.specs.Bool.{xor}
+use Rattle.std.specs.Fmt.{decimal}
+use Rattle.std.specs.List.{range_with_len}
+use Rattle.dm_finder_frame.specs.Frame.{GridView}
+use Rattle.dm_symbol.specs.Correction.{CorrectedView, IsCorrectedAs}
+use Rattle.relay_shared.specs.Lines.{id_text}
+use Rattle.relay_shared.specs.declared.cure.Cure.{Cure}
+use Rattle.relay_streams.specs.declared.fault.InputFault.TheVariants as input_faults
+use Rattle.dm_pbm_io.specs.declared.fault.PbmFault.TheVariants as image_faults
+use Rattle.dm_size.specs.Sizes as sizes
 
 -- No read failed, and this document was read, and no other byte: up to one byte more than the greatest that a printer
 -- cuts into labels. That many bytes are too long for every symbol.
@@ -98,3 +112,216 @@ refusal_name Ticket = codes "Ticket"
 refusal_name TooMany = codes "TooMany"
 refusal_name Memory = codes "Memory"
 refusal_name (Output fault) = write_fault_name fault
+
+-- ---- images
+
+-- A command over images: it answers to each image on its input by a line, in order, up to the end of the input, a plain
+-- image, bytes that are no image, a state in which it reads no more, or the greatest number of images. Of files that it is
+-- given, each is such an input.
+
+-- The bytes that were taken spell no image, for this reason; where it is the reader, a read of it has failed.
+pub record IsUnread (fault : PbmFault) (taken : List ℕ) (rest : InputView) : Type 0 where
+  pub refused : Refuses fault taken rest.remaining
+  pub failed : fault ≡ image_faults.Read → rest.has_failed ≡ true
+
+-- what was taken is an image, or spells none
+abbrev pub IsAnother : List ℕ → InputView → Type 0
+IsAnother taken rest = ((p : Picture) × Spells taken p) ⊎ ((fault : PbmFault) × IsUnread fault taken rest)
+
+-- ---- what is said
+
+-- a line, or some, and whether any of them names a refusal
+pub record Said : Type 0 where
+  pub line : List ℕ
+  pub refused : Bool
+
+abbrev pub nothing : Said
+nothing = record { line = []; refused = false }
+
+-- the line of a refusal of this name
+abbrev pub refusal_of : List ℕ → Said
+refusal_of name = record { line = refused_line name; refused = true }
+
+-- ---- the command
+
+-- The states of a command; from one to the next, by the number of an image, from 1: what it says of its picture, and
+-- what it makes of the name of a refusal where there is none; and whether it has ended, and reads no more.
+pub record ImageCommand : Type 1 where
+  pub State : Type 0
+  pub Answers : ℕ → State → Picture → Said → State → Type 0
+  pub SeesUnread : ℕ → State → List ℕ → State → Type 0
+  pub has_ended : State → Bool
+
+-- its state and its streams
+pub record Progress (c : ImageCommand) : Type 0 where
+  pub state : c.State
+  pub input : InputView
+  pub output : OutputView
+
+abbrev pub progress_at : {c : ImageCommand} → c.State → InputView → OutputView → Progress c
+progress_at now input output = record { state = now; input = input; output = output }
+
+-- its state and its output, while it answers to one image
+pub record AtImage (c : ImageCommand) : Type 0 where
+  pub state : c.State
+  pub output : OutputView
+
+-- the answer to one picture: its line was written, or the output has failed and a part of the line is out
+pub record AnswersPicture (c : ImageCommand) (number : ℕ) (p : Picture) (old : AtImage c)
+    (result : Result Answered WriteFault) (new : AtImage c) : Type 0 where
+  pub said : Said
+  pub answers : c.Answers number old.state p said new.state
+  pub told : MatchResult result
+      (λ a. Appends old.output.contents new.output.contents said.line × (a.refused ≡ said.refused)
+      × (a.last ≡ c.has_ended new.state))
+      (λ _. AppendsPart old.output.contents new.output.contents said.line × (new.output.has_failed ≡ true))
+
+-- ---- one step
+
+-- What the bytes are that come after this many images, unless the input ends: what is said of them, whether nothing is
+-- read after them, and the state.
+pub data Comes (c : ImageCommand) (count : ℕ) (now : c.State) (bytes : List ℕ) (rest : InputView)
+    : Said → Bool → c.State → Type 0 where
+  image : {said : Said} {last : Bool} {after : c.State} (p : Picture) → count < MOST_IMAGES → Spells bytes p
+      → c.Answers (count + 1) now p said after → last ≡ (p.plain || c.has_ended after)
+      → Comes c count now bytes rest said last after
+  unread : {after : c.State} (fault : PbmFault) → count < MOST_IMAGES → IsUnread fault bytes rest
+      → c.SeesUnread (count + 1) now (pbm_fault_name fault) after
+      → Comes c count now bytes rest (refusal_of (pbm_fault_name fault)) true after
+  too_many : count ≡ MOST_IMAGES → IsAnother bytes rest
+      → Comes c count now bytes rest (refusal_of (refusal_name TooMany)) true now
+
+-- the bytes were taken of the input, and this is said of them
+pub record Takes (c : ImageCommand) (count : ℕ) (old : Progress c) (said : Said) (last : Bool) (new : Progress c)
+    : Type 0 where
+  pub bytes : List ℕ
+  pub consumed : Consumes old.input.remaining new.input.remaining bytes
+  pub comes : Comes c count old.state bytes new.input said last new.state
+
+-- how the input ends after this many images: there is no other, or what comes is the last
+pub data EndsImages (c : ImageCommand) (count : ℕ) (old : Progress c) : Said → Progress c → Type 0 where
+  no_image : {rest : InputView} {output : OutputView} → count ≤ MOST_IMAGES
+      → Keeps old.input.remaining rest.remaining → IsAtEnd rest.remaining
+      → EndsImages c count old nothing (progress_at old.state rest output)
+  last_line : {said : Said} {new : Progress c} → Takes c count old said true new → EndsImages c count old said new
+
+-- ---- all of them
+
+-- So many images were taken that others may follow, no read has failed, the line of each was written, in order, and
+-- whether any of them names a refusal.
+pub data AnswersImages (c : ImageCommand) (start : Progress c) : ℕ → Bool → Progress c → Type 0 where
+  none : AnswersImages c start 0 false start
+  another : {count : ℕ} {refused : Bool} {old new : Progress c} (said : Said) → AnswersImages c start count refused old
+      → Takes c count old said false new → new.input.has_failed ≡ old.input.has_failed
+      → Appends old.output.contents new.output.contents said.line
+      → AnswersImages c start (count + 1) (refused || said.refused) new
+
+-- what is said last if a read has failed: that it has, or that there are too many images, whatever comes after them
+abbrev pub IsOfFailedRead : Said → Type 0
+IsOfFailedRead said =
+    (said ≡ refusal_of (pbm_fault_name image_faults.Read)) ⊎ (said ≡ refusal_of (refusal_name TooMany))
+
+-- How a command over images ends: the lines of its input were written, up to its end, and the exit status says whether
+-- any of them names a refusal; or the output has failed at one of them, and a part of it is out. A read that fails is
+-- taken neither for the end nor for what is in an image.
+pub data TellsImages (c : ImageCommand) (start : Progress c) (status : ℕ) (new : Progress c) : Type 0 where
+  ended : {count : ℕ} {refused : Bool} {old : Progress c} (said : Said) → AnswersImages c start count refused old
+      → EndsImages c count old said new → (new.input.has_failed ≡ old.input.has_failed) ⊎ IsOfFailedRead said
+      → Appends old.output.contents new.output.contents said.line
+      → status ≡ (if refused || said.refused then 1 else 0) → TellsImages c start status new
+  stopped : {count : ℕ} {refused last : Bool} {old : Progress c} (said : Said) → AnswersImages c start count refused old
+      → Takes c count old said last new → new.output.has_failed ≡ true
+      → AppendsPart old.output.contents new.output.contents said.line → status ≡ 1 → TellsImages c start status new
+
+-- ---- the images of files
+
+abbrev pub at_image : {c : ImageCommand} → c.State → OutputView → AtImage c
+at_image now output = record { state = now; output = output }
+
+-- How a command ends over a file of images, by the bytes that it gives: as over an input of them; or it was not opened,
+-- and is refused.
+pub data TellsFile (c : ImageCommand) (bytes : Option (List ℕ)) (old : AtImage c) (status : ℕ) (new : AtImage c)
+    : Type 0 where
+  opened : (rest : InputView)
+      → TellsImages c (progress_at old.state (record { remaining = bytes; has_failed = false }) old.output) status
+      (progress_at new.state rest new.output) → TellsFile c bytes old status new
+  not_opened : (fault : InputFault) → new.state ≡ old.state
+      → TellsRefusal (input_fault_name fault) old.output status new.output → TellsFile c bytes old status new
+
+-- nothing is read after that
+abbrev pub has_stopped : (c : ImageCommand) → AtImage c → Bool
+has_stopped c at = at.output.has_failed || c.has_ended at.state
+
+-- How a command ends over files of images: it goes over one after another, until the output has failed or the command
+-- has ended. The status is the greatest.
+pub data TellsFiles (c : ImageCommand) : List (Option (List ℕ)) → AtImage c → ℕ → AtImage c → Type 0 where
+  no_file : {now : AtImage c} → TellsFiles c [] now 0 now
+  last_file : {file : Option (List ℕ)} {later : List (Option (List ℕ))} {old new : AtImage c} {status : ℕ}
+      → TellsFile c file old status new → has_stopped c new ≡ true → TellsFiles c (file ∷ later) old status new
+  next_file : {file : Option (List ℕ)} {later : List (Option (List ℕ))} {old now new : AtImage c} {status others : ℕ}
+      → TellsFile c file old status now → has_stopped c now ≡ false → TellsFiles c later now others new
+      → TellsFiles c (file ∷ later) old (max status others) new
+
+-- How a command over images ends: over the files that it is given, and it reads nothing else; or over its input, if it is
+-- given none.
+pub data TellsInputs (c : ImageCommand) : List (Option (List ℕ)) → Progress c → ℕ → Progress c → Type 0 where
+  of_input : {start new : Progress c} {status : ℕ} → TellsImages c start status new → TellsInputs c [] start status new
+  of_files : {file : Option (List ℕ)} {later : List (Option (List ℕ))} {start new : Progress c} {status : ℕ}
+      → new.input ≡ start.input
+      → TellsFiles c (file ∷ later) (at_image start.state start.output) status (at_image new.state new.output)
+      → TellsInputs c (file ∷ later) start status new
+
+-- ---- changes after which an image would be read
+
+-- What a note says of a refused image: which it is, why it was refused, and how it would be read if it were changed. What
+-- is tried, and what the note says, is this project's own rule.
+
+-- The place, in an image of this width, of the pixel that comes to row r and column c, of which `last` is the last: each
+-- square of pixels is made one pixel, and the image is then mirrored, left to right, and turned clockwise.
+abbrev pub place_before : Cure → ℕ → ℕ → ℕ → ℕ → ℕ
+place_before cure width last r c =
+    let at : ℕ × ℕ = slice_index_or ((r, c) ∷ (last - c, r) ∷ (last - r, last - c) ∷ (c, last - r) ∷ []) cure.turns (r, c) in
+    let column = if cure.mirrored then last - at.1 else at.1 in
+    (at.0 * cure.scale + cure.scale / 2) * width + (column * cure.scale + cure.scale / 2)
+
+-- module i, row by row, of the grid that is inside the quiet zone after the change, and has this side
+abbrev pub module_after : Cure → Picture → ℕ → ℕ → Bool
+module_after cure p side i = xor
+    (slice_index_or p.pixels (place_before cure p.width (side + 1) (i / side + 1) (i % side + 1)) false) cure.inverted
+
+-- after the change the picture has a grid, and it is corrected to a symbol
+pub record IsCure (p : Picture) (cure : Cure) : Type 0 where
+  pub grid : GridView
+  pub square : p.width ≡ p.height
+  pub side : (sizes.side grid.size + 2) * cure.scale ≡ p.width
+  pub modules : let n = sizes.side grid.size in grid.modules ≡ map (module_after cure p n) (range_with_len 0 (n * n))
+  pub read : (symbol : CorrectedView) × IsCorrectedAs grid symbol
+
+-- what a note says of a change
+abbrev pub cure_text : Cure → List ℕ
+cure_text cure =
+    codes "; " ++ ((if cure.inverted then codes "inverted, " else []) ++ ((if cure.mirrored then codes "mirrored, " else [])
+    ++ (slice_index_or ([] ∷ codes "turned right, " ∷ codes "turned round, " ∷ codes "turned left, " ∷ []) cure.turns []
+    ++ (if cure.scale == 1 then codes "it reads" else codes "reduced " ++ (decimal cure.scale ++ codes " times, it reads")))))
+
+-- how a note ends: with nothing, or, if the refusal is of the image itself, with a change after which the image is read
+abbrev pub EndsNote : Bool → Picture → List ℕ → Type 0
+EndsNote is_of_image p ending =
+    (ending ≡ []) ⊎ ((is_of_image ≡ true) × (cure : Cure) × IsCure p cure × (ending ≡ cure_text cure))
+
+-- `relay: image`, its number, the identification of its label, if one is known, the name of its refusal, and the end
+abbrev pub image_note : ℕ → Option ℕ → List ℕ → List ℕ → List ℕ
+image_note number None name ending =
+    codes "relay: image " ++ (decimal number ++ (codes ": " ++ (name ++ (ending ++ 10 ∷ []))))
+image_note number (Some id) name ending = codes "relay: image " ++
+    (decimal number ++ (codes " (" ++ (id_text id ++ (codes "): " ++ (name ++ (ending ++ 10 ∷ []))))))
+
+-- this was noted on the standard error, or it has failed, with a part of it
+abbrev pub NotesImage : ℕ → Option ℕ → List ℕ → List ℕ → OutputView → OutputView → Type 0
+NotesImage number id name ending old new =
+    (put : Result (Unit {0}) WriteFault) × Puts (image_note number id name ending) old put new
+
+-- Nothing was noted of a refused picture, or, if the refusal is of the image itself, a change after which it is read.
+abbrev pub NotesChange : Bool → Picture → ℕ → List ℕ → OutputView → OutputView → Type 0
+NotesChange of_image p number name old new = (new ≡ old)
+    ⊎ ((of_image ≡ true) × (cure : Cure) × IsCure p cure × NotesImage number None name (cure_text cure) old new)

@@ -1,5 +1,3 @@
 pub mod Lines
 pub mod Command
-pub mod EachImage
-pub mod Cure
 pub mod inner

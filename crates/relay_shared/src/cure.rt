@@ -3,7 +3,7 @@
 
 ghost use Rattle.std.specs.Prelude.{◌≡◌, ◌<◌, ◌≤◌, IfOk, IfSome, string_bytes};
 ghost use Rattle.dm_pbm_io.specs.Image.{picture};
-ghost use Rattle.relay_shared.specs.Cure.{cure_text, EndsNote, IsCure, NotesImage, place_before};
+ghost use Rattle.relay_shared.specs.Command.{cure_text, EndsNote, IsCure, NotesImage, place_before};
 
 use crate::lines::id_digits;
 use dm_append_label::FileId;

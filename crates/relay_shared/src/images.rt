@@ -3,7 +3,7 @@
 
 ghost use Rattle.std.specs.Prelude.{◌≡◌, ℕ, List, map, max, true, false, ◌<◌, MatchResult};
 ghost use Rattle.std.specs.Io.KnownBytes.{Consumes, IsAtEnd, Keeps};
-ghost use Rattle.relay_shared.specs.EachImage.{IsAnother, Progress, TellsFile, TellsFiles, TellsImages, TellsInputs, at_image, has_stopped, progress_at};
+ghost use Rattle.relay_shared.specs.Command.{IsAnother, Progress, TellsFile, TellsFiles, TellsImages, TellsInputs, at_image, has_stopped, progress_at};
 ghost use Rattle.relay_shared.specs.declared.images.TheConstants.{MOST_IMAGES};
 ghost use Rattle.relay_shared.specs.inner.Steps.{StopsStep, TakesStep};
 
@@ -49,7 +49,7 @@ fn is_at_end<A: Allocator + Copy, R: Read>(alloc: A, input: &mut Input<R>) -> bo
 
 /// What a command does with each image.
 pub trait OnImages<A: Allocator + Copy> {
-    ghost use Rattle.relay_shared.specs.EachImage.{AnswersPicture, ImageCommand};
+    ghost use Rattle.relay_shared.specs.Command.{AnswersPicture, ImageCommand};
     ghost use Rattle.dm_pbm_io.specs.Image.{picture};
     ghost use Rattle.relay_streams.specs.Streams.{OutputView};
 

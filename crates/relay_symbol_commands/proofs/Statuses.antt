@@ -2,12 +2,11 @@
 use Rattle.std.specs.Prelude.{◌≡◌, ◌⊎◌, ℕ, ◌||◌, if◌then◌else◌, Bool, false, true, List, Option, max}
 use Rattle.std.proofs.Common.{arith, inl, inr, refl}
 use Rattle.relay_streams.specs.Streams.{OutputView, input_fault_name}
-use Rattle.relay_shared.specs.Command.{TellsRefusal}
-use Rattle.relay_shared.specs.EachImage.{AtImage, ImageCommand, Progress, TellsFile, TellsFiles, TellsImages, TellsInputs}
-use Rattle.relay_shared.specs.EachImage.TellsImages.{ended, stopped}
-use Rattle.relay_shared.specs.EachImage.TellsFile.{not_opened, opened}
-use Rattle.relay_shared.specs.EachImage.TellsFiles.{last_file, next_file, no_file}
-use Rattle.relay_shared.specs.EachImage.TellsInputs.{of_input, of_files as of_named}
+use Rattle.relay_shared.specs.Command.{TellsRefusal, AtImage, ImageCommand, Progress, TellsFile, TellsFiles, TellsImages, TellsInputs}
+use Rattle.relay_shared.specs.Command.TellsImages.{ended, stopped}
+use Rattle.relay_shared.specs.Command.TellsFile.{not_opened, opened}
+use Rattle.relay_shared.specs.Command.TellsFiles.{last_file, next_file, no_file}
+use Rattle.relay_shared.specs.Command.TellsInputs.{of_input, of_files as of_named}
 
 abbrev IsStatus : ℕ → Type 0
 IsStatus status = (status ≡ 0) ⊎ (status ≡ 1)

@@ -1,3 +1,1 @@
-pub mod DocumentSymbol
-pub mod Read
-pub mod Refusals
+pub mod Symbols

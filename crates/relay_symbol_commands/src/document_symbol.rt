@@ -4,7 +4,7 @@
 ghost use Rattle.std.specs.Prelude.{◌≡◌, length, IfOk, MatchResult, OnOk, ◌++◌, ◌∷◌, string_bytes, ◌*◌};
 ghost use Rattle.dm_size.specs.Sizes as sizes;
 ghost use Rattle.relay_streams.specs.Streams.{TakesPart};
-ghost use Rattle.relay_symbol_commands.specs.DocumentSymbol.{ReadsSymbol, RefusesSymbol, EndsWords, EndsDraw, words_line};
+ghost use Rattle.relay_symbol_commands.specs.Symbols.{ReadsSymbol, RefusesSymbol, EndsWords, EndsDraw, words_line};
 ghost use Rattle.std.specs.List.{flat_map};
 ghost use Rattle.std.specs.Fmt.{decimal};
 ghost use Rattle.dm_symbol.specs.Correction.{grid_of_words};

@@ -1,10 +1,9 @@
 //! `relay read`: what the symbols in images carry.
 
 ghost use Rattle.std.specs.Prelude.{◌≡◌, ◌++◌, map, string_bytes, IfOk, OnOk, false, MatchResult, ◌⊎◌};
-ghost use Rattle.relay_shared.specs.Cure.{NotesChange};
+ghost use Rattle.relay_shared.specs.Command.{NotesChange};
 ghost use Rattle.relay_shared.specs.Lines.{hexadecimal};
-ghost use Rattle.relay_symbol_commands.specs.Read.{label_line, line_end, HasLine, HasNoHead, HasPictureLine, RefusesGrid, RefusesPicture, EndsRead, is_of_image, read_images};
-ghost use Rattle.relay_symbol_commands.specs.Refusals.{read_refusal_name};
+ghost use Rattle.relay_symbol_commands.specs.Symbols.{label_line, line_end, HasLine, HasNoHead, HasPictureLine, RefusesGrid, RefusesPicture, EndsRead, is_of_image, read_images, read_refusal_name};
 ghost use Rattle.dm_finder_frame.specs.Frame.{GridView};
 ghost use Rattle.dm_pbm_io.specs.Image.{picture};
 ghost use Rattle.dm_symbol.specs.Correction.{IsCorrectedAs};

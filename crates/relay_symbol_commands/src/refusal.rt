@@ -1,8 +1,7 @@
 //! Refusals, as the commands name them: each by the name of its innermost fault.
 
 ghost use Rattle.std.specs.Prelude.{◌≡◌};
-ghost use Rattle.relay_symbol_commands.specs.Refusals.{read_refusal_name, symbol_refusal_name};
-ghost use Rattle.relay_symbol_commands.specs.Read.{is_of_image};
+ghost use Rattle.relay_symbol_commands.specs.Symbols.{read_refusal_name, symbol_refusal_name, is_of_image};
 ghost use Rattle.relay_symbol_commands.specs.declared.refusal.ReadRefusal.TheVariants as read_refusals;
 ghost use Rattle.relay_symbol_commands.specs.declared.refusal.SymbolRefusal.TheVariants as symbol_refusals;
 

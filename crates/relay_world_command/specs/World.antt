@@ -5,13 +5,12 @@ use Rattle.std.specs.List.{list_any, flat_map}
 use Rattle.hex.specs.Hex.{encode_lower}
 use Rattle.dm_print_ledger.specs.Verdicts.{print_fault_name, give_fault_name, take_fault_name, open_fault_name}
 use Rattle.dm_print_ledger.specs.Ledger.{ticket_bytes}
-use Rattle.dm_assembly_desk.specs.Faults.{scan_fault_name, ask_fault_name, forget_fault_name, export_fault_name, import_fault_name, desk_fault_name}
+use Rattle.dm_assembly_desk.specs.Desk.{scan_fault_name, ask_fault_name, forget_fault_name, export_fault_name, import_fault_name, desk_fault_name, kind_name}
 use Rattle.dm_event_history.specs.declared.reply.Reply.{Reply}
 use Rattle.dm_event_history.specs.declared.reply.Reply.TheVariants.{Printed, PrintRefused, Scanned, ScanRefused, Document, AskRefused, Forgotten, ForgetRefused, Given, GiveRefused, Taken, TakeRefused, Exported, ExportRefused, Imported, ImportRefused, Restarted, PrinterRefused, DeskRefused, Stopped, Down, NoSuch, Memory}
 use Rattle.dm_event_world.specs.declared.answers.Answer.{Answer}
 use Rattle.dm_event_world.specs.declared.answers.Answer.TheVariants as answer_kinds
 use Rattle.relay_streams.specs.Streams.{refused_line, input_fault_name, InputView, OutputView, ReadsFirst}
-use Rattle.dm_assembly_desk.specs.Adding.{kind_name}
 use Rattle.relay_shared.specs.Lines.{accepted_line, imported_line, id_text, word_text, hexadecimal}
 use Rattle.dm_event_world.specs.Shows.{IsWatched, HasWorldFault, world_fault_name}
 use Rattle.dm_event_world.specs.declared.fault.WorldFault.{WorldFault}

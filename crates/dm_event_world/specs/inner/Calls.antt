@@ -10,7 +10,7 @@ use Rattle.dm_assembly_desk.specs.Documents.{IsEntry}
 use Rattle.dm_event_history.specs.declared.reply.Reply.{Reply}
 use Rattle.dm_event_history.specs.declared.reply.Reply.TheVariants.{Memory, Stopped, PrintRefused, GiveRefused, TakeRefused, ScanRefused, ForgetRefused, ImportRefused, Printed, Given, Taken, PrinterRefused}
 use Rattle.dm_event_history.specs.Relay.{Actor, stored_of, Goods, Export}
-use Rattle.dm_event_history.specs.Calls.{Ending, Restarts}
+use Rattle.dm_event_history.specs.Steps.{Ending, Restarts}
 use Rattle.dm_event_world.specs.declared.actor.LeftLabel.{LeftLabel}
 use Rattle.dm_event_world.specs.declared.actor.LeftExport.{LeftExport}
 use Rattle.dm_event_world.specs.Shows.{left_label, left_export, ShowsPrinter}
@@ -20,7 +20,7 @@ use Rattle.dm_print_ledger.specs.declared.fault.PrintFault.{PrintFault}
 use Rattle.dm_print_ledger.specs.declared.fault.GiveFault.{GiveFault}
 use Rattle.dm_print_ledger.specs.declared.fault.TakeFault.{TakeFault}
 use Rattle.dm_print_ledger.specs.declared.range.Range.{Range}
-use Rattle.dm_print_ledger.specs.Creating.{opening}
+use Rattle.dm_print_ledger.specs.Verdicts.{opening}
 use Rattle.dm_event_world.specs.declared.actor.PrinterActor.{PrinterActor}
 use Rattle.dm_event_world.specs.declared.actor.PrinterActor.TheVariants.{Running, Down}
 use Rattle.dm_print_ledger.specs.declared.fault.PrintFault.TheVariants as print_fault

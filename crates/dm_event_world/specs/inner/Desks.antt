@@ -12,7 +12,7 @@ use Rattle.dm_assembly_desk.specs.declared.fault.ForgetFault.{ForgetFault}
 use Rattle.dm_assembly_desk.specs.declared.fault.ForgetFault.TheVariants as forget_fault
 use Rattle.dm_assembly_desk.specs.declared.fault.ImportFault.{ImportFault}
 use Rattle.dm_assembly_desk.specs.declared.fault.ImportFault.TheVariants as import_fault
-use Rattle.dm_assembly_desk.specs.Adding.{AcceptsGrid, Forgets, ImportsBytes}
+use Rattle.dm_assembly_desk.specs.Desk.{AcceptsGrid, Forgets, ImportsBytes}
 use Rattle.dm_assembly_desk.specs.Documents.{DeskView, IsInOrder}
 use Rattle.dm_event_history.specs.Relay as actor_states
 use Rattle.dm_event_world.specs.declared.actor.DeskActor.{DeskActor}

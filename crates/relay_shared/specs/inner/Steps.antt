@@ -2,7 +2,7 @@
 use Rattle.std.specs.Prelude.{◌≡◌, ◌⊎◌, ℕ, true, false, Bool}
 use Rattle.std.specs.Io.KnownBytes.{Appends}
 use Rattle.relay_streams.specs.Streams.{AppendsPart}
-use Rattle.relay_shared.specs.EachImage.{EndsImages, ImageCommand, IsOfFailedRead, Progress, Said, Takes}
+use Rattle.relay_shared.specs.Command.{EndsImages, ImageCommand, IsOfFailedRead, Progress, Said, Takes}
 use Rattle.relay_shared.specs.declared.images.Answered.{Answered}
 
 -- the next line was written, or the input has ended; if a read has failed, the line is the last, and says so

@@ -3,7 +3,7 @@ use Rattle.std.specs.Prelude.{IsTrue, option_map}
 use Rattle.std.specs.FinMap.{keys as map_keys, entries as map_entries}
 use Rattle.std.proofs.lemmas.Result.{err_from_is_err_and}
 use Rattle.dm_store.specs.Saved.{Saved, Replaces, SavedSet, MayLackMemory}
-use Rattle.dm_assembly_desk.specs.Opening.{Moves, early}
+use Rattle.dm_assembly_desk.specs.Desk.{Moves, early}
 use Rattle.dm_assembly_desk.specs.inner.Reading.{lacking, WritesAll}
 use Rattle.dm_assembly_desk.specs.declared.fault.MoveFault.{MoveFault}
 use Rattle.dm_assembly_desk.proofs.JointContents.{all_of_them}

@@ -1,7 +1,7 @@
 use Rattle.std.proofs.Common.{Ok, Err, Vec, ℕ, refl}
 use Rattle.std.specs.FinMap as finite
-use Rattle.dm_assembly_desk.specs.Adding.{ask_verdict}
-use Rattle.dm_event_history.specs.Calls.{Looks, AskTells}
+use Rattle.dm_assembly_desk.specs.Desk.{ask_verdict}
+use Rattle.dm_event_history.specs.Steps.{Looks, AskTells}
 use Rattle.dm_event_world.proofs.DeskLooks.{asked, down_answers, given_so, refused_so}
 use Rattle.dm_event_world.proofs.desk_act.ask.Goals as goal
 

@@ -1,6 +1,6 @@
 use Rattle.std.proofs.Common.{refl, sym, ◌∙◌}
-use Rattle.dm_assembly_desk.specs.Adding.{Forgets}
-use Rattle.dm_event_history.specs.Calls.{Calls, ForgetComes, forget_faults, forget_reply}
+use Rattle.dm_assembly_desk.specs.Desk.{Forgets}
+use Rattle.dm_event_history.specs.Steps.{Calls, ForgetComes, forget_faults, forget_reply}
 use Rattle.dm_event_world.proofs.DeskCalls.{down_ends, forget_carried, made_ends, stopped_ends}
 use Rattle.dm_event_world.proofs.desk_act.forget.Goals as goal
 

@@ -1,6 +1,6 @@
 use Rattle.std.proofs.Common.{refl, sym, ◌∙◌}
-use Rattle.dm_assembly_desk.specs.Adding.{ImportsBytes}
-use Rattle.dm_event_history.specs.Calls.{Calls, ImportComes, import_faults, import_reply}
+use Rattle.dm_assembly_desk.specs.Desk.{ImportsBytes}
+use Rattle.dm_event_history.specs.Steps.{Calls, ImportComes, import_faults, import_reply}
 use Rattle.dm_event_world.proofs.DeskCalls.{down_ends, import_carried, made_ends, stopped_ends}
 use Rattle.dm_event_world.proofs.desk_act.import.Goals as goal
 

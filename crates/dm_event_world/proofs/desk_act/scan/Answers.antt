@@ -1,7 +1,7 @@
 use Rattle.std.proofs.Common.{refl, sym, ◌∙◌, []}
 use Rattle.dm_finder_frame.specs.Frame.{flipped}
-use Rattle.dm_assembly_desk.specs.Adding.{AcceptsGrid}
-use Rattle.dm_event_history.specs.Calls.{Calls, MayLackFirst, ScanComes, scan_faults, scan_reply}
+use Rattle.dm_assembly_desk.specs.Desk.{AcceptsGrid}
+use Rattle.dm_event_history.specs.Steps.{Calls, MayLackFirst, ScanComes, scan_faults, scan_reply}
 use Rattle.dm_event_world.proofs.DeskCalls.{down_ends, lacking, made_ends, not_lacking, scan_of_flipped, stopped_ends}
 use Rattle.dm_event_world.proofs.desk_act.scan.Goals as goal
 

@@ -1,5 +1,5 @@
 use Rattle.std.proofs.Common.{[], length, refl, sym, ◌∙◌}
-use Rattle.dm_event_history.specs.Calls.{Calls, MayLackFirst, GiveComes, give_faults}
+use Rattle.dm_event_history.specs.Steps.{Calls, MayLackFirst, GiveComes, give_faults}
 use Rattle.dm_event_world.proofs.Endings.{not_first}
 use Rattle.dm_event_world.proofs.PrinterEvents.{down_answers, give_ends, lacks_its, stopped_first}
 use Rattle.dm_event_world.proofs.printer_act.give.Goals as goal

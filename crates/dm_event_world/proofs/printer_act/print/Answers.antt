@@ -1,5 +1,5 @@
 use Rattle.std.proofs.Common.{[], length, refl, sym, ◌∙◌}
-use Rattle.dm_event_history.specs.Calls.{Calls, MayLackFirst, PrintComes, print_faults}
+use Rattle.dm_event_history.specs.Steps.{Calls, MayLackFirst, PrintComes, print_faults}
 use Rattle.dm_event_world.proofs.Endings.{not_first}
 use Rattle.dm_event_world.proofs.PrinterEvents.{down_answers, lacks_its, most_sixteen, print_ends, stopped_first}
 use Rattle.dm_event_world.proofs.printer_act.print.Goals as goal

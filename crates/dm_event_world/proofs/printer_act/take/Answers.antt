@@ -1,5 +1,5 @@
 use Rattle.std.proofs.Common.{[], refl, sym, ◌∙◌}
-use Rattle.dm_event_history.specs.Calls.{Calls, TakeComes, take_faults}
+use Rattle.dm_event_history.specs.Steps.{Calls, TakeComes, take_faults}
 use Rattle.dm_event_world.proofs.PrinterEvents.{down_answers, stopped_first, take_ends}
 use Rattle.dm_event_world.proofs.printer_act.take.Goals as goal
 

@@ -1,5 +1,5 @@
 use Rattle.std.proofs.Common.{refl, sym}
-use Rattle.relay_desk_commands.specs.Copy.HasNoCopy.{not_held, incomplete, too_long, no_memory}
+use Rattle.relay_desk_commands.specs.Desks.HasNoCopy.{not_held, incomplete, too_long, no_memory}
 use Rattle.relay_desk_commands.proofs.CopiedPages.{lent_page}
 use Rattle.relay_desk_commands.proofs.copy.copy_of.Goals as goal
 

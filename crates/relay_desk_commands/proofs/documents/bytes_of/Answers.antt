@@ -1,5 +1,5 @@
 use Rattle.std.specs.FinMap as map
-use Rattle.dm_assembly_desk.specs.Adding.{Asks, ask_verdict, Exports, export_verdict}
+use Rattle.dm_assembly_desk.specs.Desk.{Asks, ask_verdict, Exports, export_verdict}
 use Rattle.dm_assembly_desk.specs.declared.fault.AskFault.TheVariants as asks
 use Rattle.dm_assembly_desk.specs.declared.fault.ExportFault.TheVariants as exports
 use Rattle.relay_desk_commands.proofs.Asked.{gives, named}

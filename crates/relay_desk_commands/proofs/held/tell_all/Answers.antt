@@ -1,15 +1,15 @@
 use mir.Val.{bool_byte}
 use Rattle.std.proofs.Common.{◌≡◌, ◌++◌, ◌∙◌, ℕ, List, Result, Ok, Err, true, ap, arith, refl, sym}
 use Rattle.std.specs.Prelude.{MatchResult, is_err}
-use Rattle.relay_desk_commands.specs.Held.{joint_line, seen_line}
-use Rattle.relay_desk_commands.specs.Held.Lists.{begun, further}
+use Rattle.relay_desk_commands.specs.Desks.{joint_line, seen_line}
+use Rattle.relay_desk_commands.specs.Desks.Lists.{begun, further}
 use Rattle.relay_shared.proofs.Telling.{told, told_else}
 use Rattle.relay_shared.specs.Command.{Puts}
 use Rattle.relay_streams.specs.Streams.{AppendsPart, OutputView}
 use Rattle.relay_streams.specs.declared.fault.WriteFault.{WriteFault}
 use Rattle.relay_desk_commands.proofs.held.tell_all.Goals.{then-unsound, else-unsound}
-use Rattle.relay_desk_commands.specs.Held.Says.{all, no_keys}
-use Rattle.relay_desk_commands.specs.Held.TellsHeld.{cut_off, whole}
+use Rattle.relay_desk_commands.specs.Desks.Says.{all, no_keys}
+use Rattle.relay_desk_commands.specs.Desks.TellsHeld.{cut_off, whole}
 use Rattle.relay_desk_commands.proofs.held.tell_all.Goals as goal
 
 pub loop-number-init : goal.loop-number-init

@@ -1,7 +1,7 @@
 use Rattle.std.specs.Prelude.{◌≡◌, ◌≤◌, List, ℕ, IfSome}
-use Rattle.dm_assembly_desk.specs.Opening.{IsFirstFrom}
+use Rattle.dm_assembly_desk.specs.Desk.{IsFirstFrom}
 use Rattle.relay_shared.specs.Command.{Puts}
-use Rattle.relay_desk_commands.specs.Held.{Lists, documents_in}
+use Rattle.relay_desk_commands.specs.Desks.{Lists, documents_in}
 use Rattle.relay_desk_commands.proofs.held.tell_all.Given as goal
 
 -- the lines of the numbers before are written, as far as the output took them, and `first` is the first document of the

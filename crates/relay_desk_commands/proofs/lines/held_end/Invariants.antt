@@ -1,5 +1,5 @@
 use Rattle.std.specs.Prelude.{◌≡◌, ◌≤◌, ◌*◌, ◌+◌, ◌++◌, length}
-use Rattle.relay_desk_commands.specs.Lines.{held_word, missing_pages}
+use Rattle.relay_desk_commands.specs.Desks.{held_word, missing_pages}
 use Rattle.relay_desk_commands.proofs.lines.held_end.Given as goal
 
 -- the pages before are written, of which each takes four bytes at most

@@ -1,4 +1,4 @@
-use Rattle.relay_printer_commands.specs.Lines.{took_line}
+use Rattle.relay_printer_commands.specs.Printers.{took_line}
 use Rattle.relay_shared.proofs.Writing.{puts_before}
 use Rattle.relay_printer_commands.proofs.left.put_givers.Goals as goal
 

@@ -1,4 +1,4 @@
-use Rattle.relay_printer_commands.specs.Lines.{free_line}
+use Rattle.relay_printer_commands.specs.Printers.{free_line}
 use Rattle.relay_shared.proofs.Writing.{puts_before}
 use Rattle.relay_printer_commands.proofs.left.put_ranges.Goals as goal
 

@@ -1,7 +1,7 @@
 -- The groups are pieces of the digits, and the last is what is left of them.
 use Rattle.std.proofs.Common.{◌≡◌, append_assoc, arith, take, drop}
 use Rattle.std.proofs.lemmas.List.{drop-drop, length-drop, take_all}
-use Rattle.relay_printer_commands.specs.Lines.{grouped}
+use Rattle.relay_printer_commands.specs.Printers.{grouped}
 use Rattle.relay_printer_commands.proofs.lines.put_check.Goals as goal
 
 pub returns : goal.returns

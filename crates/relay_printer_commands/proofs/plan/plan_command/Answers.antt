@@ -1,5 +1,5 @@
 use Rattle.std.proofs.Common.{◌≡◌, Err, ap, length, refl, rules}
-use Rattle.relay_printer_commands.specs.Print.EndsPlan.{planned, too_long, not_read}
+use Rattle.relay_printer_commands.specs.Printers.EndsPlan.{planned, too_long, not_read}
 use Rattle.relay_printer_commands.proofs.PlanSteps.{no_plan, some_planned}
 use Rattle.relay_shared.proofs.Telling.{told}
 use Rattle.relay_printer_commands.proofs.plan.plan_command.Goals as goal

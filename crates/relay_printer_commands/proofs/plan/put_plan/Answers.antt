@@ -1,4 +1,4 @@
-use Rattle.relay_printer_commands.specs.Lines.{side_line}
+use Rattle.relay_printer_commands.specs.Printers.{side_line}
 use Rattle.relay_shared.proofs.Writing.{puts_before}
 use Rattle.relay_printer_commands.proofs.plan.put_plan.Goals as goal
 

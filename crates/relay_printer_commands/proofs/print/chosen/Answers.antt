@@ -2,7 +2,7 @@ use Rattle.std.proofs.Common.{◌≡◌, ◌∙◌, inl, inr, refl, subst, sym, 
 use Rattle.std.proofs.lemmas.Bool.{cases_lt, false≢true}
 use Rattle.dm_size.specs.Sizes.{side}
 use Rattle.dm_size.proofs.Sound.{sound}
-use Rattle.relay_printer_commands.specs.Print.{Suits}
+use Rattle.relay_printer_commands.specs.Printers.{Suits}
 use Rattle.relay_printer_commands.proofs.Sizes.{same_size}
 use Rattle.relay_printer_commands.proofs.print.chosen.Goals.{in-Some+else-suits, in_default}
 use Rattle.relay_printer_commands.proofs.print.chosen.Goals as goal

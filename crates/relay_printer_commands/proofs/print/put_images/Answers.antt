@@ -10,8 +10,8 @@ use Rattle.dm_pbm_io.specs.Image.{p4, written}
 use Rattle.dm_print_ledger.specs.Ledger.{JobView}
 use Rattle.relay_streams.specs.Streams.{AppendsPart}
 use Rattle.relay_streams.proofs.Parts.{part_after, part_more}
-use Rattle.relay_printer_commands.specs.Print.{images_of}
-use Rattle.relay_printer_commands.specs.Print.LosesImages.{memory, write}
+use Rattle.relay_printer_commands.specs.Printers.{images_of}
+use Rattle.relay_printer_commands.specs.Printers.LosesImages.{memory, write}
 use Rattle.relay_printer_commands.proofs.print.put_images.Goals as goal
 
 -- the labels that were taken, the next one, and the others

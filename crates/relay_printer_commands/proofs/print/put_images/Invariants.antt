@@ -1,7 +1,7 @@
 use Rattle.std.proofs.Common.{◌≡◌, List, ◌++◌, length}
 use Rattle.std.specs.Io.KnownBytes.{Appends}
 use Rattle.dm_finder_frame.specs.Frame.{GridView}
-use Rattle.relay_printer_commands.specs.Print.{images_of}
+use Rattle.relay_printer_commands.specs.Printers.{images_of}
 use Rattle.relay_printer_commands.proofs.print.put_images.Given as goal
 
 -- the images of the labels that were taken are out

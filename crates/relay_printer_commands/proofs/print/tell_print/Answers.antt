@@ -1,5 +1,5 @@
 use Rattle.std.proofs.Common.{refl}
-use Rattle.relay_printer_commands.specs.Print.PrintsLabels.{lost}
+use Rattle.relay_printer_commands.specs.Printers.PrintsLabels.{lost}
 use Rattle.relay_printer_commands.proofs.print.tell_print.Goals as goal
 
 pub returns-in-Err-put_images-clause-told : goal.returns-in-Err-put_images-clause-told

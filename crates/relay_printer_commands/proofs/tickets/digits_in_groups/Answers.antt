@@ -1,6 +1,6 @@
 use Rattle.std.proofs.Common.{◌+◌, ◌/◌, get_or, rules}
 use Rattle.std.proofs.lemmas.List.FromFn.{fill_by_all}
-use Rattle.relay_printer_commands.specs.Tickets.{digits_in_groups}
+use Rattle.relay_printer_commands.specs.Printers.{digits_in_groups}
 use Rattle.relay_printer_commands.proofs.tickets.digits_in_groups.Goals as goal
 
 pub returns : goal.returns

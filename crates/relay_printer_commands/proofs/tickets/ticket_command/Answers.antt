@@ -1,5 +1,5 @@
 use Rattle.std.proofs.Common.{refl}
-use Rattle.relay_printer_commands.specs.Tickets.EndsTicket.{shown, no_ticket}
+use Rattle.relay_printer_commands.specs.Printers.EndsTicket.{shown, no_ticket}
 use Rattle.relay_shared.proofs.Telling.{told}
 use Rattle.relay_printer_commands.proofs.tickets.ticket_command.Goals as goal
 

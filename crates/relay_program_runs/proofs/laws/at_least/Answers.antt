@@ -7,7 +7,7 @@ use Rattle.dm_print_ledger.specs.Ledger.{JobView}
 use Rattle.relay_streams.specs.Streams.{AppendsPart, InputView}
 use Rattle.relay_shared.specs.Command.{ReadsDocument}
 use Rattle.relay_desk_commands.specs.Desks.{IsTextOfId}
-use Rattle.relay.specs.Commands.{path_of}
+use Rattle.relay.specs.Program.{path_of}
 use Rattle.relay_program_runs.specs.Law.{IsFirstOfItsId, LetsOut, Prints, Ran, SomeRan, TakesPrinted, WritesPrinted, passed, writes, writes_nothing}
 use Rattle.relay_program_runs.proofs.laws.at_least.Goals as goal
 

@@ -2,7 +2,7 @@ use Rattle.std.proofs.Common.{◌≡◌, refl, sym, ap, subst, ◌∙◌, ℕ, L
 use Rattle.relay_streams.specs.Streams.{OutputView}
 use Rattle.relay_shared.specs.Command.{StreamsView}
 use Rattle.relay_desk_commands.specs.Desks.{desk_at}
-use Rattle.relay.specs.Commands.{Does}
+use Rattle.relay.specs.Program.{Does}
 use Rattle.relay_program_runs.specs.Worked.{reading}
 use Rattle.relay_program_runs.proofs.worked.done_within.Goals as goal
 

@@ -4,7 +4,7 @@ use Rattle.std.specs.Bool.{xor}
 use Rattle.std.specs.Option.{unwrap_or}
 use Rattle.std.proofs.lemmas.List.FromFn.{length-map-range_with_len}
 use Rattle.dm_pbm_io.specs.Image.{picture}
-use Rattle.relay_shared.specs.Cure.{module_after}
+use Rattle.relay_shared.specs.Command.{module_after}
 use Rattle.relay_shared.proofs.ChangedImages.{cured, module_more}
 use Rattle.relay_shared.proofs.cure.symbol_after.Goals as goal
 

@@ -1,5 +1,5 @@
 use Rattle.std.proofs.Common.{◌≡◌, false}
-use Rattle.relay_shared.specs.EachImage.{at_image}
+use Rattle.relay_shared.specs.Command.{at_image}
 use Rattle.relay_shared.proofs.Files.{Before}
 use Rattle.relay_shared.proofs.images.each_file.Given as goal
 

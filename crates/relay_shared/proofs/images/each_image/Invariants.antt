@@ -1,5 +1,5 @@
 use Rattle.std.proofs.Common.{◌≡◌, false}
-use Rattle.relay_shared.specs.EachImage.{AnswersImages}
+use Rattle.relay_shared.specs.Command.{AnswersImages}
 use Rattle.relay_shared.proofs.images.each_image.Given as goal
 
 abbrev pub invariant-loop-count : goal.invariant-loop-count

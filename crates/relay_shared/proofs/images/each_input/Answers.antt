@@ -1,7 +1,7 @@
 use Rattle.std.proofs.Common.{◌≡◌, [], arith}
 use Rattle.std.proofs.lemmas.List.{nil_from_length}
 use Rattle.relay_shared.proofs.Files.{over_files}
-use Rattle.relay_shared.specs.EachImage.TellsInputs.{of_input}
+use Rattle.relay_shared.specs.Command.TellsInputs.{of_input}
 use Rattle.relay_shared.proofs.images.each_input.Goals as goal
 
 pub returns-then-is_empty-clause-told : goal.returns-then-is_empty-clause-told

@@ -5,8 +5,8 @@ use Rattle.dm_pbm_io.specs.Image.{picture}
 use Rattle.dm_pbm_io.specs.FaultNames.{pbm_fault_name}
 use Rattle.dm_pbm_io.specs.declared.fault.PbmFault.{PbmFault}
 use Rattle.dm_pbm_io.specs.declared.fault.PbmFault.TheVariants as image_faults
-use Rattle.relay_shared.specs.EachImage.{IsOfFailedRead, refusal_of}
-use Rattle.relay_shared.specs.EachImage.Comes.{image, unread}
+use Rattle.relay_shared.specs.Command.{IsOfFailedRead, refusal_of}
+use Rattle.relay_shared.specs.Command.Comes.{image, unread}
 use Rattle.relay_shared.proofs.ImageLoop.{at_end, took}
 use Rattle.relay_shared.proofs.images.next_image.Goals as goal
 

@@ -3,7 +3,7 @@ use Rattle.dm_pbm_io.specs.Image.{Picture, picture, written}
 use Rattle.relay_shared.specs.Command.{Puts}
 use Rattle.relay_shared.proofs.Writing.{puts}
 use Rattle.relay_shared.proofs.Telling.{told_bytes}
-use Rattle.relay_symbol_commands.specs.DocumentSymbol.EndsDraw.{drawn, refused}
+use Rattle.relay_symbol_commands.specs.Symbols.EndsDraw.{drawn, refused}
 use Rattle.relay_symbol_commands.specs.declared.refusal.SymbolRefusal.TheVariants.{Memory}
 use Rattle.relay_symbol_commands.proofs.document_symbol.draw_command.Goals as goal
 

@@ -3,8 +3,8 @@ use Rattle.std.proofs.lemmas.Result.{err_from_is_err_and}
 use Rattle.dm_size.specs.declared.size.Size.{Size}
 use Rattle.dm_symbol.specs.Correction.{data_of}
 use Rattle.dm_append_label.specs.Opening.{ReadsPage}
-use Rattle.relay_symbol_commands.specs.Read.HasLine.{label}
-use Rattle.relay_symbol_commands.specs.Read.RefusesGrid.{memory, page, symbol}
+use Rattle.relay_symbol_commands.specs.Symbols.HasLine.{label}
+use Rattle.relay_symbol_commands.specs.Symbols.RefusesGrid.{memory, page, symbol}
 use Rattle.relay_symbol_commands.proofs.read.line_of_grid.Goals as goal
 
 pub returns-in-Err : goal.returns-in-Err

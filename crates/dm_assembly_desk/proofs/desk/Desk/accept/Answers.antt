@@ -1,6 +1,6 @@
 use Rattle.std.proofs.Common.{subst}
 use Rattle.dm_append_label.specs.Labels.{PageView}
-use Rattle.dm_assembly_desk.specs.Adding.{lone, Adds}
+use Rattle.dm_assembly_desk.specs.Desk.{lone, Adds}
 use Rattle.dm_assembly_desk.specs.Documents.{DeskView}
 use Rattle.dm_assembly_desk.proofs.AddLaws.{adds_kept}
 use Rattle.dm_assembly_desk.proofs.desk.Desk.accept.Goals as goal

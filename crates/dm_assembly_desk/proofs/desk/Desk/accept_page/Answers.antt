@@ -2,7 +2,7 @@ use Rattle.std.proofs.Common.{rules, ◌≡◌, ◌∙◌, ℕ, ◌-◌, ◌<◌
 use Rattle.std.specs.Prelude.{Result, slice_set}
 use Rattle.dm_append_label.specs.Labels.{PageView}
 use Rattle.dm_assembly_desk.specs.Documents.{Pages, lent_bytes, IsEntry, DeskView}
-use Rattle.dm_assembly_desk.specs.Adding.{Adds, lone}
+use Rattle.dm_assembly_desk.specs.Desk.{Adds, lone}
 use Rattle.dm_assembly_desk.specs.declared.adding.AddFault.{AddFault}
 use Rattle.dm_assembly_desk.specs.declared.reply.Kind.{Kind}
 use Rattle.dm_assembly_desk.specs.declared.reply.Accepted.{Accepted}

@@ -5,8 +5,7 @@ use Rattle.dm_store.specs.Saved.{Refused, outcome_of}
 use Rattle.dm_store.specs.declared.store.StoreFault.{StoreFault}
 use Rattle.dm_store.specs.declared.store.StoreFault.TheVariants as replacing
 use Rattle.dm_assembly_desk.specs.Documents.{Pages, lent_bytes, IsEntry, file, Documents, DeskView}
-use Rattle.dm_assembly_desk.specs.Faults.{keep_fault}
-use Rattle.dm_assembly_desk.specs.Adding.{JudgedAs, answer_by, added_to, kind_of, pages_with, reply_of, Adds}
+use Rattle.dm_assembly_desk.specs.Desk.{keep_fault, JudgedAs, answer_by, added_to, kind_of, pages_with, reply_of, Adds}
 use Rattle.dm_assembly_desk.specs.declared.reply.Kind.{Kind}
 use Rattle.dm_assembly_desk.specs.declared.reply.Imported.{Imported}
 use Rattle.dm_assembly_desk.specs.declared.adding.AddFault.{AddFault}

@@ -5,7 +5,7 @@ use Rattle.dm_store.specs.Saved.{Refused, SavedSet, RemovesKey, outcome_of}
 use Rattle.dm_store.specs.declared.store.StoreFault.{StoreFault}
 use Rattle.dm_store.specs.declared.store.StoreFault.TheVariants as removing
 use Rattle.dm_assembly_desk.specs.Documents.{Documents, DeskView, IsInOrder}
-use Rattle.dm_assembly_desk.specs.Adding.{answer_by, Ends, Forgets}
+use Rattle.dm_assembly_desk.specs.Desk.{answer_by, Ends, Forgets}
 use Rattle.dm_assembly_desk.specs.declared.fault.ForgetFault.{ForgetFault}
 use Rattle.dm_assembly_desk.specs.declared.fault.ForgetFault.TheVariants as forgets
 use Rattle.dm_assembly_desk.proofs.DeskViews.{desk_of}

@@ -3,7 +3,7 @@ use Rattle.std.specs.FinMap.{get, insert, len}
 use Rattle.dm_store.specs.Saved.{Done, Faulted, Refused, SavedSet, SavesKey}
 use Rattle.dm_store.specs.declared.store.StoreFault.TheVariants as replacing
 use Rattle.dm_assembly_desk.specs.Documents.{file, Documents, DeskView, IsInOrder}
-use Rattle.dm_assembly_desk.specs.Adding.{Ends}
+use Rattle.dm_assembly_desk.specs.Desk.{Ends}
 use Rattle.dm_assembly_desk.proofs.DeskViews.{desk_of}
 use Rattle.dm_assembly_desk.proofs.Saving.{held_ends, held_order}
 use Rattle.dm_assembly_desk.proofs.desk.Desk.hold.Goals as goal

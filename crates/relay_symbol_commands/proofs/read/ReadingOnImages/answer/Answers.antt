@@ -1,6 +1,6 @@
 use Rattle.std.proofs.Common.{refl}
 use Rattle.std.proofs.lemmas.Result.{err_from_is_err_and}
-use Rattle.relay_symbol_commands.specs.Read.PrintsPicture.{read, refused}
+use Rattle.relay_symbol_commands.specs.Symbols.PrintsPicture.{read, refused}
 use Rattle.relay_symbol_commands.proofs.read.ReadingOnImages.answer.Goals as goal
 
 pub returns-in_ok-put_refusal-in-Err-clause-answer : goal.returns-in_ok-put_refusal-in-Err-clause-answer
