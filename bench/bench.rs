@@ -43,7 +43,7 @@ impl fmt::Display for Work {
         match (self.kind, self.wrong) {
             (Kind::Make, _) => Ok(()),
             (_, 0) => write!(f, ", clean"),
-            (_, wrong) => write!(f, ", {wrong} wrong words a block"),
+            (_, wrong) => write!(f, ", {wrong} wrong codewords a block"),
         }
     }
 }
