@@ -21,7 +21,8 @@ use Rattle.relay.specs.declared.locked.Found.{Found}
 use Rattle.std.specs.Io.KnownBytes.{Appends, Keeps}
 use Rattle.dm_store.specs.Saved.{Replaces, Saved, SavedSet}
 use Rattle.dm_store.specs.declared.store.StoreFault.{StoreFault}
-use Rattle.relay_line.specs.Line.{HasStatus, IsFound, IsNamed}
+use Rattle.relay_line.specs.Line.{HasStatus, images_of, IsFound, IsNamed, saved_path}
+use Rattle.relay_line.specs.declared.line.CommandLine.{CommandLine}
 use Rattle.relay_line.specs.declared.fault.LineFault.{LineFault}
 use Rattle.relay_line.specs.declared.fault.LineFault.TheVariants.{Line, Memory}
 use Rattle.relay_streams.specs.declared.fault.WriteFault.TheVariants.{Write}
@@ -132,7 +133,7 @@ streams_over standard = record {
 abbrev pub ShowsPart : Option (List ℕ) → Option (List ℕ) → List ℕ → Type 0
 ShowsPart old out text = (taken : Option (List ℕ)) × AppendsPart old taken text × IsPartOut taken out
 
--- the line of a refusal was told to a stream, of which its first bytes are out
+-- the line of a refusal was written to a stream, and its first bytes are out
 abbrev pub TellsOut : List ℕ → Option (List ℕ) → ℕ → Option (List ℕ) → Type 0
 TellsOut name old status new = (told : OutputView)
     × TellsRefusal name (record { contents = old; has_failed = false }) status told × IsPartOut told.contents new
@@ -143,7 +144,7 @@ Notes old new = (new ≡ old) ⊎ ((note : List ℕ) × ShowsPart old new note)
 
 -- What a command has written is out, and its status is the program's. Or the output has refused a write, and the first
 -- bytes of what the command has written are out: either the status is the command's own, where the program need not say
--- so; or the standard error is told, and the status is 1. Of what is told on the standard error the first bytes are out.
+-- so; or it says so on the standard error, with the status 1. Of what is written there the first bytes are out.
 pub data LetsOut (says : Bool) (wrote : Option (List ℕ)) (told : OutputView) (ended status : ℕ)
     (out errors : Option (List ℕ)) : Type 0 where
   lets_all_out : Keeps wrote out → status ≡ ended → IsPartOut told.contents errors → LetsOut says wrote told ended status out errors
@@ -220,7 +221,7 @@ abbrev pub save_fault_name : StoreFault → List ℕ
 save_fault_name faults.Device = codes "Save"
 save_fault_name faults.Memory = codes "Memory"
 
--- The output of a command is saved, or not, and the standard error is told why not.
+-- The output of a command is saved; or it is not, and the line of a refusal goes to the standard error.
 abbrev pub TellsSave : Result (Unit {0}) StoreFault → Option (List ℕ) → ℕ → Option (List ℕ) → Type 0
 TellsSave (Ok _) old status new = (new ≡ old) × (status ≡ 0)
 TellsSave (Err fault) old status new =
@@ -247,19 +248,21 @@ pub record DoesAndSaves (A : Type 0) (command : Command) (path : List ℕ) (old 
   pub output : done.standard.output ≡ old.standard.output
   pub saves : ((ended ≢ 0) × (status ≡ ended) × (new ≡ done)) ⊎ ((ended ≡ 0) × SavesOutput path bytes done status new)
 
--- What a command does for a line, which may name files of images, or a file that the output is saved as.
-pub data DoesFor (A : Type 0) (images : List ℕ → Option (List ℕ)) (command : Command) (old : SystemView) (status : ℕ)
+-- What a line does: its command, with the files of images that it names; or its command, whose output is saved as the
+-- file that it names.
+pub data DoesFor (A : Type 0) (images : List ℕ → Option (List ℕ)) (line : CommandLine) (old : SystemView) (status : ℕ)
     (new : SystemView) : Type 0 where
-  does_here : (names : List (List ℕ)) → DoesAt A command (map images names) old status new →
-      DoesFor A images command old status new
-  does_and_saves : (path : List ℕ) → DoesAndSaves A command path old status new → DoesFor A images command old status new
+  does_here : saved_path line ≡ None → DoesAt A line.command (map images (images_of line)) old status new →
+      DoesFor A images line old status new
+  does_and_saves : (path : List ℕ) → saved_path line ≡ Some path → DoesAndSaves A line.command path old status new →
+      DoesFor A images line old status new
 
 -- This was done, or memory was refused before anything was.
 abbrev pub OrNothing : {E : Type 0} → (SystemView → ℕ → SystemView → Type 0) → SystemView → Result ℕ E → SystemView → Type 0
 OrNothing Does old (Ok status) new = Does old status new
 OrNothing Does old (Err _) new = new ≡ old
 
--- There was no memory for the paths of a line: the output or the standard error is told, or has failed.
+-- There was no memory for the paths of a line: the refusal goes to the output or the standard error, or has failed.
 pub record LacksMemory (old : SystemView) (status : ℕ) (new : SystemView) : Type 0 where
   pub places : new.places ≡ old.places
   pub input : new.standard.input ≡ old.standard.input
@@ -270,7 +273,7 @@ pub record LacksMemory (old : SystemView) (status : ℕ) (new : SystemView) : Ty
 
 -- ---- a line
 
--- The help is out, and the status is 0; or the output has refused it, and the standard error is told.
+-- The help is out, and the status is 0; or the output has refused it, and the standard error has the line of a refusal.
 abbrev pub Helps : List ℕ → StandardView → ℕ → StandardView → Type 0
 Helps text old status new = (new.input ≡ old.input)
     × ((Appends old.output new.output text × (new.errors ≡ old.errors) × (status ≡ 0))
@@ -285,12 +288,13 @@ Shows (Line text given) old status new =
 Shows Memory old status new =
     TellsOut (codes "Memory") old.errors status new.errors × (new.input ≡ old.input) × (new.output ≡ old.output)
 
--- What a line does whose first word after the program's name is this one: its command, with what was found, is done, unless
--- memory is refused for its paths; or it is not taken. `images` are the files of images, by their names.
+-- What a line does whose first word after the program's name is this one: what was found on it is done, unless memory is
+-- refused for its paths; or it is not taken. `images` are the files of images, by their names.
 pub data Runs (A : Type 0) (images : List ℕ → Option (List ℕ)) (name : Option (List ℕ)) (old : SystemView) (status : ℕ)
     (new : SystemView) : Type 0 where
-  does : (command : Command) → IsNamed name command → IsFound command → DoesFor A images command old status new →
+  does : (line : CommandLine) → IsNamed name line.command → IsFound line → DoesFor A images line old status new →
       Runs A images name old status new
-  lacks_memory : (command : Command) → IsNamed name command → LacksMemory old status new → Runs A images name old status new
+  lacks_memory : (line : CommandLine) → IsNamed name line.command → IsFound line → LacksMemory old status new →
+      Runs A images name old status new
   shows : (fault : LineFault) → HasStatus fault → Shows fault old.standard status new.standard → new.places ≡ old.places →
       Runs A images name old status new

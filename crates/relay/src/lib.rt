@@ -1,6 +1,10 @@
-//! The commands of `relay`, which stand in crates of their own and are offered here too: [`do_command`] does the one
-//! that a line names, over its files and streams, and answers the exit status; [`run`] calls it with the program's own
-//! streams and files.
+//! The program `relay`. [`System::run_line`] does what the words of a line say over standard streams and the files at
+//! paths, which [`Places`] gives out, and answers the exit status; [`run`] calls it with the program's own words and
+//! streams and the system's files. [`do_command`] does a command over its files and streams; the commands stand in
+//! crates of their own and are offered here too.
+//!
+//! Proved of a line: which command it names; that the command is done with the files at the path that it names, and
+//! every other path is as it was; that all it wrote is out where the status is 0; and where its output is saved.
 //!
 //! Proved, of inputs and outputs whose bytes a contract can name (slices and vectors; of the system's own streams none
 //! can): on status 0 a command has written exactly what it is for: `read` and `scan` a line for each image, `world` one

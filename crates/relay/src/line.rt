@@ -1,7 +1,8 @@
 //! What the words of a line say, done on a system.
 
 ghost use Rattle.std.specs.Prelude.{◌≡◌, ◌⊎◌, IfOk, map, option_map, slice_get};
-ghost use Rattle.relay.specs.Program.{DoesAndSaves, DoesAt, DoesFor, Helps, LacksMemory, Notes, OrNothing, Runs, SavesOutput, Shows, TellsOut, save_fault_name, system_at};
+ghost use Rattle.relay.specs.Program.{DoesAndSaves, DoesAt, DoesFor, Helps, LacksMemory, Notes, OrNothing, Runs};
+ghost use Rattle.relay.specs.Program.{SavesOutput, Shows, TellsOut, save_fault_name, system_at};
 
 use crate::place::{named_by, refuses_on_errors};
 use crate::places::Places;
@@ -9,7 +10,7 @@ use crate::standard::{Done, StandardStreams, do_between, show, tell};
 use crate::system::System;
 use dm_store::{MemSet, MemStore, StoreFault};
 use relay_command::Command;
-use relay_line::{LineFault, OtherFiles, command_line, other_files};
+use relay_line::{CommandLine, LineFault, command_line};
 use relay_shared::ImageFile;
 use std::alloc::{AllocError, Global};
 use std::convert::AsStr;
@@ -116,8 +117,8 @@ impl<I: Read + Drop, O: Write + Drop, E: Write + Drop, P: Places> System<I, O, E
         command: Command,
     ) -> (Result<u8, AllocError>, Self)
         ensures { OrNothing (DoesAt Global command.entry (map F.remaining images.now))
-            (system_at self.standard (P.state self.places)) result.0
-            (system_at result.1.standard (P.state result.1.places)) }
+           
+            (system_at self.standard (P.state self.places)) result.0 (system_at result.1.standard (P.state result.1.places)) }
     {
         let System {
             standard,
@@ -150,8 +151,8 @@ impl<I: Read + Drop, O: Write + Drop, E: Write + Drop, P: Places> System<I, O, E
 
     // Saves what a command has written as a new file, and gives the exit status.
     fn save_output(self, alloc: Global, path: &str, bytes: &[u8]) -> (u8, Self)
-        ensures { SavesOutput path.now bytes.now (system_at self.standard (P.state self.places)) result.0
-            (system_at result.1.standard (P.state result.1.places)) }
+        ensures { SavesOutput path.now bytes.now
+            (system_at self.standard (P.state self.places)) result.0 (system_at result.1.standard (P.state result.1.places)) }
     {
         let System {
             standard,
@@ -169,8 +170,8 @@ impl<I: Read + Drop, O: Write + Drop, E: Write + Drop, P: Places> System<I, O, E
 
     // Does a command, and saves its output as a new file, if it was done.
     fn do_saved(self, alloc: Global, path: &str, command: Command) -> (Result<u8, AllocError>, Self)
-        ensures { OrNothing (DoesAndSaves Global command.entry path.now) (system_at self.standard (P.state self.places)) result.0
-            (system_at result.1.standard (P.state result.1.places)) }
+        ensures { OrNothing (DoesAndSaves Global command.entry path.now)
+            (system_at self.standard (P.state self.places)) result.0 (system_at result.1.standard (P.state result.1.places)) }
     {
         let System { standard, places } = self;
         let StandardStreams(input, own, errors) = standard;
@@ -192,28 +193,24 @@ impl<I: Read + Drop, O: Write + Drop, E: Write + Drop, P: Places> System<I, O, E
         (Ok(status), system)
     }
 
-    // Does a command with the other files of its line.
-    fn do_with(
-        self,
-        alloc: Global,
-        files: OtherFiles<'_>,
-        command: Command,
-    ) -> (Result<u8, AllocError>, Self)
-        ensures { OrNothing (DoesFor Global (P.images self.places) command.entry) (system_at self.standard (P.state self.places)) result.0
-            (system_at result.1.standard (P.state result.1.places)) }
+    // Does the command of a line with the other files of the line.
+    fn do_with(self, alloc: Global, line: &CommandLine<'_>) -> (Result<u8, AllocError>, Self)
+        ensures { OrNothing (DoesFor Global (P.images self.places) line.now)
+            (system_at self.standard (P.state self.places)) result.0 (system_at result.1.standard (P.state result.1.places)) }
     {
-        if let Some(path) = files.saved_as {
-            return self.do_saved(alloc, path, command);
+        if let Some(path) = line.saved_as {
+            return self.do_saved(alloc, path, line.command);
         }
-        match images_of(alloc, &self.places, files.images.as_slice()) {
-            Ok(images) => self.do_here(alloc, images.as_slice(), command),
+        match images_of(alloc, &self.places, line.images.as_slice()) {
+            Ok(images) => self.do_here(alloc, images.as_slice(), line.command),
             Err(AllocError) => (Err(AllocError), self),
         }
     }
 
     // Refuses where the command's refusals go, and gives the exit status.
     fn refuse_memory(self, alloc: Global, command: Command) -> (u8, Self)
-        ensures { LacksMemory (system_at self.standard (P.state self.places)) result.0 (system_at result.1.standard (P.state result.1.places)) }
+        ensures { LacksMemory (system_at self.standard (P.state self.places)) result.0
+            (system_at result.1.standard (P.state result.1.places)) }
     {
         let System { standard, places } = self;
         let (status, standard) = if refuses_on_errors(command) {
@@ -224,30 +221,28 @@ impl<I: Read + Drop, O: Write + Drop, E: Write + Drop, P: Places> System<I, O, E
         (status, System { standard, places })
     }
 
-    // Does the command of a line, and gives the exit status.
-    fn do_line<S: AsStr>(self, alloc: Global, words: &[S], command: Command) -> (u8, Self)
-        ensures { DoesFor Global (P.images self.places) command.entry (system_at self.standard (P.state self.places)) result.0
-            (system_at result.1.standard (P.state result.1.places))
-            ⊎ LacksMemory (system_at self.standard (P.state self.places)) result.0 (system_at result.1.standard (P.state result.1.places)) }
+    // Does what a line says, and gives the exit status.
+    fn do_line(self, alloc: Global, line: &CommandLine<'_>) -> (u8, Self)
+        ensures { DoesFor Global (P.images self.places) line.now
+            (system_at self.standard (P.state self.places)) result.0 (system_at result.1.standard (P.state result.1.places))
+            ⊎ LacksMemory (system_at self.standard (P.state self.places)) result.0
+            (system_at result.1.standard (P.state result.1.places)) }
     {
-        let (ended, system) = match other_files(alloc, words) {
-            Ok(files) => self.do_with(alloc, files, command),
-            Err(AllocError) => (Err(AllocError), self),
-        };
+        let (ended, system) = self.do_with(alloc, line);
         match ended {
             Ok(status) => (status, system),
-            Err(AllocError) => system.refuse_memory(alloc, command),
+            Err(AllocError) => system.refuse_memory(alloc, line.command),
         }
     }
 
     /// Does what the words of a line say, the first of which is the program's name, and gives the exit status: that of
     /// the command, or 2 where the line was refused, or 0 where help was asked for.
     pub fn run_line<S: AsStr>(self, alloc: Global, words: &[S]) -> (u8, Self)
-        ensures { Runs Global (P.images self.places) (option_map S.text (slice_get words.now 1)) (system_at self.standard (P.state self.places)) result.0
-            (system_at result.1.standard (P.state result.1.places)) }
+        ensures { Runs Global (P.images self.places) (option_map S.text (slice_get words.now 1))
+            (system_at self.standard (P.state self.places)) result.0 (system_at result.1.standard (P.state result.1.places)) }
     {
         match command_line(alloc, words) {
-            Ok(command) => self.do_line(alloc, words, command),
+            Ok(line) => self.do_line(alloc, &line),
             Err(fault) => {
                 let System { standard, places } = self;
                 let (status, standard) = standard.show_fault(alloc, &fault);

@@ -1,14 +1,15 @@
 -- What a command line gives.
 use Prim.Native.String.{String}
-use Rattle.std.specs.Prelude.{◌≡◌, ℕ, ◌≤◌, ◌⊎◌, List, codes, Option, Some, MatchOption, option_map, if◌then◌else◌}
+use Rattle.std.specs.Prelude.{◌≡◌, ℕ, ◌≤◌, ◌⊎◌, List, codes, [], map, Bool, true, false, Option, Some, None, MatchOption, option_map, if◌then◌else◌}
 use Rattle.std.specs.Str.Parse.{digits_value, without_leading_plus}
-use Rattle.clap.specs.Walk.{Row, first_of, one_of}
+use Rattle.clap.specs.Walk.{Row, all_of, first_of, one_of}
 use Rattle.dm_encodation.specs.declared.scheme.Scheme.TheVariants.{Ascii}
 use Rattle.relay_command.specs.declared.command.Command.{Command}
 use Rattle.relay_command.specs.declared.command.Command.TheVariants.{Words, Draw, Read, Plan, Ticket, Ledger, Print, Give, Take, Left, Scan, Deliver, Forget, Export, Import, Held, Copy, World}
 use Rattle.relay_command.specs.declared.command.Labels.{Labels}
 use Rattle.relay_command.specs.declared.command.Labels.TheVariants.{OfSide, AtMost}
 use Rattle.relay_command.specs.Schemes.{scheme_name}
+use Rattle.relay_line.specs.declared.line.CommandLine.{CommandLine}
 use Rattle.relay_line.specs.declared.fault.LineFault.{LineFault}
 use Rattle.relay_line.specs.declared.fault.LineFault.TheVariants.{Line, Memory}
 
@@ -32,6 +33,19 @@ command_name (Import file capacity) = codes "import"
 command_name (Held file id) = codes "held"
 command_name (Copy file id page side scheme) = codes "copy"
 command_name World = codes "world"
+
+-- a command that can save its output as a file
+abbrev pub saves_output : Command → Bool
+saves_output (Deliver file id) = true
+saves_output (Export file id) = true
+saves_output other = false
+
+-- the files of images that a line names, in turn, and the file that its output is saved as
+abbrev pub images_of : CommandLine → List (List ℕ)
+images_of line = map (λ name. name.now) line.images.items
+
+abbrev pub saved_path : CommandLine → Option (List ℕ)
+saved_path line = option_map (λ path. path.now) line.saved_as
 
 -- what a parse found for a command
 module _ (found : List Row) where
@@ -81,9 +95,18 @@ module _ (found : List Row) where
       × (1 ≤ page) × (page ≤ 16) × HasNumber "page" page × HasText "scheme" (scheme_name scheme)
   HasValues World = Unit {0}
 
--- a command with its defaults, or with the values that some parse has found
-abbrev pub IsFound : Command → Type 0
-IsFound command = (command ≡ Words 10 Ascii) ⊎ ((found : List Row) × HasValues found command)
+  -- the other files of a line are what was found too
+  abbrev pub HasFiles : CommandLine → Type 0
+  HasFiles line = MatchOption (all_of (codes "images") found) (images_of line ≡ []) (λ names. images_of line ≡ names)
+      × (saved_path line ≡ if saves_output line.command then first_of (codes "to") found else None)
+
+  abbrev pub IsFoundIn : CommandLine → Type 0
+  IsFoundIn line = HasValues line.command × HasFiles line
+
+-- `words` with its defaults, and no other files; or what some parse has found
+abbrev pub IsFound : CommandLine → Type 0
+IsFound line = ((line.command ≡ Words 10 Ascii) × (images_of line ≡ []) × (saved_path line ≡ None))
+    ⊎ ((found : List Row) × IsFoundIn found line)
 
 -- The command is the one of this name, the word after the program's own, or `words` with its defaults where there is no
 -- such word.

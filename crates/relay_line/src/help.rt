@@ -1,11 +1,18 @@
-//! The texts of the helps. No line that is printed is longer than 80 columns.
+//! The commands as a line names them: the options of each, and its help. No line that is printed is longer than 80
+//! columns.
 
-/// What the help of a command says above its options and below them.
+use crate::options::Row;
+use crate::options::rows::{
+    ANY_ID, CAPACITY, COPY_SIDE, DESK, FIRST, ID, IMAGES, LABELS, LAST, LEAST_SIDE, LEDGER, NUMBER, OWN_NUMBER, PAGE, PLAIN, REFUSAL, SAVED, SCHEME, SIDE, TICKET, TO,
+};
+
+/// A command, its options, and what its help says above and below them.
 #[derive(Clone, Copy)]
 pub struct Page {
     pub name: &'static str,
     pub about: &'static str,
     pub usage: &'static str,
+    pub rows: &'static [Row],
     pub more: &'static str,
 }
 
@@ -14,6 +21,7 @@ pub const PROGRAM: Page = Page {
     name: "relay",
     about: "Relays documents printed as Data Matrix labels",
     usage: "relay [COMMAND] [OPTIONS]",
+    rows: &[],
     more: "\
 Without a command, relay does `words` with its defaults. `relay help COMMAND`
 and `relay COMMAND --help` say more of each.
@@ -24,13 +32,12 @@ the command line was refused; 3 where the script `./relay` could not build the
 program. `relay explain NAME` says what a refusal means.",
 };
 
-// Those of the commands, in the order in which the program's help lists them: of symbols, printers, desks, and the
-// rest.
 static OF_SYMBOLS: [Page; 3] = [
     Page {
         name: "words",
         about: "Prints the words of a document's symbol, in decimal",
         usage: "relay words [--side SIDE] [--scheme SCHEME] < DOCUMENT",
+        rows: &[LEAST_SIDE, SCHEME],
         more: "\
 A word is one of the numbers from 0 to 255 that a symbol holds. Side 10 holds 6
 digits or 1 byte, side 132 holds 2608 digits or 1301 bytes; docs/SYMBOLS.md has
@@ -43,6 +50,7 @@ Example:
         name: "draw",
         about: "Draws a document's symbol as a PBM image",
         usage: "relay draw [--side SIDE] [--scheme SCHEME] [--plain] < DOCUMENT > IMAGE",
+        rows: &[LEAST_SIDE, SCHEME, PLAIN],
         more: "\
 The image has one pixel per module, and around the symbol a quiet zone of one
 light pixel, which a scanner needs. Side 10 holds 6 digits or 1 byte, side 132
@@ -56,6 +64,7 @@ Example:
         name: "read",
         about: "Prints what the symbols in PBM images carry",
         usage: "relay read [IMAGES ..] < IMAGES",
+        rows: &[IMAGES],
         more: "\
 An image has one pixel per module, and around the symbol a quiet zone of one
 pixel. Packed images may follow one another; what follows a plain one is not
@@ -79,6 +88,7 @@ static OF_PRINTERS: [Page; 7] = [
         name: "ledger",
         about: "Makes the ledger of a printer",
         usage: "relay ledger --file LEDGER --first N --last N [--number N]",
+        rows: &[LEDGER, FIRST, LAST, OWN_NUMBER],
         more: "\
 A ledger is what a printer remembers: which identifications are free. Give no
 identification to two ledgers. Prints `left N`, how many are free. A refusal
@@ -91,6 +101,7 @@ Example:
         name: "plan",
         about: "Prints for each side how many labels a document takes",
         usage: "relay plan [--scheme SCHEME] < DOCUMENT",
+        rows: &[SCHEME],
         more: "\
 Prints a line `side N labels K` for each side for which the document can be cut
 into labels, the smallest side first: `print` with that side prints K labels.
@@ -103,6 +114,7 @@ Example:
         name: "print",
         about: "Prints a document as labels that carry one identification",
         usage: "relay print --file LEDGER (--side SIDE | --labels K) [--scheme SCHEME]\n         [--number N] < DOCUMENT > IMAGES",
+        rows: &[LEDGER, SIDE, LABELS, SCHEME, OWN_NUMBER],
         more: "\
 The document is cut into 2 to 16 labels, which carry the least identification
 that is free. It is saved as used, then `printed IIII n left N` goes to standard
@@ -121,6 +133,7 @@ Example:
         name: "give",
         about: "Gives free identifications to another printer, by a ticket",
         usage: "relay give --file LEDGER --number N --to N --first N --last N",
+        rows: &[LEDGER, NUMBER, TO, FIRST, LAST],
         more: "\
 The identifications are saved as gone, and then `ticket HEX` is printed. Only
 the printer that it is for can take it, and only once. A ticket that is lost
@@ -133,6 +146,7 @@ Example:
         name: "ticket",
         about: "Prints what a ticket gives, and its form to copy by hand",
         usage: "relay ticket --ticket HEX",
+        rows: &[TICKET],
         more: "\
 Prints, a line each:
   from P to Q serial S first A last B
@@ -151,6 +165,7 @@ Example:
         name: "take",
         about: "Takes the identifications of a ticket",
         usage: "relay take --file LEDGER --number N --ticket HEX",
+        rows: &[LEDGER, NUMBER, TICKET],
         more: "\
 Prints `taken left N`, how many identifications are free then. A ticket is
 taken once. Take the tickets of one giver in the order in which they were
@@ -164,6 +179,7 @@ Example:
         name: "left",
         about: "Prints what a ledger holds",
         usage: "relay left --file LEDGER",
+        rows: &[LEDGER],
         more: "\
 Prints, a line each:
   printer P         the printer's number, or `-` for a ledger of version 1
@@ -185,6 +201,7 @@ static OF_DESKS: [Page; 7] = [
         name: "scan",
         about: "Gathers the pages of scanned labels at a desk",
         usage: "relay scan --file DESK [--capacity N] [IMAGES ..] < IMAGES",
+        rows: &[DESK, CAPACITY, IMAGES],
         more: "\
 An image has one pixel per module, as for `read`. Its page is saved, and then a
 line says what it was:
@@ -207,6 +224,7 @@ Example:
         name: "deliver",
         about: "Gives back a document when all its pages are held",
         usage: "relay deliver --file DESK --id IIII [--to FILE]",
+        rows: &[DESK, ID, SAVED],
         more: "\
 Writes the document, which stays at the desk, and nothing else. Where a page is
 missing nothing is written but `refused Incomplete`, on standard error. With
@@ -220,6 +238,7 @@ Example:
         name: "forget",
         about: "Forgets a document",
         usage: "relay forget --file DESK --id IIII",
+        rows: &[DESK, ID],
         more: "\
 Prints `forgotten IIII`. A refusal goes to standard output.
 
@@ -230,6 +249,7 @@ Example:
         name: "export",
         about: "Writes the pages of a document for another desk",
         usage: "relay export --file DESK --id IIII [--to FILE]",
+        rows: &[DESK, ID, SAVED],
         more: "\
 The pages stay at the desk. `relay import` takes them in at another. A refusal
 goes to standard error. With `--to` the pages are on the disk once the command
@@ -242,6 +262,7 @@ Example:
         name: "import",
         about: "Takes in the pages that another desk has exported",
         usage: "relay import --file DESK [--capacity N] < PAGES",
+        rows: &[DESK, CAPACITY],
         more: "\
 Prints `IIII n added MASK KIND`: the identification, how many pages the document
 has, which of them were added (bit m - 1 for page m, in hexadecimal), and
@@ -256,6 +277,7 @@ Example:
         name: "held",
         about: "Prints which pages a desk holds",
         usage: "relay held --file DESK [--id IIII]",
+        rows: &[DESK, ANY_ID],
         more: "\
 Prints a line for each document of which a page is held: `IIII N complete`, or
 `IIII N lacks 3 7 12`, its identification, how many pages it has, and which are
@@ -273,6 +295,7 @@ Example:
         name: "copy",
         about: "Draws again the label of a page that a desk holds",
         usage: "relay copy --file DESK --id IIII --page M --side SIDE [--scheme SCHEME]\n         > IMAGE",
+        rows: &[DESK, ID, PAGE, COPY_SIDE, SCHEME],
         more: "\
 Draws the label of one page that is held, as a packed PBM image: whatever reads
 it gathers the same page of the same document. The side need not be that of the
@@ -289,6 +312,7 @@ static OTHERS: [Page; 3] = [
         name: "world",
         about: "Plays printers and desks by a script, in memory",
         usage: "relay world < SCRIPT",
+        rows: &[],
         more: "\
 The script names printers, desks, and events: prints, scans, restarts and so on,
 each of which may be stopped where power could fail, or meet a failing save.
@@ -303,6 +327,7 @@ Example:
         name: "explain",
         about: "Prints what a refusal means, and what to do",
         usage: "relay explain [NAME]",
+        rows: &[REFUSAL],
         more: "\
 It prints what docs/REFUSALS.md says.
 
@@ -313,12 +338,27 @@ Example:
         name: "version",
         about: "Prints the version, and by which toolchain it was proved",
         usage: "relay version",
+        rows: &[],
         more: "\
 Example:
   relay version",
     },
 ];
 
-pub fn commands() -> [&'static [Page]; 4] {
-    [&OF_SYMBOLS, &OF_PRINTERS, &OF_DESKS, &OTHERS]
+/// Commands that the program's help lists under one heading.
+#[derive(Clone, Copy)]
+pub struct Group {
+    pub heading: &'static str,
+    pub pages: &'static [Page],
+}
+
+/// All commands, in the order in which the program's help lists them.
+#[rattlefmt::skip]
+pub fn groups() -> [Group; 4] {
+    [
+        Group { heading: "Symbols", pages: &OF_SYMBOLS },
+        Group { heading: "Printers", pages: &OF_PRINTERS },
+        Group { heading: "Desks", pages: &OF_DESKS },
+        Group { heading: "Others", pages: &OTHERS },
+    ]
 }

@@ -9,8 +9,10 @@ mod explain;
 mod explanations;
 mod fault;
 mod help;
+mod line;
 mod options;
 mod parse;
 
 pub use fault::LineFault;
-pub use parse::{OtherFiles, command_line, other_files};
+pub use line::CommandLine;
+pub use parse::command_line;

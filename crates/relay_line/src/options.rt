@@ -8,7 +8,7 @@ use std::alloc::{AllocError, Global};
 
 // How an argument stands on a line: `--NAME VALUE`, where nothing says more.
 #[derive(Clone, Copy)]
-enum Kind {
+pub enum Kind {
     Optional,
     Required,
     // This value stands where the argument is left out.
@@ -24,11 +24,11 @@ enum Kind {
 // An argument: its name, what the helps call its value, its kind, what its value has to be, and its help.
 #[derive(Clone, Copy)]
 #[rattlefmt::skip]
-struct Row(&'static str, &'static str, Kind, ValueParser<'static>, &'static str);
+pub struct Row(&'static str, &'static str, Kind, ValueParser<'static>, &'static str);
 
 // The arguments of the commands.
 #[rattlefmt::skip]
-mod rows {
+pub mod rows {
     use super::{Kind::{Default, Flag, Optional, Required, Word, Words}, Row};
     use clap::builder::ValueParser::{self, Names, NonEmptyString, Signed, String as Text};
     use relay_command::SCHEMES;
@@ -52,57 +52,27 @@ mod rows {
     const LAST_HELP: &str = "the last identification, up to 64515";
     const PAGE_HELP: &str = "the page, from 1 to 16";
     const SAVED_HELP: &str = "save it as this file, in place of the standard output";
-    const SIDE: Row = Row("side", "SIDE", Optional, Signed(10, 132), SIDE_HELP);
-    const LEAST_SIDE: Row = Row("side", "SIDE", Default("10"), Signed(10, 132), SIDE_HELP);
-    const COPY_SIDE: Row = Row("side", "SIDE", Required, Signed(10, 132), SIDE_HELP);
-    const LABELS: Row = Row("labels", "K", Optional, Signed(2, 16), LABELS_HELP);
-    const SCHEME: Row = Row("scheme", "SCHEME", Default("ascii"), Names(&SCHEMES), SCHEME_HELP);
-    const PLAIN: Row = Row("plain", "", Flag, Text, PLAIN_HELP);
-    const LEDGER: Row = Row("file", "LEDGER", Required, NonEmptyString, LEDGER_HELP);
-    const DESK: Row = Row("file", "DESK", Required, NonEmptyString, DESK_HELP);
-    const TO: Row = Row("to", "N", Required, U16, "the number of the other printer");
-    const NUMBER: Row = Row("number", "N", Required, U16, "the printer's number");
-    const OWN_NUMBER: Row = Row("number", "N", Default("0"), U16, "the printer's number");
-    const FIRST: Row = Row("first", "N", Required, U16, FIRST_HELP);
-    const LAST: Row = Row("last", "N", Required, U16, LAST_HELP);
-    const TICKET: Row = Row("ticket", "HEX", Required, Text, HEX_HELP);
-    const CAPACITY: Row = Row("capacity", "N", Default("64"), U16, CAPACITY_HELP);
-    const ID: Row = Row("id", "IIII", Required, Text, ID_HELP);
-    const ANY_ID: Row = Row("id", "IIII", Optional, Text, ID_HELP);
-    const PAGE: Row = Row("page", "M", Required, Signed(1, 16), PAGE_HELP);
-    const SAVED: Row = Row("to", "FILE", Optional, NonEmptyString, SAVED_HELP);
-    const IMAGES: Row = Row("images", "IMAGES", Words, Text, IMAGES_HELP);
-    const REFUSAL: Row = Row("name", "NAME", Word, Text, NAME_HELP);
-
-    pub static OF_COMMANDS: [(&str, &[Row]); 18] = [
-        ("words", &[LEAST_SIDE, SCHEME]),
-        ("draw", &[LEAST_SIDE, SCHEME, PLAIN]),
-        ("read", &[IMAGES]),
-        ("ledger", &[LEDGER, FIRST, LAST, OWN_NUMBER]),
-        ("plan", &[SCHEME]),
-        ("print", &[LEDGER, SIDE, LABELS, SCHEME, OWN_NUMBER]),
-        ("give", &[LEDGER, NUMBER, TO, FIRST, LAST]),
-        ("ticket", &[TICKET]),
-        ("take", &[LEDGER, NUMBER, TICKET]),
-        ("left", &[LEDGER]),
-        ("scan", &[DESK, CAPACITY, IMAGES]),
-        ("deliver", &[DESK, ID, SAVED]),
-        ("export", &[DESK, ID, SAVED]),
-        ("forget", &[DESK, ID]),
-        ("import", &[DESK, CAPACITY]),
-        ("held", &[DESK, ANY_ID]),
-        ("copy", &[DESK, ID, PAGE, COPY_SIDE, SCHEME]),
-        ("explain", &[REFUSAL]),
-    ];
-}
-
-fn rows_of(name: &str) -> &'static [Row] {
-    for (command, rows) in &rows::OF_COMMANDS {
-        if *command == name {
-            return rows;
-        }
-    }
-    &[]
+    pub const SIDE: Row = Row("side", "SIDE", Optional, Signed(10, 132), SIDE_HELP);
+    pub const LEAST_SIDE: Row = Row("side", "SIDE", Default("10"), Signed(10, 132), SIDE_HELP);
+    pub const COPY_SIDE: Row = Row("side", "SIDE", Required, Signed(10, 132), SIDE_HELP);
+    pub const LABELS: Row = Row("labels", "K", Optional, Signed(2, 16), LABELS_HELP);
+    pub const SCHEME: Row = Row("scheme", "SCHEME", Default("ascii"), Names(&SCHEMES), SCHEME_HELP);
+    pub const PLAIN: Row = Row("plain", "", Flag, Text, PLAIN_HELP);
+    pub const LEDGER: Row = Row("file", "LEDGER", Required, NonEmptyString, LEDGER_HELP);
+    pub const DESK: Row = Row("file", "DESK", Required, NonEmptyString, DESK_HELP);
+    pub const TO: Row = Row("to", "N", Required, U16, "the number of the other printer");
+    pub const NUMBER: Row = Row("number", "N", Required, U16, "the printer's number");
+    pub const OWN_NUMBER: Row = Row("number", "N", Default("0"), U16, "the printer's number");
+    pub const FIRST: Row = Row("first", "N", Required, U16, FIRST_HELP);
+    pub const LAST: Row = Row("last", "N", Required, U16, LAST_HELP);
+    pub const TICKET: Row = Row("ticket", "HEX", Required, Text, HEX_HELP);
+    pub const CAPACITY: Row = Row("capacity", "N", Default("64"), U16, CAPACITY_HELP);
+    pub const ID: Row = Row("id", "IIII", Required, Text, ID_HELP);
+    pub const ANY_ID: Row = Row("id", "IIII", Optional, Text, ID_HELP);
+    pub const PAGE: Row = Row("page", "M", Required, Signed(1, 16), PAGE_HELP);
+    pub const SAVED: Row = Row("to", "FILE", Optional, NonEmptyString, SAVED_HELP);
+    pub const IMAGES: Row = Row("images", "IMAGES", Words, Text, IMAGES_HELP);
+    pub const REFUSAL: Row = Row("name", "NAME", Word, Text, NAME_HELP);
 }
 
 // An argument, as the parser takes it.
@@ -135,7 +105,7 @@ fn command<'a>(alloc: Global, page: &Page) -> Command<'a> {
 // A command with its arguments. `print` is by a side or by a number of labels.
 fn subcommand<'a>(alloc: Global, page: &Page) -> Result<Command<'a>, AllocError> {
     let mut command = command(alloc, page);
-    for row in rows_of(page.name) {
+    for row in page.rows {
         command = command.arg(argument(alloc, row))?;
     }
     if page.name == "print" {
@@ -153,8 +123,8 @@ pub fn relay<'a>(alloc: Global) -> Result<Command<'a>, AllocError> {
     let mut program = command(alloc, &help::PROGRAM)
         .bin_name("relay")?
         .version(VERSION);
-    for pages in &help::commands() {
-        for page in *pages {
+    for group in &help::groups() {
+        for page in group.pages {
             program = program.subcommand(subcommand(alloc, page)?)?;
         }
     }

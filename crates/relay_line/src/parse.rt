@@ -5,11 +5,13 @@ ghost use Rattle.std.specs.Prelude.{slice_get, string_bytes, IfErr, IfOk, IfSome
 ghost use Rattle.clap.specs.Words.{first_of, found_of, kind_of, rows_of, subcommand_rows_of};
 ghost use Rattle.relay_command.specs.Schemes.{scheme_name};
 ghost use Rattle.relay_line.specs.Explaining.{explained};
-ghost use Rattle.relay_line.specs.Line.{EndsWith, HasLabels, HasStatus, HasText, HasValues, IsFound, IsNamed, command_name, number_at};
+ghost use Rattle.relay_line.specs.Line.{EndsWith, HasLabels, HasStatus, HasText, HasFiles, HasValues, IsFound, IsFoundIn, IsNamed, command_name, number_at};
 
 use crate::explain::{explanation_in, names_in};
 use crate::explanations::EXPLANATIONS;
 use crate::fault::LineFault;
+use crate::help;
+use crate::line::{CommandLine, saves_output};
 use crate::options::relay;
 use clap::error::ErrorKind;
 use clap::{ArgMatches, Error};
@@ -25,15 +27,9 @@ const NO_REFUSAL: &str = "relay: no refusal has this name; `relay explain` lists
 
 const UNKNOWN: &str = "relay: this command is unknown\n";
 
-// What the program's help has in place of the parser's lines: a heading above each group of commands, and no `help`.
-#[rattlefmt::skip]
-const HEADINGS: [(&str, &str); 5] = [
-    ("\n  words ", "\nSymbols:\n  words "),
-    ("\n  ledger ", "\nPrinters:\n  ledger "),
-    ("\n  scan ", "\nDesks:\n  scan "),
-    ("\n  world ", "\nOthers:\n  world "),
-    ("\n  help     Print this message or the help of the given subcommand(s)", ""),
-];
+// What the program's help leaves out of the parser's lines.
+const HELP_LINE: &str =
+    "\n  help     Print this message or the help of the given subcommand(s)";
 
 // What a line that is not taken shows.
 fn shown(text: Result<String, AllocError>, status: u8) -> LineFault
@@ -56,10 +52,16 @@ fn message_of(alloc: Global, text: &str) -> Result<String, AllocError>
     }
 }
 
-// The parser's help, with headings.
-fn help_of(alloc: Global, mut text: String) -> Result<String, AllocError> {
-    for (line, with_heading) in &HEADINGS {
-        text = text.as_str().replace(alloc, *line, with_heading)?;
+// The parser's help, with a heading above each group of commands.
+fn help_of(alloc: Global, text: &str) -> Result<String, AllocError> {
+    let mut text = text.replace(alloc, HELP_LINE, "")?;
+    for group in &help::groups() {
+        let Some(page) = group.pages.first() else {
+            continue;
+        };
+        let line = format!(in alloc; "\n  {} ", page.name)?;
+        let with_heading = format!(in alloc; "\n{}:{}", group.heading, line.as_str())?;
+        text = text.as_str().replace(alloc, line.as_str(), with_heading.as_str())?;
     }
     Ok(text)
 }
@@ -79,7 +81,7 @@ fn fault_of(alloc: Global, error: &Error) -> LineFault
     if error.use_stderr() {
         shown(message_of(alloc, text.as_str()), 2)
     } else {
-        shown(help_of(alloc, text), 0)
+        shown(help_of(alloc, text.as_str()), 0)
     }
 }
 
@@ -199,25 +201,66 @@ fn desk_command_of<'a>(name: &str, options: &ArgMatches<'a>) -> Option<Command<'
     }
 }
 
+// What a line says whose command no name of the program's is.
+fn unknown(alloc: Global) -> LineFault
+    ensures { EndsWith 2 result }
+{
+    shown(String::from_str(alloc, UNKNOWN), 2)
+}
+
+// A command with the other files of its line.
+#[tactic(auto, using(crate::proofs::Found::first_value_of, crate::proofs::Found::all_values_of))]
+fn line_of<'a>(
+    alloc: Global,
+    command: Command<'a>,
+    options: &ArgMatches<'a>,
+) -> Result<CommandLine<'a>, AllocError>
+    ensures command { IfOk result (λ line. line.command ≡ command.entry) }
+    ensures files { IfOk result (HasFiles (rows_of (found_of options.now))) }
+{
+    let mut images = Vec::new(alloc);
+    if let Some(names) = options.get_strs("images") {
+        images.extend_from_slice(names)?;
+    }
+    let saved_as = if saves_output(command) {
+        options.get_str("to")
+    } else {
+        None
+    };
+    Ok(CommandLine {
+        command,
+        images,
+        saved_as,
+    })
+}
+
 // What a line gives that has a word after the program's name. Each name that the parser takes has a command.
-fn answer<'a>(alloc: Global, name: &str, matches: &ArgMatches<'a>) -> Result<Command<'a>, LineFault>
-    ensures named { IfOk result (λ command. name.now ≡ command_name command) }
-    ensures values { IfOk result (λ command. IsSomeAnd (subcommand_rows_of matches.now) (λ m. HasValues m.1 command)) }
+fn answer<'a>(
+    alloc: Global,
+    name: &str,
+    matches: &ArgMatches<'a>,
+) -> Result<CommandLine<'a>, LineFault>
+    ensures named { IfOk result (λ line. name.now ≡ command_name line.command) }
+    ensures found { IfOk result (λ line. IsSomeAnd (subcommand_rows_of matches.now) (λ m. IsFoundIn m.1 line)) }
     ensures status { IfErr result HasStatus }
     ensures version { name.now ≡ codes "version" → IsSome (subcommand_rows_of matches.now) → IfErr result (EndsWith 0) }
     ensures other { name.now ≢ codes "version" → name.now ≢ codes "explain" → IfErr result (EndsWith 2) }
     ensures none { IsNone (subcommand_rows_of matches.now) → IfErr result (EndsWith 2) }
 {
-    let command = match (name, matches.subcommand()) {
-        ("version", Some(_)) => return Err(shown(format!(in alloc; "relay {VERSION}\n"), 0)),
+    match (name, matches.subcommand()) {
+        ("version", Some(_)) => Err(shown(format!(in alloc; "relay {VERSION}\n"), 0)),
         ("explain", Some((_, options))) => {
-            return Err(explanation_of(alloc, &EXPLANATIONS, text_of(options, "name")));
+            Err(explanation_of(alloc, &EXPLANATIONS, text_of(options, "name")))
         }
-        (name, Some((_, options))) => command_of(name, options),
+        (name, Some((_, options))) => {
+            let Some(command) = command_of(name, options) else {
+                return Err(unknown(alloc));
+            };
+            Ok(line_of(alloc, command, options)?)
+        }
         // A line that names no command, as `relay --`.
-        (_, None) => None,
-    };
-    command.ok_or_else(|| shown(String::from_str(alloc, UNKNOWN), 2))
+        (_, None) => Err(unknown(alloc)),
+    }
 }
 
 /// Reads the program's words, the first of which is its name, as the system hands them over. Without a
@@ -226,9 +269,12 @@ fn answer<'a>(alloc: Global, name: &str, matches: &ArgMatches<'a>) -> Result<Com
 /// # Errors
 /// A line that is wrong, or that asks for help, for the version or for what a refusal means: the fault has the text.
 #[inline(never)]
-pub fn command_line<'a, S: AsStr>(alloc: Global, words: &'a [S]) -> Result<Command<'a>, LineFault>
-    ensures named { IfOk result (IsNamed (option_map S.text (slice_get words.now 1))) }
-    ensures values { IfOk result IsFound }
+pub fn command_line<'a, S: AsStr>(
+    alloc: Global,
+    words: &'a [S],
+) -> Result<CommandLine<'a>, LineFault>
+    ensures named { IfOk result (λ line. IsNamed (option_map S.text (slice_get words.now 1)) line.command) }
+    ensures found { IfOk result IsFound }
     ensures status { IfErr result HasStatus }
 {
     let matches = match relay(alloc)?.try_get_matches_from(words) {
@@ -237,45 +283,13 @@ pub fn command_line<'a, S: AsStr>(alloc: Global, words: &'a [S]) -> Result<Comma
     };
     match words.get(1) {
         Some(name) => answer(alloc, name.as_str(), &matches),
-        None => Ok(Command::Words {
-            side: 10,
-            scheme: Scheme::Ascii,
+        None => Ok(CommandLine {
+            command: Command::Words {
+                side: 10,
+                scheme: Scheme::Ascii,
+            },
+            images: Vec::new(alloc),
+            saved_as: None,
         }),
     }
-}
-
-/// The files that a line names beside that of its command.
-#[derive(Drop)]
-pub struct OtherFiles<'a> {
-    /// Those that `read` or `scan` takes images from, in turn, or none where it takes them from its input.
-    pub images: Vec<&'a str>,
-    /// The one that `deliver` or `export` saves its output as, if it is not the standard output.
-    pub saved_as: Option<&'a str>,
-}
-
-/// The other files of a line that `command_line` has taken.
-///
-/// # Errors
-/// Memory was refused.
-#[inline(never)]
-pub fn other_files<'a, S: AsStr>(
-    alloc: Global,
-    words: &'a [S],
-) -> Result<OtherFiles<'a>, AllocError> {
-    let Ok(matches) = relay(alloc)?.try_get_matches_from(words) else {
-        return Err(AllocError);
-    };
-    let mut files = OtherFiles {
-        images: Vec::new(alloc),
-        saved_as: None,
-    };
-    if let Some((name, options)) = matches.subcommand() {
-        if let Some(names) = options.get_strs("images") {
-            files.images.extend_from_slice(names)?;
-        }
-        if matches!(name, "deliver" | "export") {
-            files.saved_as = options.get_str("to");
-        }
-    }
-    Ok(files)
 }

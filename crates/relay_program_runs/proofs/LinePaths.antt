@@ -188,9 +188,9 @@ module _ (A : Type 0) where
         (line : program.Runs A images name old status new) (rans : List (Ran A)) → AllIn paths rans →
         IfSome (saved_as line) (IsNone paths) → RunsOver new.places rans →
         RunsOver old.places (commands_in line ++ rans)
-    over_line images name old new status (does command named numbers (does_here names at)) rans all saved over =
+    over_line images name old new status (does line named met (does_here none at)) rans all saved over =
         over_at (ran_at at) old.places new.places at.is_at rans over
-    over_line images name old new status (does command named numbers (does_and_saves path to)) rans all saved over =
+    over_line images name old new status (does line named met (does_and_saves path is to)) rans all saved over =
         over_at (ran_at to.does) old.places to.done.places to.does.is_at rans (elim to.saves [
           | inl kept ↦ subst (λ (s : SystemView). RunsOver s.places rans) kept.2 over
           | inr (zero_is, saves) ↦ elim saves.saves [
@@ -200,7 +200,7 @@ module _ (A : Type 0) where
                 over
           ]
         ])
-    over_line images name old new status (lacks_memory command named lacks) rans all saved over =
+    over_line images name old new status (lacks_memory line named met lacks) rans all saved over =
         subst (λ (p : PlacesView). RunsOver p rans) lacks.places over
     over_line images name old new status (shows fault ends shown same) rans all saved over =
         subst (λ (p : PlacesView). RunsOver p rans) same over

@@ -40,8 +40,8 @@ module _ {A : Type 0} where
 
   abbrev pub commands_in : {images : List ℕ → Option (List ℕ)} {name : Option (List ℕ)} {old new : SystemView} {status : ℕ} →
       program.Runs A images name old status new → List (Ran A)
-  commands_in (does command named numbers (does_here names at)) = if_at at.is_at (ran_at at)
-  commands_in (does command named numbers (does_and_saves path to)) = if_at to.does.is_at (ran_at to.does)
+  commands_in (does line named met (does_here none at)) = if_at at.is_at (ran_at at)
+  commands_in (does line named met (does_and_saves path is to)) = if_at to.does.is_at (ran_at to.does)
   commands_in other = []
 
   abbrev pub all_commands : List (LineRan A) → List (Ran A)
@@ -51,7 +51,7 @@ module _ {A : Type 0} where
   -- the path of the file that the output of a line was to be saved as
   abbrev pub saved_as : {images : List ℕ → Option (List ℕ)} {name : Option (List ℕ)} {old new : SystemView} {status : ℕ} →
       program.Runs A images name old status new → Option (List ℕ)
-  saved_as (does command named numbers (does_and_saves path to)) = Some path
+  saved_as (does line named met (does_and_saves path is to)) = Some path
   saved_as other = None
 
   -- ---- premises

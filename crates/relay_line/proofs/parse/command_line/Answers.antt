@@ -1,15 +1,15 @@
 use Rattle.std.proofs.Common.{ℕ, List, Option, Some, None, IsSomeAnd, inr}
 use Rattle.std.proofs.lemmas.Result.{IfOk-weaker}
 use Rattle.clap.specs.Words.{Row}
-use Rattle.relay_command.specs.declared.command.Command.{Command}
-use Rattle.relay_line.specs.Line.{HasValues}
+use Rattle.relay_line.specs.declared.line.CommandLine.{CommandLine}
+use Rattle.relay_line.specs.Line.{IsFoundIn}
 use Rattle.relay_line.proofs.parse.command_line.Goals as goal
 
-met_values : (met : Option (List ℕ × List Row)) (command : Command)
-    → IsSomeAnd met (λ given. HasValues given.1 command) → (found : List Row) × HasValues found command
-met_values (Some met) command values = (met.1, values)
-met_values None command values = elim values [ ]
+met_line : (met : Option (List ℕ × List Row)) (line : CommandLine)
+    → IsSomeAnd met (λ given. IsFoundIn given.1 line) → (found : List Row) × IsFoundIn found line
+met_line (Some met) line found = (met.1, found)
+met_line None line found = elim found [ ]
 
-pub returns-in-Some-clause-values : goal.returns-in-Some-clause-values
-returns-in-Some-clause-values g c = IfOk-weaker c.answer.result _ _
-    (λ command values. inr (met_values _ command values)) c.answer.ensures.values
+pub returns-in-Some-clause-found : goal.returns-in-Some-clause-found
+returns-in-Some-clause-found g c = IfOk-weaker c.answer.result _ _
+    (λ line found. inr (met_line _ line found)) c.answer.ensures.found

@@ -4,8 +4,8 @@ use Rattle.relay.proofs.system.System.run_line.Goals as goal
 
 pub returns-in-Ok : goal.returns-in-Ok
 returns-in-Ok g c = elim c.do_line.ensures [
-  | inl done ↦ does c.in-Ok.command c.in-Ok.ensures.named c.in-Ok.ensures.values done
-  | inr lacks ↦ lacks_memory c.in-Ok.command c.in-Ok.ensures.named lacks
+  | inl done ↦ does c.in-Ok.line c.in-Ok.ensures.named c.in-Ok.ensures.found done
+  | inr lacks ↦ lacks_memory c.in-Ok.line c.in-Ok.ensures.named c.in-Ok.ensures.found lacks
 ]
 
 pub returns-in-Err : goal.returns-in-Err
