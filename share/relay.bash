@@ -1,5 +1,6 @@
 # Completions of relay for bash: commands, then the options of the command, and names of files.
 _relay() {
+    local commands='words draw read ledger plan print give ticket take left scan deliver forget export import held copy world explain version'
     local words word=${COMP_WORDS[COMP_CWORD]}
     case ${COMP_WORDS[1]} in
     words) words='--help --scheme --side' ;;
@@ -22,9 +23,9 @@ _relay() {
     world) words='--help' ;;
     explain) words='--help' ;;
     version) words='--help' ;;
-    *) words='words draw read ledger plan print give ticket take left scan deliver forget export import held copy world explain version --help' ;;
+    help) words=$commands ;;
     esac
-    [ "$COMP_CWORD" = 1 ] && words='words draw read ledger plan print give ticket take left scan deliver forget export import held copy world explain version --help'
+    [ "$COMP_CWORD" = 1 ] && words="$commands help --help --version"
     mapfile -t COMPREPLY < <(compgen -W "$words" -- "$word")
 }
 complete -o default -F _relay relay
