@@ -4,19 +4,22 @@
 #include <stdio.h>
 #include <string.h>
 
-/* Draws the labels of two pages, opens them, and answers how many bytes these have together, or 0. */
-static size_t label_bytes(void) {
+/* Draws the labels of two pages, opens them, and answers how many bytes these have together, or why it does not. */
+static ptrdiff_t label_bytes(void) {
     static const char *const pages[2] = {"100", "2000"};
     static uint8_t image[RELAY_IMAGE_LENGTH(14)], bytes[2600];
-    size_t sum = 0;
+    ptrdiff_t sum = 0;
     for (uint8_t page = 0; page < 2; page++) {
         const uint8_t *text = (const uint8_t *)pages[page];
-        size_t drawn = relay_label_from_text(14, 7, page + 1, 2, text, strlen(pages[page]), image, sizeof image);
-        size_t opened = relay_page_from_image(image, drawn, bytes, sizeof bytes);
-        if (drawn != sizeof image || opened == RELAY_REFUSED || memcmp(bytes, text, opened) != 0) {
-            return 0;
+        ptrdiff_t drawn = relay_label_from_text(14, 7, page + 1, 2, text, strlen(pages[page]), image, sizeof image);
+        if (drawn < 0) {
+            return drawn;
         }
-        sum += opened;
+        ptrdiff_t opened = relay_page_from_image(image, (size_t)drawn, bytes, sizeof bytes);
+        if (opened < 0) {
+            return opened;
+        }
+        sum += memcmp(bytes, text, (size_t)opened) == 0 ? opened : 0;
     }
     return sum;
 }
@@ -24,14 +27,14 @@ static size_t label_bytes(void) {
 int main(int count, char **words) {
     static uint8_t image[4096], text[4096];
     const uint8_t *given = (const uint8_t *)(count > 1 ? words[1] : "123456");
-    size_t drawn = relay_symbol_from_text(18, given, strlen((const char *)given), image, sizeof image);
-    if (drawn == 0) {
-        fputs("not drawn\n", stderr);
+    ptrdiff_t drawn = relay_symbol_from_text(18, given, strlen((const char *)given), image, sizeof image);
+    if (drawn < 0) {
+        fputs(drawn == RELAY_TOO_LONG ? "the text does not fit\n" : "not drawn\n", stderr);
         return 1;
     }
-    size_t read = relay_text_from_image(image, drawn, text, sizeof text);
-    if (read == RELAY_REFUSED) {
-        fputs("not read\n", stderr);
+    ptrdiff_t read = relay_text_from_image(image, (size_t)drawn, text, sizeof text);
+    if (read < 0) {
+        fprintf(stderr, "not read: %d\n", (int)read);
         return 1;
     }
     fprintf(stderr, "%.*s\n", (int)read, (const char *)text);
@@ -39,5 +42,5 @@ int main(int count, char **words) {
         fputs("labels not read\n", stderr);
         return 1;
     }
-    return fwrite(image, 1, drawn, stdout) == drawn ? 0 : 1;
+    return fwrite(image, 1, (size_t)drawn, stdout) == (size_t)drawn ? 0 : 1;
 }

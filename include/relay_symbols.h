@@ -5,10 +5,12 @@
  * (`P1`) is read too. Texts are written in ASCII encodation; those of C40, Text and Base 256 are read too. 4,096 bytes
  * hold each image and each text.
  *
- * No pointer may be null, nor bytes that a call writes overlap those that it reads. What a call refuses leaves the
- * caller's images and texts as they were. The calls keep nothing between them. What is drawn and read is proved; that
- * nothing else is refused than is said here is tested. Any call may be refused its memory, which comes from malloc, by
- * liblibc_c.a of the toolchain, which a program links too (bench/run shows how). */
+ * Each call answers how many bytes it has written, from the front of those that the caller gave, or one of the negative
+ * numbers below, and then the caller's bytes are as they were. Of the reasons that a call names the first applies.
+ *
+ * No pointer may be null, nor bytes that a call writes overlap those that it reads. The calls keep nothing between
+ * them. What is drawn and read, and why a call refuses, is proved. Memory comes from malloc, by liblibc_c.a of the
+ * toolchain, which a program links too (bench/run shows how). */
 #ifndef RELAY_SYMBOLS_H
 #define RELAY_SYMBOLS_H
 
@@ -19,33 +21,41 @@
 extern "C" {
 #endif
 
-/* What the calls that read one symbol answer if they refuse. Those that draw one answer 0. */
-#define RELAY_REFUSED SIZE_MAX
+enum {
+    RELAY_NO_SIDE = -1,        /* no symbol has this side */
+    RELAY_WORD_COUNT = -2,     /* the words are not as many as the symbol has */
+    RELAY_NO_PAGE = -3,        /* an identification above 64,515, or a page that is not one: n is 2 to 16, m 1 to n */
+    RELAY_TOO_LONG = -4,       /* the text does not fit the symbol */
+    RELAY_NO_SYMBOL = -5,      /* the bytes do not begin with the image of a symbol */
+    RELAY_TOO_MANY_WRONG = -6, /* more modules of the finder patterns, or words of a block, are wrong than may be */
+    RELAY_NO_LABEL = -7,       /* the symbol is not that of a label */
+    RELAY_NO_TEXT = -8,        /* the words are no text, or have none after the head of the label */
+    RELAY_NO_ROOM = -9,        /* what is to be written is longer than the caller's bytes */
+    RELAY_NO_MEMORY = -10      /* memory was refused, perhaps before another reason was found */
+};
 
-/* Draws the symbol of this side that carries the text. Answers the length of its image, or 0 where no symbol has this
- * side, the text does not fit it, the image has no room, or memory is refused. */
-size_t relay_symbol_from_text(uint16_t side, const uint8_t *text, size_t text_length, uint8_t *image,
-                              size_t image_length);
+/* Draws the symbol of this side that carries the text. Answers the length of its image, or RELAY_NO_SIDE, _TOO_LONG,
+ * _NO_ROOM or _NO_MEMORY. */
+ptrdiff_t relay_symbol_from_text(uint16_t side, const uint8_t *text, size_t text_length, uint8_t *image,
+                                 size_t image_length);
 
 /* Draws the symbol of these words, data words first: all words of a symbol of this side, whether their check words are
- * right or not. Answers as relay_symbol_from_text does, and 0 where the words are not as many as the symbol has. */
-size_t relay_image_from_words(uint16_t side, const uint8_t *words, size_t words_length, uint8_t *image,
-                              size_t image_length);
+ * right or not. Answers the length of its image, or RELAY_NO_SIDE, _WORD_COUNT, _NO_ROOM or _NO_MEMORY. */
+ptrdiff_t relay_image_from_words(uint16_t side, const uint8_t *words, size_t words_length, uint8_t *image,
+                                 size_t image_length);
 
-/* Draws the label of page m of n that has this text, under the file identification of this number. Answers as
- * relay_symbol_from_text does, and 0 where the number is above 64,515 or there is no such page: n is 2 to 16, m 1 to n. */
-size_t relay_label_from_text(uint16_t side, uint16_t id, uint8_t m, uint8_t n, const uint8_t *text,
-                             size_t text_length, uint8_t *image, size_t image_length);
+/* Draws the label of page m of n that has this text, under the file identification of this number. Answers the length
+ * of its image, or RELAY_NO_SIDE, _NO_PAGE, _TOO_LONG, _NO_ROOM or _NO_MEMORY. */
+ptrdiff_t relay_label_from_text(uint16_t side, uint16_t id, uint8_t m, uint8_t n, const uint8_t *text,
+                                size_t text_length, uint8_t *image, size_t image_length);
 
-/* Reads the symbol of an image and corrects it. Answers the length of its text, or RELAY_REFUSED where this is no image
- * of a symbol, too many words, or too many modules of the finder patterns, are wrong, the words are no text, the text
- * has no room, or memory is refused. */
-size_t relay_text_from_image(const uint8_t *image, size_t image_length, uint8_t *text, size_t text_length);
+/* Reads the symbol of an image and corrects it. Answers the length of its text, or RELAY_NO_SYMBOL, _TOO_MANY_WRONG,
+ * _NO_TEXT, _NO_ROOM or _NO_MEMORY. */
+ptrdiff_t relay_text_from_image(const uint8_t *image, size_t image_length, uint8_t *text, size_t text_length);
 
 /* Opens the label of an image and corrects it, whatever its page. Answers the number of the page's bytes, or
- * RELAY_REFUSED where this is no image of a label, too many words, or too many modules of the finder patterns, are
- * wrong, the words have no head or no text after it, the bytes have no room, or memory is refused. */
-size_t relay_page_from_image(const uint8_t *image, size_t image_length, uint8_t *bytes, size_t bytes_length);
+ * RELAY_NO_SYMBOL, _TOO_MANY_WRONG, _NO_LABEL, _NO_TEXT, _NO_ROOM or _NO_MEMORY. */
+ptrdiff_t relay_page_from_image(const uint8_t *image, size_t image_length, uint8_t *bytes, size_t bytes_length);
 
 /* The length of each image of a symbol of this side, also of a label: a header, and rows of whole bytes. */
 #define RELAY_IMAGE_LENGTH(side) (((side) + 2 < 100 ? 9 : 11) + ((side) + 2) * (((side) + 9) / 8))

@@ -1,5 +1,6 @@
 /* Calls the library for C by the lines on standard input, and answers a line to each: what was drawn or read in
- * hexadecimal, a hyphen for nothing, `refused`, or `spoiled` where a refused call or the rest of the room was written to.
+ * hexadecimal, a hyphen for nothing, the negative number of a refusal, or `spoiled` where a refused call or the rest of
+ * the room was written to.
  *
  *     text SIDE ROOM HEX        label SIDE ID M N ROOM HEX        read ROOM HEX
  *     words SIDE ROOM HEX       page ROOM HEX
@@ -39,7 +40,8 @@ int main(void) {
     char call[8];
     while (scanf("%7s", call) == 1) {
         int reads = strcmp(call, "read") == 0 || strcmp(call, "page") == 0;
-        size_t side = reads ? 0 : number(), id = 0, m = 0, n = 0, answer;
+        size_t side = reads ? 0 : number(), id = 0, m = 0, n = 0;
+        ptrdiff_t answer;
         if (strcmp(call, "label") == 0) {
             id = number(), m = number(), n = number();
         }
@@ -56,14 +58,16 @@ int main(void) {
         } else {
             answer = relay_page_from_image(in, length, out, room);
         }
-        int refused = answer == (reads ? RELAY_REFUSED : 0);
-        size_t written = refused ? 0 : answer;
+        int refused = answer < 0;
+        size_t written = refused ? 0 : (size_t)answer;
         int spoiled = written > room;
         for (size_t i = written; !spoiled && i < sizeof out; i++) {
             spoiled = out[i] != FILL;
         }
-        if (spoiled || refused) {
-            puts(spoiled ? "spoiled" : "refused");
+        if (spoiled) {
+            puts("spoiled");
+        } else if (refused) {
+            printf("%d\n", (int)answer);
         } else {
             for (size_t i = 0; i < written; i++) {
                 printf("%02x", out[i]);

@@ -1,1 +1,2 @@
-pub mod Outcomes
+mod Answered
+mod Shown

@@ -1,15 +1,79 @@
--- Labels and symbols between texts, pages and images in PBM's packed form.
-use Rattle.std.specs.Prelude.{◌≡◌, ℕ, List, ◌++◌, [], length}
-use Rattle.dm_finder_frame.specs.Frame.{GridView}
+-- What the calls of the library answer: symbols and labels between texts, pages and images in PBM's packed form. Each
+-- refusal is the first, in its call's order, that applies; memory alone may be refused in place of any.
+use Rattle.std.specs.Prelude.{◌≡◌, ◌≢◌, ℕ, ◌<◌, ◌≤◌, ◌⊎◌, List, ◌++◌, [], length, drop, Result, Ok, Err, ℤ, pos, negsuc}
+use Rattle.dm_finder_frame.specs.Frame.{GridView, HasBadFrame}
 use Rattle.dm_pbm_io.specs.Image.{HasShape, IsGridInside, p4, Picture, Spells}
 use Rattle.dm_size.specs.declared.size.Size.{Size}
-use Rattle.dm_size.specs.Sizes.{side, all_words, data_words}
+use Rattle.dm_size.specs.Sizes.{IsSide, side, all_words, data_words}
+use Rattle.dm_encodation.specs.declared.fault.DecodeFault.{DecodeFault}
 use Rattle.dm_encodation.specs.declared.scheme.Scheme.TheVariants.{Ascii}
-use Rattle.dm_append_label.specs.Labels.{Seals, PageView}
-use Rattle.dm_append_label.specs.Opening.{OpensAs}
-use Rattle.dm_encodation.specs.Grammar.{ReadsOnly}
-use Rattle.dm_encodation.specs.Written.{filled}
-use Rattle.dm_symbol.specs.Correction.{IsReadAs, DrawsSymbol, data_of, grid_of_words}
+use Rattle.dm_append_label.specs.Labels.{Seals, PageView, IsHead, IsTooLong, head_of}
+use Rattle.dm_append_label.specs.Opening.{HasBadHead, HasBadText, OpensAs}
+use Rattle.dm_append_label.specs.declared.fault.LabelFault.{LabelFault}
+use Rattle.dm_encodation.specs.Grammar.{ReadsOnly, StuckOnly}
+use Rattle.dm_encodation.specs.Written.{filled, need_of}
+use Rattle.dm_symbol.specs.Correction.{HasBadBlock, IsReadAs, DrawsSymbol, data_of, grid_of_words}
+use Rattle.relay_symbols.specs.declared.refusal.Refusal.{Refusal}
+use Rattle.relay_symbols.specs.declared.refusal.Refusal.TheVariants.{NoSide, WordCount, NoPage, TooLong, NoSymbol, TooManyWrong, NoLabel, NoText, NoRoom, NoMemory}
+
+-- the number by which the header names a refusal: -1 to -10
+abbrev pub code_of : Refusal → ℤ
+code_of NoSide = negsuc 0
+code_of WordCount = negsuc 1
+code_of NoPage = negsuc 2
+code_of TooLong = negsuc 3
+code_of NoSymbol = negsuc 4
+code_of TooManyWrong = negsuc 5
+code_of NoLabel = negsuc 6
+code_of NoText = negsuc 7
+code_of NoRoom = negsuc 8
+code_of NoMemory = negsuc 9
+
+-- What a call answers that may find these bytes or refusals: how many bytes it put at the front of the caller's, which
+-- were `old` and are `new`, or the number of a refusal.
+pub data Answers (MayFind : Result (List ℕ) Refusal → Type 0) (old new : List ℕ) (answer : ℤ) : Type 0 where
+  found : (bytes : List ℕ) → MayFind (Ok bytes) → length bytes ≤ length old → new ≡ bytes ++ drop (length bytes) old
+      → answer ≡ pos (length bytes) → Answers MayFind old new answer
+  no_room : (bytes : List ℕ) → MayFind (Ok bytes) → length old < length bytes → new ≡ old → answer ≡ code_of NoRoom
+      → Answers MayFind old new answer
+  refused : (refusal : Refusal) → MayFind (Err refusal) → new ≡ old → answer ≡ code_of refusal
+      → Answers MayFind old new answer
+
+-- ---- Drawing. The text of a symbol is in ASCII encodation, with no head (ISO/IEC 16022:2006, 5.2).
+
+-- a size has this side, and this holds of it
+abbrev pub OfSide : ℕ → (Size → Type 0) → Type 0
+OfSide n P = (size : Size) × (side size ≡ n) × P size
+
+-- the image of the grid of all words of a symbol of this side
+abbrev pub DrawsWords : ℕ → List ℕ → Result (List ℕ) Refusal → Type 0
+DrawsWords n words (Ok image) =
+    OfSide n (λ size. (length words ≡ all_words size) × (image ≡ p4 (grid_of_words size words)))
+DrawsWords n words (Err NoSide) = IsSide n → ⊥
+DrawsWords n words (Err WordCount) = OfSide n (λ size. length words ≢ all_words size)
+DrawsWords n words (Err NoMemory) = Unit {0}
+DrawsWords n words (Err _) = ⊥
+
+-- the image of the one symbol of this side that carries the text
+abbrev pub DrawsText : ℕ → List ℕ → Result (List ℕ) Refusal → Type 0
+DrawsText n text (Ok image) = OfSide n (λ size.
+    (grid : GridView) × DrawsSymbol size (filled Ascii [] text (data_words size)) grid × (image ≡ p4 grid))
+DrawsText n text (Err NoSide) = IsSide n → ⊥
+DrawsText n text (Err TooLong) = OfSide n (λ size. data_words size < need_of Ascii text)
+DrawsText n text (Err NoMemory) = Unit {0}
+DrawsText n text (Err _) = ⊥
+
+-- the image of the label of this side of a page
+abbrev pub DrawsLabel : ℕ → PageView → Result (List ℕ) Refusal → Type 0
+DrawsLabel n page (Ok image) =
+    IsHead (head_of page) × OfSide n (λ size. (grid : GridView) × Seals size Ascii page grid × (image ≡ p4 grid))
+DrawsLabel n page (Err NoSide) = IsSide n → ⊥
+DrawsLabel n page (Err NoPage) = IsSide n × (IsHead (head_of page) → ⊥)
+DrawsLabel n page (Err TooLong) = IsHead (head_of page) × OfSide n (λ size. IsTooLong size Ascii page.bytes)
+DrawsLabel n page (Err NoMemory) = Unit {0}
+DrawsLabel n page (Err _) = ⊥
+
+-- ---- Reading
 
 -- the bytes begin with a picture inside whose quiet zone the grid stands
 pub record ShowsGrid (bytes : List ℕ) (grid : GridView) : Type 0 where
@@ -21,46 +85,36 @@ pub record ShowsGrid (bytes : List ℕ) (grid : GridView) : Type 0 where
   pub shape : HasShape shown
   pub inside : IsGridInside shown grid
 
--- the bytes are the image of the label of this side of a page
-pub record DrawsLabel (n : ℕ) (page : PageView) (bytes : List ℕ) : Type 0 where
-  pub size : Size
-  pub is_side : side size ≡ n
-  pub grid : GridView
-  pub sealed : Seals size Ascii page grid
-  pub shown : bytes ≡ p4 grid
+-- the bytes begin with the image of a grid of which this holds
+abbrev pub OfImage : List ℕ → (GridView → Type 0) → Type 0
+OfImage bytes P = (grid : GridView) × ShowsGrid bytes grid × P grid
 
--- the bytes begin with the image of a grid that opens as a page with these bytes
-pub record ReadsPage (bytes page_bytes : List ℕ) : Type 0 where
-  pub grid : GridView
-  pub shown : ShowsGrid bytes grid
-  pub page : PageView
-  pub corrected : ℕ
-  pub wrong : ℕ
-  pub opened : OpensAs grid page corrected wrong
-  pub bytes_are : page_bytes ≡ page.bytes
+-- the bytes begin with the image of no grid
+abbrev pub ShowsNone : List ℕ → Type 0
+ShowsNone bytes = (grid : GridView) → ShowsGrid bytes grid → ⊥
 
--- ---- Symbols between texts and images. The text of a symbol is in ASCII encodation, with no head (ISO/IEC 16022:2006,
--- 5.2).
+-- more modules of the finder patterns, or more words of a block, are wrong than may be
+abbrev pub IsTooWrong : GridView → Type 0
+IsTooWrong grid = ((wrong : ℕ) × HasBadFrame grid wrong) ⊎ ((block : ℕ) × HasBadBlock grid block)
 
--- the bytes are the image of the grid of these words, which are as many as the size of this side has
-pub record DrawsWords (n : ℕ) (words bytes : List ℕ) : Type 0 where
-  pub size : Size
-  pub is_side : side size ≡ n
-  pub count : length words ≡ all_words size
-  pub shown : bytes ≡ p4 (grid_of_words size words)
+-- the text that the words of the symbol, corrected, read as
+abbrev pub ReadsText : List ℕ → Result (List ℕ) Refusal → Type 0
+ReadsText bytes (Ok text) = OfImage bytes (λ grid.
+    (words : List ℕ) × IsReadAs grid words × ReadsOnly 1 (data_of grid.size words) text)
+ReadsText bytes (Err NoSymbol) = ShowsNone bytes
+ReadsText bytes (Err TooManyWrong) = OfImage bytes IsTooWrong
+ReadsText bytes (Err NoText) = OfImage bytes (λ grid.
+    (words : List ℕ) × IsReadAs grid words × (fault : DecodeFault) × StuckOnly 1 (data_of grid.size words) fault)
+ReadsText bytes (Err NoMemory) = Unit {0}
+ReadsText bytes (Err _) = ⊥
 
--- the bytes are the image of the one symbol of this side that carries the text
-pub record DrawsText (n : ℕ) (text bytes : List ℕ) : Type 0 where
-  pub size : Size
-  pub is_side : side size ≡ n
-  pub grid : GridView
-  pub drawn : DrawsSymbol size (filled Ascii [] text (data_words size)) grid
-  pub shown : bytes ≡ p4 grid
-
--- the bytes begin with the image of a grid whose words, corrected, read as the text
-pub record ReadsText (bytes text : List ℕ) : Type 0 where
-  pub grid : GridView
-  pub shown : ShowsGrid bytes grid
-  pub words : List ℕ
-  pub read : IsReadAs grid words
-  pub reads : ReadsOnly 1 (data_of grid.size words) text
+-- the bytes of the page that the symbol opens as
+abbrev pub ReadsPage : List ℕ → Result (List ℕ) Refusal → Type 0
+ReadsPage bytes (Ok text) = OfImage bytes (λ grid.
+    (page : PageView) × (corrected : ℕ) × (wrong : ℕ) × OpensAs grid page corrected wrong × (text ≡ page.bytes))
+ReadsPage bytes (Err NoSymbol) = ShowsNone bytes
+ReadsPage bytes (Err TooManyWrong) = OfImage bytes IsTooWrong
+ReadsPage bytes (Err NoLabel) = OfImage bytes (λ grid. (fault : LabelFault) × HasBadHead grid fault)
+ReadsPage bytes (Err NoText) = OfImage bytes (λ grid. (fault : DecodeFault) × HasBadText grid fault)
+ReadsPage bytes (Err NoMemory) = Unit {0}
+ReadsPage bytes (Err _) = ⊥

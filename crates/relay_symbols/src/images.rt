@@ -1,11 +1,14 @@
-//! Images, between grids and the caller's bytes.
+//! Images, between grids and bytes.
 
-ghost use Rattle.std.specs.Prelude.{◌≡◌, ◌≤◌, ◌++◌, length, drop, IfOk, IfSome, MatchOption};
+ghost use Rattle.std.specs.Prelude.{◌≡◌, ◌⊎◌, IfOk, MatchResult};
 ghost use Rattle.dm_pbm_io.specs.Image.{p4};
-ghost use Rattle.relay_symbols.specs.Symbols.{ShowsGrid};
+ghost use Rattle.relay_symbols.specs.Symbols.{ShowsGrid, ShowsNone};
+ghost use Rattle.relay_symbols.specs.declared.refusal.Refusal.TheVariants.{NoSymbol, NoMemory};
 
+use crate::refusal::Refusal;
 use dm_finder_frame::Grid;
-use dm_pbm_io::{grid_of, image_in, image_of, write_image};
+use dm_pbm_io::laws::{not_refused, one_image};
+use dm_pbm_io::{PbmFault, ShapeFault, grid_of, image_in, image_of, write_image};
 use std::alloc::{AllocError, Allocator};
 
 // More than the bytes of a header, with its widths of three digits.
@@ -32,25 +35,23 @@ pub(crate) fn grid_image<A: Allocator + Copy>(
 }
 
 /// The grid inside the quiet zone of the image that the bytes begin with.
-pub(crate) fn grid_from<A: Allocator + Copy>(alloc: A, bytes: &[u8]) -> Option<Grid<A>>
-    ensures { IfSome result (ShowsGrid bytes.now) }
+pub(crate) fn grid_from<A: Allocator + Copy>(alloc: A, bytes: &[u8]) -> Result<Grid<A>, Refusal>
+    ensures { MatchResult result (ShowsGrid bytes.now)
+        (λ refusal. ((refusal ≡ NoSymbol) × ShowsNone bytes.now) ⊎ (refusal ≡ NoMemory)) }
 {
-    match image_in(alloc, bytes) {
-        Ok(Some(image)) => grid_of(alloc, &image).ok(),
-        Ok(None) | Err(_) => None,
+    one_image();
+    not_refused();
+    let found = match image_in(alloc, bytes) {
+        Ok(found) => found,
+        Err(PbmFault::Memory) => return Err(Refusal::NoMemory),
+        Err(_) => return Err(Refusal::NoSymbol),
+    };
+    let Some(image) = found else {
+        return Err(Refusal::NoSymbol);
+    };
+    match grid_of(alloc, &image) {
+        Ok(grid) => Ok(grid),
+        Err(ShapeFault::Shape) => Err(Refusal::NoSymbol),
+        Err(ShapeFault::Memory) => Err(Refusal::NoMemory),
     }
-}
-
-/// Puts the bytes at the front of the caller's, or leaves those as they are where there is no room. Answers how many
-/// were put.
-pub(crate) fn put(bytes: &[u8], out: &mut [u8]) -> Option<usize>
-    ensures { MatchOption result (out.new ≡ out.old)
-        (λ count. (count ≡ length bytes.now) × (count ≤ length out.old) × (out.new ≡ bytes.now ++ drop count out.old)) }
-{
-    let count = bytes.len();
-    if count > out.len() {
-        return None;
-    }
-    out[..count].copy_from_slice(bytes);
-    Some(count)
 }

@@ -1,36 +1,68 @@
 //! Labels for programs in C.
 
-ghost use Rattle.std.specs.Prelude.{◌≡◌, ◌≢◌, ◌≤◌, ◌^◌, ◌-◌, IfSome, length, take};
-ghost use Rattle.relay_symbols.specs.Symbols.{DrawsLabel, ReadsPage};
+ghost use Rattle.std.specs.Prelude.{◌≡◌, ◌⊎◌, Ok, Err, MatchResult};
+ghost use Rattle.dm_append_label.specs.Labels.{IsHead};
+ghost use Rattle.relay_symbols.specs.Symbols.{Answers, DrawsLabel, ReadsPage};
+ghost use Rattle.relay_symbols.specs.declared.refusal.Refusal.TheVariants.{NoPage, NoMemory};
 
-use crate::images::{grid_from, grid_image, put};
-use dm_append_label::{FileId, Page, open_label, seal};
+use crate::images::{grid_from, grid_image};
+use crate::refusal::{Refusal, answer};
+use dm_append_label::{FileId, LabelFault, Page, SealFault, open_label, seal};
 use dm_encodation::Scheme;
 use dm_size::Size;
 use std::alloc::{Allocator, Global};
 
 // The page of a text: page m of n of the document of an identification, given by its number.
-fn page_of<A: Allocator + Copy>(alloc: A, id: u16, m: u8, n: u8, text: &[u8]) -> Option<Page<A>>
-    ensures { IfSome result (λ page. page ≡ record { id = id; m = m; n = n; bytes = text.now }) }
+fn page_of<A: Allocator + Copy>(
+    alloc: A,
+    id: u16,
+    m: u8,
+    n: u8,
+    text: &[u8],
+) -> Result<Page<A>, Refusal>
+    ensures { MatchResult result
+        (λ page. (page ≡ record { id = id; m = m; n = n; bytes = text.now })
+        × IsHead (record { id = id; m = m; n = n }))
+        (λ refusal. ((refusal ≡ NoPage) × (IsHead (record { id = id; m = m; n = n }) → ⊥)) ⊎ (refusal ≡ NoMemory)) }
 {
-    let id = FileId::of_number(id)?;
-    let bytes = text.to_vec(alloc).ok()?;
-    Page::new(id, m, n, bytes)
+    let Some(id) = FileId::of_number(id) else {
+        return Err(Refusal::NoPage);
+    };
+    match Page::new(id, m, n, text.to_vec(alloc)?) {
+        Some(page) => Ok(page),
+        None => Err(Refusal::NoPage),
+    }
 }
 
-// The bytes of the image of that page's label.
-fn label_image<A: Allocator + Copy>(alloc: A, side: u16, page: &Page<A>) -> Option<Vec<u8, A>>
-    ensures { IfSome result (λ bytes. DrawsLabel side page.now bytes.items) }
+// The bytes of the image of a label.
+fn label_image<A: Allocator + Copy>(
+    alloc: A,
+    side: u16,
+    id: u16,
+    m: u8,
+    n: u8,
+    text: &[u8],
+) -> Result<Vec<u8, A>, Refusal>
+    ensures { MatchResult result
+        (λ bytes. DrawsLabel side (record { id = id; m = m; n = n; bytes = text.now }) (Ok bytes.items))
+        (λ refusal. DrawsLabel side (record { id = id; m = m; n = n; bytes = text.now }) (Err refusal)) }
 {
-    let size = Size::of_side(side)?;
-    let label = seal(alloc, page, size, Scheme::Ascii).ok()?;
-    grid_image(alloc, &label).ok()
+    let Some(size) = Size::of_side(side) else {
+        return Err(Refusal::NoSide);
+    };
+    let page = page_of(alloc, id, m, n, text)?;
+    let label = match seal(alloc, &page, size, Scheme::Ascii) {
+        Ok(label) => label,
+        Err(SealFault::TooLong) => return Err(Refusal::TooLong),
+        Err(SealFault::Memory) => return Err(Refusal::NoMemory),
+    };
+    Ok(grid_image(alloc, &label)?)
 }
 
-/// Draws the label of this side of page `m` of `n` that has this text, under this file identification, in ASCII
-/// encodation, and answers how many bytes the image has, which are then at the front of `image`. Answers 0, and leaves
-/// `image` as it is, if no size has this side, the identification's number is above 64,515, there is no such page (`n`
-/// is 2 to 16, `m` 1 to `n`), the text does not fit after the head, the image has no room, or memory is refused.
+/// Draws the label of this side of page `m` of `n` that has this text, under the file identification of this number, in
+/// ASCII encodation. Answers how many bytes its image has, which are then at the front of `image`; or -1 (no size has
+/// this side), -3 (the number is above 64,515, or there is no such page: `n` is 2 to 16, `m` 1 to `n`), -4 (the text
+/// does not fit after the head), -9 (the image has no room) or -10 (memory was refused), and leaves `image` as it was.
 #[unsafe(no_mangle)]
 pub extern "C" fn relay_label_from_text(
     alloc: Global,
@@ -40,41 +72,35 @@ pub extern "C" fn relay_label_from_text(
     n: u8,
     text: &[u8],
     image: &mut [u8],
-) -> usize
-    ensures fits { result ≤ length image.old }
-    ensures drawn { result ≢ 0 → DrawsLabel side (record { id = id; m = m; n = n; bytes = text.now })
-        (take result image.new) }
-    ensures refused { result ≡ 0 → image.new ≡ image.old }
+) -> isize
+    ensures { Answers (DrawsLabel side (record { id = id; m = m; n = n; bytes = text.now }))
+        image.old image.new result }
 {
-    let Some(page) = page_of(alloc, id, m, n, text) else {
-        return 0;
-    };
-    let Some(bytes) = label_image(alloc, side, &page) else {
-        return 0;
-    };
-    put(&bytes, image).unwrap_or(0)
+    answer(label_image(alloc, side, id, m, n, text), image)
 }
 
 // The bytes of the page of the label of an image.
-fn page_bytes<A: Allocator + Copy>(alloc: A, image: &[u8]) -> Option<Vec<u8, A>>
-    ensures { IfSome result (λ bytes. ReadsPage image.now bytes.items) }
+fn page_bytes<A: Allocator + Copy>(alloc: A, image: &[u8]) -> Result<Vec<u8, A>, Refusal>
+    ensures { MatchResult result (λ bytes. ReadsPage image.now (Ok bytes.items))
+        (λ refusal. ReadsPage image.now (Err refusal)) }
 {
     let grid = grid_from(alloc, image)?;
-    let opened = open_label(alloc, &grid).ok()?;
-    Some(opened.page.into_bytes())
+    match open_label(alloc, &grid) {
+        Ok(opened) => Ok(opened.page.into_bytes()),
+        Err(LabelFault::Border { .. } | LabelFault::Block { .. }) => Err(Refusal::TooManyWrong),
+        Err(LabelFault::Content(_)) => Err(Refusal::NoText),
+        Err(LabelFault::Memory) => Err(Refusal::NoMemory),
+        Err(_) => Err(Refusal::NoLabel),
+    }
 }
 
-/// Opens the label of the image that `image` begins with, corrects it, and answers the number of its page's bytes,
-/// which stand at the front of `bytes`. Answers `usize::MAX`, and leaves `bytes` as they are, where `image` begins with
-/// no image of a label, too many words are wrong, the words have no head or no text after it, the bytes have no room,
-/// or memory is refused.
+/// Opens the label of the image that `image` begins with, and corrects it. Answers the number of its page's bytes,
+/// which are then at the front of `bytes`; or -5 (`image` begins with no image of a symbol), -6 (too many words, or
+/// modules of the finder patterns, are wrong), -7 (the words have no head), -8 (there is no text after it), -9 (the
+/// bytes have no room) or -10 (memory was refused), and leaves `bytes` as they were.
 #[unsafe(no_mangle)]
-pub extern "C" fn relay_page_from_image(alloc: Global, image: &[u8], bytes: &mut [u8]) -> usize
-    ensures read { result ≢ 2 ^ 64 - 1 → (result ≤ length bytes.old) × ReadsPage image.now (take result bytes.new) }
-    ensures refused { result ≡ 2 ^ 64 - 1 → bytes.new ≡ bytes.old }
+pub extern "C" fn relay_page_from_image(alloc: Global, image: &[u8], bytes: &mut [u8]) -> isize
+    ensures { Answers (ReadsPage image.now) bytes.old bytes.new result }
 {
-    let Some(page) = page_bytes(alloc, image) else {
-        return usize::MAX;
-    };
-    put(&page, bytes).unwrap_or(usize::MAX)
+    answer(page_bytes(alloc, image), bytes)
 }

@@ -3,11 +3,13 @@
 //! are in ASCII encodation (ISO/IEC 16022:2006, 5.2). The parameter `alloc` does not appear in the C signature.
 //!
 //! Proved: an image is exactly that of the one symbol, or label, that was asked for; a text or a page's bytes are those
-//! of the one symbol within the limit of correction; a refused call leaves the caller's bytes as they were.
+//! of the one symbol within the limit of correction; a call refuses only for the reason that its answer names, and then
+//! leaves the caller's bytes as they were.
 #![tactic(auto)]
 
 mod images;
 mod labels;
+mod refusal;
 mod symbols;
 #[cfg(test)]
 mod tests;
