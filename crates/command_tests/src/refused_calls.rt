@@ -7,7 +7,7 @@ use dm_encodation::{DecodeFault, Scheme, decode};
 use dm_finder_frame::Grid;
 use dm_pbm_io::{PbmFault, ShapeFault, grid_of, read_image};
 use dm_size::Size;
-use dm_symbol::{SymbolFault, correct_grid};
+use dm_symbol::correct_grid;
 use relay_symbol_commands::{ReadRefusal, SymbolRefusal};
 use std::alloc::Allocator;
 use std::test::Fail;
@@ -42,8 +42,7 @@ fn document_of<A: Allocator + Copy>(alloc: A, mut bytes: &[u8]) -> Result<Vec<u8
         .map_err(|fault| fault_if(fault == PbmFault::Memory))?
         .ok_or(Fault::Other)?;
     let grid = grid_of(alloc, &image).map_err(|fault| fault_if(fault == ShapeFault::Memory))?;
-    let symbol = correct_grid(alloc, &grid);
-    let symbol = symbol.map_err(|fault| fault_if(fault == SymbolFault::Memory))?;
+    let symbol = correct_grid(&grid).map_err(|_| Fault::Other)?;
     decode(alloc, symbol.data(), 0).map_err(|fault| fault_if(fault == DecodeFault::Memory))
 }
 

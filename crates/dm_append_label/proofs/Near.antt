@@ -172,7 +172,18 @@ no_page {A} grid symbol fault is give reads = record {
     opens : (f : LabelFault) → ReadsPage (data_of grid.size symbol.words) (Err f) → Opens {A = A} grid (Err f)
     opens (Border wrong) h = absurd (refused_head _ _ h)
     opens (Block block) h = absurd (refused_head _ _ h)
-    opens Memory h = is.read.frame
+    opens Memory h = (
+      h.0,
+      symbol.corrected,
+      symbol.wrong,
+      record {
+        words = symbol.words;
+        read = is.read;
+        is_page = h.1;
+        changed = is.corrected;
+        wrong_is = is.wrong;
+      },
+    )
     opens f h = (symbol.words, is.read, h)
 
     nothing : (page : PageView) (f : LabelFault) → IsPageOf (data_of symbol.size symbol.words) page →

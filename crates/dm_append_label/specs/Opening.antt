@@ -5,7 +5,7 @@ use Rattle.std.specs.Prelude.{◌≡◌, ℕ, ◌≤◌, List, length, drop, Res
 use Rattle.dm_gf256.specs.Field.{differ}
 use Rattle.dm_encodation.specs.Grammar.{ReadsOnly, StuckOnly}
 use Rattle.dm_encodation.specs.declared.fault.DecodeFault.{DecodeFault}
-use Rattle.dm_finder_frame.specs.Frame.{wrong_frame_modules, GridView, HasGoodFrame, HasBadFrame}
+use Rattle.dm_finder_frame.specs.Frame.{wrong_frame_modules, GridView, HasBadFrame}
 use Rattle.dm_symbol.specs.Correction.{HasBadBlock, IsReadAs, IsNear, data_of, words_of_grid}
 use Rattle.dm_append_label.specs.Labels.{PageView, HeadView, head_of, head_at, Carries}
 use Rattle.dm_append_label.specs.declared.opening.TheConstants.{MOST_PAGE_BYTES}
@@ -34,8 +34,7 @@ abbrev pub ReadsPage : List ℕ → Result PageView LabelFault → Type 0
 ReadsPage words (Ok page) = IsPageOf words page
 ReadsPage words (Err (Content fault)) = HasTextFault words fault
 -- memory is asked for once all else is found right
-ReadsPage words (Err Memory) =
-    (head : HeadView) × (head_at words ≡ Ok head) × (bytes : List ℕ) × ReadsOnly 5 (drop 4 words) bytes
+ReadsPage words (Err Memory) = (page : PageView) × IsPageOf words page
 -- of the other faults a head has but three
 ReadsPage words (Err fault) = head_at words ≡ Err fault
 
@@ -62,7 +61,8 @@ Opens grid (Ok opened) = OpensAs grid opened.page opened.corrected opened.wrong
 Opens grid (Err (Border wrong)) = HasBadFrame grid wrong
 Opens grid (Err (Block block)) = HasBadBlock grid block
 Opens grid (Err (Content fault)) = HasBadText grid fault
-Opens grid (Err Memory) = HasGoodFrame grid
+-- memory is asked for once the page is found
+Opens grid (Err Memory) = (page : PageView) × (corrected : ℕ) × (wrong : ℕ) × OpensAs grid page corrected wrong
 Opens grid (Err fault) = HasBadHead grid fault
 
 -- A grid near the label of a page opens as that page, or it is refused for its finder patterns or for lack of memory.
@@ -83,7 +83,6 @@ pub record LabelOpens {A : Type 0} (grid : GridView) (result : Result (Opened A)
 abbrev pub symbol_fault : SymbolFault → LabelFault
 symbol_fault (symbol_faults.Border wrong) = Border wrong
 symbol_fault (symbol_faults.Block block) = Block block
-symbol_fault symbol_faults.Memory = Memory
 
 -- the names of the faults of labels, as they are printed: each is that of its innermost fault
 abbrev pub label_fault_name : LabelFault → List ℕ

@@ -41,7 +41,7 @@ pub enum LabelFault {
     /// The text after the head has this fault, which is never `Memory`.
     #[error("{0}")]
     Content(DecodeFault),
-    /// Memory was refused: for the words, after `Border`, or for the bytes, after all else.
+    /// Memory was refused, for the bytes of a page that was found.
     #[error("out of memory")]
     Memory,
 }
@@ -80,7 +80,6 @@ impl From<SymbolFault> for LabelFault {
         match fault {
             SymbolFault::Border { wrong } => LabelFault::Border { wrong },
             SymbolFault::Block { block } => LabelFault::Block { block },
-            SymbolFault::Memory => LabelFault::Memory,
         }
     }
 }

@@ -23,6 +23,6 @@ pub use cutting::{MOST_LABELS, TooLong, cut};
 pub use dm_symbol::still_near;
 pub use fault::{LabelFault, SealFault};
 pub use file_id::FileId;
-pub use opening::{MOST_PAGE_BYTES, Opened, open_label, open_label_with, page_of};
+pub use opening::{MOST_PAGE_BYTES, Opened, open_label, page_of};
 pub use page::Page;
 pub use sealing::{seal, seal_with};

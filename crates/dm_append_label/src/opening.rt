@@ -1,6 +1,6 @@
 //! From a grid to a page.
 
-ghost use Rattle.std.specs.Prelude.{◌≡◌, ◌≤◌, length, IfOk, Some};
+ghost use Rattle.std.specs.Prelude.{◌≤◌, length, IfOk};
 ghost use Rattle.dm_symbol.specs.Correction.{data_of};
 ghost use Rattle.dm_append_label.specs.Opening.{LabelOpens, Opens, ReadsPage};
 
@@ -9,7 +9,7 @@ use crate::head::{HEAD_WORDS, read_head};
 use crate::page::Page;
 use dm_encodation::{DecodeFault, decode};
 use dm_finder_frame::Grid;
-use dm_symbol::{Corrected, SymbolReader};
+use dm_symbol::{Corrected, correct_grid};
 use std::alloc::{Allocator, Global};
 
 /// The most bytes of a page: 1,300 pairs of digits in the greatest symbol.
@@ -31,7 +31,7 @@ pub struct Opened<A: Allocator = Global> {
 ///
 /// # Errors
 /// The first fault that applies, in the order of `LabelFault`, from `NotAppended` on. `Memory` comes after all else.
-pub fn page_of<A: Allocator + Copy>(alloc: A, symbol: &Corrected<A>) -> Result<Page<A>, LabelFault>
+pub fn page_of<A: Allocator + Copy>(alloc: A, symbol: &Corrected) -> Result<Page<A>, LabelFault>
     ensures page { ReadsPage (data_of symbol.now.size symbol.now.words) result }
     ensures short { IfOk result (λ page. length page.bytes ≤ MOST_PAGE_BYTES) }
 {
@@ -53,28 +53,16 @@ pub fn page_of<A: Allocator + Copy>(alloc: A, symbol: &Corrected<A>) -> Result<P
 /// or not at all, and it opens where its finder patterns are within their limit (ISO/IEC 16022:2006, 5.6 and 5.7,
 /// Annexes A, E and F).
 ///
+/// A grid of side 12 whose data words, corrected, are `233 15 1 1 50` opens as page 1 of 2 of the identification 0, with
+/// the one byte `1`. A grid of side 10 is no label: its three data words have no room for a head.
+///
 /// # Errors
-/// The first fault that applies, in the order of `LabelFault`.
+/// The first fault that applies, in the order of `LabelFault`. Memory is asked for once, for the page's bytes: after
+/// `Memory` the grid has a page.
 pub fn open_label<A: Allocator + Copy>(alloc: A, grid: &Grid<A>) -> Result<Opened<A>, LabelFault>
     ensures { LabelOpens grid.now result }
 {
-    open_label_with(alloc, &mut SymbolReader::new(), grid)
-}
-
-/// `open_label`, by a reader for many labels: it keeps the layout of the size that it has read last. What it has read
-/// before makes no difference to the label.
-///
-/// # Errors
-/// As `open_label`.
-pub fn open_label_with<A: Allocator + Copy>(
-    alloc: A,
-    reader: &mut SymbolReader<A>,
-    grid: &Grid<A>,
-) -> Result<Opened<A>, LabelFault>
-    ensures opens { LabelOpens grid.now result }
-    ensures kept { IfOk result (λ label. reader.new ≡ Some grid.now.size) }
-{
-    let symbol = reader.read(alloc, grid)?;
+    let symbol = correct_grid(grid)?;
     let page = page_of(alloc, &symbol)?;
     Ok(Opened {
         page,

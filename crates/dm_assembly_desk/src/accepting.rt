@@ -6,7 +6,7 @@ ghost use Rattle.dm_append_label.specs.declared.opening.TheConstants.{MOST_PAGE_
 use crate::desk::Desk;
 use crate::fault::ScanFault;
 use crate::reply::Accepted;
-use dm_append_label::{Page, open_label_with};
+use dm_append_label::{Page, open_label};
 use dm_finder_frame::Grid;
 use dm_store::StoreSet;
 use std::alloc::Allocator;
@@ -30,7 +30,7 @@ impl<S: StoreSet, A: Allocator + Copy> Desk<S, A> {
         if self.is_failed {
             return Err(ScanFault::Failed);
         }
-        match open_label_with(self.alloc, &mut self.reader, grid) {
+        match open_label(self.alloc, grid) {
             Ok(opened) => self.accept_page(&opened.page),
             Err(fault) => Err(ScanFault::from(fault)),
         }

@@ -110,9 +110,9 @@ pub fn complete_blocks(size: Size, message: &[u8], words: &mut [u8])
     }
 }
 
-/// All words of the symbol whose data words are the message: the message, and after it the check words of the
-/// blocks, interleaved (ISO/IEC 16022:2006, 5.7 and Annex A). No other list begins with the message and
-/// consists of block words.
+/// All words of the symbol whose data words are the message, as many as the size has: the message, and after it the
+/// check words of the blocks, interleaved (ISO/IEC 16022:2006, 5.7 and Annex A). No other list begins with the message
+/// and consists of block words. At side 10 the message `142 164 186` gives `142 164 186 114 25 5 88 102`.
 ///
 /// # Errors
 /// Where the allocator refuses its memory.

@@ -121,6 +121,9 @@ pub fn correct_symbol(size: Size, words: &mut [u8]) -> Result<u16, BlockFault>
     let completed = &mut room[..words.len()];
     completed.copy_from_slice(words);
     complete_blocks(size, &words[..size.data_words()], completed);
+    if *completed == *words {
+        return Ok(0);
+    }
     for block in 0..blocks {
         if let Err(Uncorrectable) = correct_block(size, corrected, completed, block) {
             return Err(BlockFault { block });

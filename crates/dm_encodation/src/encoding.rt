@@ -63,9 +63,13 @@ fn fill<A: Allocator + Copy>(
     Ok(out)
 }
 
-/// The data words of a symbol: the head, the words of the text, and pads (ISO/IEC 16022:2006, 5.2,
-/// and this project's own rule where the standard leaves a choice). They are exactly as many as the
-/// size has data words, and read from the head's end as the bytes and as nothing else.
+/// The data words of a symbol: the head, which is no longer than they are, the words of the text, and
+/// pads (ISO/IEC 16022:2006, 5.2, and this project's own rule where the standard leaves a choice). They
+/// are exactly as many as the size has data words, and read from the head's end as the bytes and as
+/// nothing else. A text of no bytes has no words, and pads alone follow the head.
+///
+/// In ASCII and with no head `123456` gives `142 164 186` at side 10, and `142 164 186 129 115` at side
+/// 12, where two words are left for pads.
 ///
 /// # Errors
 /// `TooLong` exactly where the text needs more words than the head leaves, found before any memory is

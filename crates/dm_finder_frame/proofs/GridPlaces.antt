@@ -4,7 +4,7 @@ use Rattle.std.proofs.Common.{◌≡◌, ℕ, ◌+◌, ◌*◌, ◌<◌, ◌≤�
 use Rattle.std.proofs.lemmas.Bool.Decides.{nat_tests}
 use Rattle.dm_size.specs.declared.size.Size.{Size}
 use Rattle.dm_size.specs.declared.size.Size.TheVariants.{Side10}
-use Rattle.dm_size.specs.Sizes.{row, side, region, across}
+use Rattle.dm_size.specs.Sizes.{row, side, region, across, mapping}
 use Rattle.dm_size.proofs.Sound.{sound}
 use Rattle.dm_finder_frame.specs.Frame.{is_on_frame, mapping_place, grid_place}
 
@@ -19,6 +19,9 @@ most_across s = (sound s).most_across
 
 pub most_side : (s : Size) → side s ≤ 132
 most_side s = (sound s).greatest_side
+
+pub most_mapping : (s : Size) → mapping s ≤ 120
+most_mapping s = (sound s).greatest_mapping
 
 -- framed regions have even sides, so the parity of a column in its region is its parity in the grid
 pub even_columns : (s : Size) (c : ℕ) → c % (region s + 2) % 2 ≡ c % 2

@@ -5,6 +5,7 @@ use Rattle.std.proofs.Common.{◌≡◌, ℕ, ◌+◌, ◌*◌, ◌<◌, ◌≤�
 use Rattle.std.proofs.Math.Nat.{mul-le-mul_right}
 use Rattle.std.proofs.lemmas.List.{length-take-le}
 use Rattle.std.proofs.lemmas.List.Edits.{length-between}
+use Rattle.std.proofs.lemmas.List.FromFn.{length-map-range_with_len}
 use Rattle.dm_size.specs.declared.size.Size.{Size}
 use Rattle.dm_size.specs.Sizes.{side, region, across, mapping}
 use Rattle.dm_size.specs.Squares.{Square, IsWhole}
@@ -14,7 +15,7 @@ use Rattle.dm_finder_frame.specs.inner.Filled.{first_modules}
 use Rattle.dm_finder_frame.proofs.Begun.{piece_more, in_row, row_length}
 use Rattle.dm_finder_frame.proofs.FramedGrids.{place_within}
 use Rattle.dm_finder_frame.proofs.FramedRows.{inner_piece, top_piece, bottom_piece, matrix_piece}
-use Rattle.dm_finder_frame.proofs.GridPlaces.{fills_side, most_side, mapping_place_below}
+use Rattle.dm_finder_frame.proofs.GridPlaces.{fills_side, most_mapping, most_side, mapping_place_below}
 
 -- the parts of the regions before one, and its own, fit in those of all
 pub parts_fit : (b q f : ℕ) → b < q → b * f + f ≤ q * f
@@ -144,3 +145,18 @@ pub if_added : {E : Type 0} (r : Result (Unit {0}) E) (P : Type 0) (new xs zs : 
     → new ≡ cond (is_ok r) (xs ++ zs) xs → (new ≡ xs ++ zs → P) → OnOk r P
 if_added (Ok x) P new xs zs e f = f e
 if_added (Err x) P new xs zs e f = tt
+
+-- the mapping matrix has room for that part
+pub matrix_room : (g : GridView) (r b : ℕ) (xs : List Bool) → r < mapping g.size → b < across g.size
+    → xs ≡ first_modules (mapping g.size) (matrix_module g) (r * mapping g.size + b * region g.size)
+    → length xs + region g.size ≤ 14400
+matrix_room g r b xs row_in b_in begun =
+    let n = mapping g.size in
+    let most = most_mapping g.size in
+    let rows : (r + 1) * n ≤ 120 * n = mul-le-mul_right n (let l : r + 1 ≤ 120 = omega arith in l) in
+    omega (
+      arith,
+      parts_fit b (across g.size) (region g.size) b_in,
+      rows,
+      ap length begun ∙ length-map-range_with_len _ 0 (r * n + b * region g.size),
+    )

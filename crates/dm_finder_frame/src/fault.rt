@@ -14,6 +14,13 @@ pub enum GridFault {
     Memory,
 }
 
+/// More than an eighth of the finder patterns' modules are wrong; this is their number.
+#[derive(Clone, Copy, Debug, PartialEq, Eq, Error)]
+#[error("{wrong} modules of the finder patterns are wrong")]
+pub struct WrongFrame {
+    pub wrong: u16,
+}
+
 /// Why the finder patterns cannot be taken off a grid.
 #[derive(Clone, Copy, Debug, PartialEq, Eq, Error)]
 pub enum FrameFault {
@@ -33,6 +40,17 @@ impl From<AllocError> for GridFault {
 
     fn from(_: AllocError) -> GridFault {
         GridFault::Memory
+    }
+}
+
+impl From<WrongFrame> for FrameFault {
+    ghost use Rattle.std.specs.Prelude.{◌≡◌};
+    ghost use Rattle.dm_finder_frame.specs.declared.fault.FrameFault.TheVariants.{Border};
+
+    ghost from_gives = { λ given fault. fault ≡ Border given.wrong };
+
+    fn from(fault: WrongFrame) -> FrameFault {
+        FrameFault::Border { wrong: fault.wrong }
     }
 }
 

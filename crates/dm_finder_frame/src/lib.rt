@@ -15,8 +15,8 @@ pub mod laws;
 mod region;
 mod unframing;
 
-pub use fault::{FrameFault, GridFault};
+pub use fault::{FrameFault, GridFault, WrongFrame};
 pub use framing::frame;
 pub use grid::Grid;
 pub use region::cell_of;
-pub use unframing::{Framed, matrix_of, unframe};
+pub use unframing::{Framed, MOST_MODULES, modules_of, unframe, wrong_modules};

@@ -1,14 +1,18 @@
 //! From the grid to the mapping matrix.
 
-ghost use Rattle.std.specs.Prelude.{◌≡◌, ◌<◌, ◌≤◌, ◌+◌, ◌*◌, ◌%◌, ◌⊎◌, ◌||◌, ◌==◌, IfOk, OnOk, if◌then◌else◌, not};
+ghost use Rattle.std.specs.Prelude.{◌≡◌, ◌<◌, ◌≤◌, ◌+◌, ◌*◌, ◌%◌, ◌⊎◌, ◌||◌, ◌==◌, MatchResult, if◌then◌else◌, not};
 ghost use Rattle.dm_size.specs.Sizes.{across as across_of, mapping, region, side};
-ghost use Rattle.dm_finder_frame.specs.Frame.{matrix_module, matrix_of_grid, wrong_frame_modules, Unframes};
+ghost use Rattle.dm_finder_frame.specs.Frame.{matrix_module, matrix_of_grid, wrong_frame_modules, HasBadFrame, HasGoodFrame, Unframes};
 ghost use Rattle.dm_finder_frame.specs.inner.Filled.{first_modules, wrong_among};
 
-use crate::fault::FrameFault;
+use crate::fault::{FrameFault, WrongFrame};
 use crate::grid::Grid;
+use arrayvec::ArrayVec;
 use dm_size::{Matrix, Size};
-use std::alloc::{AllocError, Allocator, Global};
+use std::alloc::{Allocator, Global};
+
+/// The most modules of a mapping matrix: those of side 132.
+pub const MOST_MODULES: usize = 14_400;
 
 /// A grid's matrix, with its frame taken off.
 #[derive(Drop)]
@@ -110,16 +114,12 @@ fn wrong_count<A: Allocator>(grid: &Grid<A>) -> u16
 }
 
 // Adds a row of the mapping matrix, from the grid.
-fn push_row<A: Allocator>(
-    modules: &mut Vec<bool, A>,
-    grid: &Grid<A>,
-    row: u16,
-) -> Result<(), AllocError>
+fn push_row<A: Allocator>(modules: &mut ArrayVec<bool, MOST_MODULES>, grid: &Grid<A>, row: u16)
     requires row_in { row < mapping grid.now.size }
     requires above { let n = mapping grid.now.size in
         modules.old.items ≡ first_modules n (matrix_module grid.now) (row * n) }
     ensures { let n = mapping grid.now.size in
-        OnOk result (modules.new.items ≡ first_modules n (matrix_module grid.now) ((row + 1) * n)) }
+        modules.new.items ≡ first_modules n (matrix_module grid.now) ((row + 1) * n) }
 {
     let size = grid.size();
     let region = size.region();
@@ -127,25 +127,39 @@ fn push_row<A: Allocator>(
     let width = region as usize;
     for b in 0..size.across() as usize {
         let start = b * (width + 2) + 1;
-        modules.extend_from_slice(&line[start..start + width])?;
+        let Ok(()) = modules.try_extend_from_slice(&line[start..start + width]) else {
+            unreachable!()
+        };
     }
-    Ok(())
 }
 
-/// The mapping matrix of a grid, whatever its finder patterns are (ISO/IEC 16022:2006, 5.8).
+/// The modules of a grid's mapping matrix, row by row, whatever its finder patterns are (ISO/IEC 16022:2006, 5.8). It
+/// takes no memory.
+pub fn modules_of<A: Allocator>(grid: &Grid<A>) -> ArrayVec<bool, MOST_MODULES>
+    ensures { result.items ≡ (matrix_of_grid grid.now).modules }
+{
+    let mut modules = ArrayVec::new();
+    for row in 0..grid.size().mapping() {
+        push_row(&mut modules, grid, row);
+    }
+    modules
+}
+
+/// How many modules of a grid's finder patterns are wrong. It takes no memory.
 ///
 /// # Errors
-/// Where the allocator refuses its memory.
-pub fn matrix_of<A: Allocator>(alloc: A, grid: &Grid<A>) -> Result<Matrix<A>, AllocError>
-    ensures { IfOk result (λ matrix. matrix ≡ matrix_of_grid grid.now) }
+/// Where more than an eighth of them are, with their number.
+pub fn wrong_modules<A: Allocator>(grid: &Grid<A>) -> Result<u16, WrongFrame>
+    ensures { MatchResult result (λ wrong. HasGoodFrame grid.now × (wrong ≡ wrong_frame_modules grid.now))
+        (λ fault. HasBadFrame grid.now fault.wrong) }
 {
     let size = grid.size();
-    let side = size.mapping();
-    let mut modules = Vec::with_capacity(alloc, side as usize * side as usize)?;
-    for row in 0..side {
-        push_row(&mut modules, grid, row)?;
+    let wrong = wrong_count(grid);
+    let modules = size.regions() * (4 * size.region() + 4);
+    if 8 * wrong as u32 > modules as u32 {
+        return Err(WrongFrame { wrong });
     }
-    Ok(Matrix::from_modules(size, modules))
+    Ok(wrong)
 }
 
 /// Takes the finder patterns off a grid (ISO/IEC 16022:2006, 5.8).
@@ -156,16 +170,12 @@ pub fn matrix_of<A: Allocator>(alloc: A, grid: &Grid<A>) -> Result<Matrix<A>, Al
 pub fn unframe<A: Allocator>(alloc: A, grid: &Grid<A>) -> Result<Framed<A>, FrameFault>
     ensures { Unframes grid.now result }
 {
+    let wrong = wrong_modules(grid)?;
     let size = grid.size();
-    let wrong = wrong_count(grid);
-    let modules = size.regions() * (4 * size.region() + 4);
-    if 8 * wrong as u32 > modules as u32 {
-        return Err(FrameFault::Border { wrong });
-    }
-    let matrix = matrix_of(alloc, grid)?;
+    let modules = modules_of(grid).as_slice().to_vec(alloc)?;
     Ok(Framed {
         size,
-        matrix,
+        matrix: Matrix::from_modules(size, modules),
         wrong,
     })
 }

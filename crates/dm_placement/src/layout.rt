@@ -1,10 +1,10 @@
 //! The cells of all bits of a size, kept for several symbols.
 
-ghost use Rattle.std.specs.Prelude.{◌≡◌, ◌<◌, IfOk, OnOk, false, map};
+ghost use Rattle.std.specs.Prelude.{◌≡◌, ◌<◌, ◌++◌, ℕ, List, IfOk, false, map};
 ghost use Rattle.dm_size.specs.declared.size.Size.{Size};
 ghost use Rattle.dm_size.specs.Sizes.{mapping};
 ghost use Rattle.dm_placement.specs.Placement.{bit_cells, cell, IsBit, place_of};
-ghost use Rattle.dm_placement.specs.inner.Places.{HasWalked, is_over, steps_left};
+ghost use Rattle.dm_placement.specs.inner.Places.{HasWalked, is_over, places_found, steps_left};
 
 use crate::shape::places_of;
 use crate::walk::Walk;
@@ -28,23 +28,18 @@ impl<A: Allocator> Model for Layout<A> {
     ghost invariant = { λ l. l.places.items ≡ map (place_of (mapping l.size)) (bit_cells (mapping l.size)) };
 }
 
-// Goes one step on, and adds the places of the word that comes there, if any.
-fn add_step<A: Allocator>(
-    size: Size,
-    places: &mut Vec<u16, A>,
-    walk: &mut Walk,
-) -> Result<(), AllocError>
-    requires walked { HasWalked size walk.old places.old.items }
+/// Goes one step on, and gives the places of the word that comes there, if any.
+#[inline(always)]
+pub(crate) fn places_of_step(size: Size, walk: &mut Walk) -> Option<[u16; 8]>
+    requires walked { (places : List ℕ) × HasWalked size walk.old places }
     requires goes_on { is_over walk.old ≡ false }
-    ensures walked { OnOk result (HasWalked size walk.new places.new.items) }
-    ensures nearer { OnOk result (steps_left walk.new < steps_left walk.old) }
+    ensures walked { (places : List ℕ) → HasWalked size walk.old places
+        → HasWalked size walk.new (places ++ places_found result) }
+    ensures nearer { steps_left walk.new < steps_left walk.old }
 {
     match walk.step() {
-        Some(shape) => {
-            places.extend_from_slice(&places_of(size.mapping(), shape))?;
-            Ok(())
-        }
-        None => Ok(()),
+        Some(shape) => Some(places_of(size.mapping(), shape)),
+        None => None,
     }
 }
 
@@ -59,7 +54,9 @@ impl<A: Allocator> Layout<A> {
         let mut places = Vec::with_capacity(alloc, 8 * size.all_words())?;
         let mut walk = Walk::of_size(size);
         while !walk.is_over() {
-            add_step(size, &mut places, &mut walk)?;
+            if let Some(eight) = places_of_step(size, &mut walk) {
+                places.extend_from_slice(&eight)?;
+            }
         }
         Ok(Layout { size, places })
     }

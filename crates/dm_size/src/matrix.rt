@@ -51,7 +51,7 @@ impl<A: Allocator> Matrix<A> {
         requires column_in { column < self.now.side }
         ensures { result ≡ module_at self.now row column }
     {
-        self.is_dark(self.index(row, column))
+        self.modules[self.index(row, column)]
     }
 
     /// The matrix of a size and its modules, row by row from the top left; `true` is a dark module. It keeps the
@@ -89,13 +89,12 @@ impl<A: Allocator> Matrix<A> {
         row as usize * self.side as usize + column as usize
     }
 
-    /// Whether the module at a place, row by row, is dark.
-    #[inline(always)]
-    pub fn is_dark(&self, place: usize) -> bool
-        requires { place < self.now.side * self.now.side }
-        ensures { result ≡ get_or self.now.modules place false }
+    /// Its modules, row by row; `true` is a dark one.
+    pub fn modules(&self) -> &[bool]
+        ensures modules { result.now ≡ self.now.modules }
+        ensures whole { IsWhole self.now }
     {
-        self.modules[place]
+        self.modules.as_slice()
     }
 
     /// Makes the module at a place, row by row, dark or light.

@@ -38,7 +38,7 @@ fn place_of(cure: Cure, width: u16, last: u16, r: u16, c: u16) -> usize
 }
 
 // The symbol in an image after the change. Where there is no memory, there is none.
-fn symbol_after<A: Allocator + Copy>(alloc: A, image: &Image<A>, cure: Cure) -> Option<Corrected<A>>
+fn symbol_after<A: Allocator + Copy>(alloc: A, image: &Image<A>, cure: Cure) -> Option<Corrected>
     requires { (cure.turns < 4) × (1 ≤ cure.scale) × (cure.scale ≤ 16) }
     ensures { IfSome result (λ _. IsCure (picture image.now) cure) }
 {
@@ -53,7 +53,7 @@ fn symbol_after<A: Allocator + Copy>(alloc: A, image: &Image<A>, cure: Cure) -> 
         let pixel = image.pixels.get(place).copied().unwrap_or(false);
         modules.push(pixel ^ cure.inverted).ok()?;
     }
-    correct_grid(alloc, &Grid::from_modules(size, modules)).ok()
+    correct_grid(&Grid::from_modules(size, modules)).ok()
 }
 
 fn text_of<A: Allocator + Copy>(alloc: A, cure: Cure) -> Result<String<A>, AllocError>

@@ -13,7 +13,7 @@ use dm_append_label::{LabelFault, Page, page_of};
 use dm_encodation::decode;
 use dm_finder_frame::Grid;
 use dm_pbm_io::{Image, ShapeFault, grid_of};
-use dm_symbol::{Corrected, SymbolReader};
+use dm_symbol::{Corrected, correct_grid};
 use relay_shared::{
     Answered, DONE, ImageFile, OnImages, REFUSED, Streams, each_input, note_ending, put_image_note,
 };
@@ -52,7 +52,7 @@ fn push_line_end<A: Allocator + Copy>(
 fn line_of_label<A: Allocator + Copy>(
     alloc: A,
     page: &Page<A>,
-    symbol: &Corrected<A>,
+    symbol: &Corrected,
 ) -> Result<String<A>, AllocError>
     ensures { IfOk result (λ line.
         string_bytes line ≡ label_line page.now symbol.now.corrected symbol.now.wrong) }
@@ -70,7 +70,7 @@ fn line_of_label<A: Allocator + Copy>(
 // The line of a symbol that is no label: its text begins at its first word.
 fn line_of_no_label<A: Allocator + Copy>(
     alloc: A,
-    symbol: &Corrected<A>,
+    symbol: &Corrected,
 ) -> Result<String<A>, ReadRefusal>
     ensures { (grid : GridView) → IsCorrectedAs grid symbol.now → HasNoHead grid symbol.now.words
         → MatchResult result (λ line. HasLine grid (string_bytes line)) (RefusesGrid grid) }
@@ -90,12 +90,11 @@ fn line_of_no_label<A: Allocator + Copy>(
 // The line of a grid: that of a label first.
 fn line_of_grid<A: Allocator + Copy>(
     alloc: A,
-    reader: &mut SymbolReader<A>,
     grid: &Grid<A>,
 ) -> Result<String<A>, ReadRefusal>
     ensures { MatchResult result (λ line. HasLine grid.now (string_bytes line)) (RefusesGrid grid.now) }
 {
-    let symbol = match reader.read(alloc, grid) {
+    let symbol = match correct_grid(grid) {
         Ok(symbol) => symbol,
         Err(fault) => return Err(ReadRefusal::Label(LabelFault::from(fault))),
     };
@@ -106,17 +105,16 @@ fn line_of_grid<A: Allocator + Copy>(
     }
 }
 
-// The line of an image. The reader keeps what serves more images of one size.
+// The line of an image.
 fn line_of_image<A: Allocator + Copy>(
     alloc: A,
-    reader: &mut SymbolReader<A>,
     image: &Image<A>,
 ) -> Result<String<A>, ReadRefusal>
     ensures { MatchResult result
         (λ line. HasPictureLine (picture image.now) (string_bytes line)) (RefusesPicture (picture image.now)) }
 {
     match grid_of(alloc, image) {
-        Ok(grid) => line_of_grid(alloc, reader, &grid),
+        Ok(grid) => line_of_grid(alloc, &grid),
         Err(ShapeFault::Shape) => Err(ReadRefusal::Shape),
         Err(ShapeFault::Memory) => Err(ReadRefusal::Memory),
     }
@@ -142,11 +140,9 @@ fn note_change<A: Allocator + Copy, E: Write>(
 
 // Writes the line of each image.
 #[derive(Drop)]
-struct Reading<A: Allocator + Copy> {
-    reader: SymbolReader<A>,
-}
+struct Reading;
 
-impl<A: Allocator + Copy> OnImages<A> for Reading<A> {
+impl<A: Allocator + Copy> OnImages<A> for Reading {
     ghost command = { read_images };
 
     ghost state = { λ _ errors. errors };
@@ -161,7 +157,7 @@ impl<A: Allocator + Copy> OnImages<A> for Reading<A> {
         number: u32,
         image: &Image<A>,
     ) -> Result<Answered, WriteFault> {
-        match line_of_image(alloc, &mut self.reader, image) {
+        match line_of_image(alloc, image) {
             Ok(line) => {
                 output.put(line.as_bytes())?;
                 Ok(DONE)
@@ -199,8 +195,7 @@ pub fn read_command<A: Allocator + Copy, F: ImageFile, R: Read, W: Write, E: Wri
     ensures status { (result ≡ 0) ⊎ (result ≡ 1) }
     ensures printed { EndsRead (map F.remaining images.now) streams.old result streams.new }
 {
-    let reader = SymbolReader::new();
-    let mut reading = Reading { reader };
+    let mut reading = Reading;
     let (input, output) = (&mut streams.input, &mut streams.output);
     each_input(
         alloc,

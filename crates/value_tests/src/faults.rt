@@ -17,18 +17,18 @@ what begins at position 1 is cut off, out of memory
 27 modules of the finder patterns are wrong, out of memory
 the modules do not fill a symbol of that side, out of memory
 27 modules of the finder patterns are wrong
-block 7 has more wrong words than can be corrected, out of memory";
+block 7 has more wrong words than can be corrected";
 
 #[rattlefmt::skip]
 #[test]
 fn faults_of_symbols_say_what_is_wrong(rt: HostRuntime) -> Result<(), Fail> {
     let texts = format!(in rt.alloc();
-        "{}, {}\n{}, {}\n{}\n{}\n{}, {}\n{}, {}\n{}, {}\n{}\n{}, {}",
+        "{}, {}\n{}, {}\n{}\n{}\n{}, {}\n{}, {}\n{}, {}\n{}\n{}",
         Uncorrectable, BlockFault { block: 3 }, EncodeFault::TooLong, EncodeFault::Memory,
         DecodeFault::Unsupported { at: 2, word: 232 }, DecodeFault::Reserved { at: 7, word: 254 },
         DecodeFault::Cut { at: 1 }, DecodeFault::Memory, FrameFault::Border { wrong: 27 },
         FrameFault::Memory, GridFault::Side, GridFault::Memory, SymbolFault::Border { wrong: 27 },
-        SymbolFault::Block { block: 7 }, SymbolFault::Memory,
+        SymbolFault::Block { block: 7 },
     )?;
     assert!(rt; texts.as_str() == OF_SYMBOLS);
     Ok(())

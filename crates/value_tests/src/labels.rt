@@ -2,14 +2,13 @@
 
 use crate::worked::flip_all;
 use dm_append_label::{
-    FileId, LabelFault, Page, SealFault, cut, open_label, open_label_with, seal, seal_with,
-    still_near,
+    FileId, LabelFault, Page, SealFault, cut, open_label, seal, seal_with, still_near,
 };
 use dm_encodation::{DecodeFault, Scheme};
 use dm_finder_frame::Grid;
 use dm_placement::Layout;
 use dm_size::Size;
-use dm_symbol::{SymbolReader, correct_grid, draw_symbol};
+use dm_symbol::{correct_grid, draw_symbol};
 use std::alloc::{AllocError, Global};
 use std::test::Fail;
 
@@ -57,7 +56,7 @@ fn opens(alloc: Global, grid: &Grid, (m, n, bytes, _, _): Label) -> bool {
 fn labels_are_sealed_and_opened(rt: HostRuntime) -> Result<(), Fail> {
     for (label, words) in LABELS {
         let grid = sealed(rt.alloc(), label)?;
-        let symbol = correct_grid(rt.alloc(), &grid)?;
+        let symbol = correct_grid(&grid)?;
         assert!(rt; symbol.data().starts_with(words), "{label:?}");
         assert!(rt; opens(rt.alloc(), &grid, label), "{label:?}");
     }
@@ -177,9 +176,6 @@ fn labels_are_worn(rt: HostRuntime) -> Result<(), Fail> {
         ],
     );
     assert!(rt; wear(rt.alloc(), &label) == Ok((3, 5)));
-    let mut reader = SymbolReader::new();
-    let again = open_label_with(rt.alloc(), &mut reader, &label)?;
-    assert!(rt; (again.corrected, again.wrong) == (3, 5));
     flip_all(&mut label, &[(9, 8)]);
     assert!(rt; wear(rt.alloc(), &label) == Err(LabelFault::Block { block: 0 }));
     flip_all(&mut label, &[(0, 5)]);

@@ -5,33 +5,19 @@ use crate::worked::{WORDS, flip_all, is_worked_example};
 use dm_finder_frame::Grid;
 use dm_placement::Layout;
 use dm_size::Size;
-use dm_symbol::{SymbolFault, SymbolReader, correct_grid, draw_symbol, draw_words, still_near};
-use std::alloc::Global;
+use dm_symbol::{SymbolFault, correct_grid, draw_symbol, draw_words, still_near};
 use std::test::Fail;
 
-// Whether a reader reads these words.
-fn reads(alloc: Global, reader: &mut SymbolReader, grid: &Grid, words: &[u8]) -> bool {
-    reader
-        .read(alloc, grid)
-        .is_ok_and(|symbol| symbol.words() == words)
-}
-
-// Two words of eight are wrong: modules (2, 2) and (6, 6) stand in two words, (0, 1) and (9, 3) on the frame. One
-// reader reads that symbol, one of another size, and the first again.
+// Two words of eight are wrong: modules (2, 2) and (6, 6) stand in two words, (0, 1) and (9, 3) on the frame.
 #[test]
 fn symbols_are_drawn_and_read(rt: HostRuntime) -> Result<(), Fail> {
     let layout = Layout::of_size(rt.alloc(), Size::Side10)?;
     let mut grid = draw_symbol(rt.alloc(), &layout, &WORDS[..3])?;
     assert!(rt; is_worked_example(&grid));
     flip_all(&mut grid, &[(2, 2), (6, 6), (0, 1), (9, 3)]);
-    let mut reader = SymbolReader::new();
-    let symbol = reader.read(rt.alloc(), &grid)?;
+    let symbol = correct_grid(&grid)?;
     assert!(rt; symbol.words() == WORDS.as_slice() && symbol.data() == &WORDS[..3]);
     assert!(rt; (symbol.corrected(), symbol.wrong()) == (2, 2));
-    let layout = Layout::of_size(rt.alloc(), Size::Side12)?;
-    let zeros = draw_words(rt.alloc(), &layout, &[0; 12])?;
-    assert!(rt; reads(rt.alloc(), &mut reader, &zeros, &[0; 12]));
-    assert!(rt; reads(rt.alloc(), &mut reader, &grid, &WORDS));
     Ok(())
 }
 
@@ -47,10 +33,10 @@ fn grids_are_near_or_refused(rt: HostRuntime) -> Result<(), Fail> {
     let four = [(1, 1), (2, 2), (4, 4), (6, 6)];
     assert!(rt; !still_near(rt.alloc(), &drawn, &four)?);
     let spoiled = drawn.with_flips(rt.alloc(), &four)?;
-    assert!(rt; correct_grid(rt.alloc(), &spoiled).err() == Some(SymbolFault::Block { block: 0 }));
+    assert!(rt; correct_grid(&spoiled).err() == Some(SymbolFault::Block { block: 0 }));
     for (dark, wrong) in [(false, 27), (true, 9)] {
         let plain = Grid::of_modules(rt.alloc(), 10, &[dark; 100])?;
-        assert!(rt; correct_grid(rt.alloc(), &plain).err() == Some(SymbolFault::Border { wrong }));
+        assert!(rt; correct_grid(&plain).err() == Some(SymbolFault::Border { wrong }));
     }
     Ok(())
 }

@@ -2,7 +2,6 @@
 use Rattle.std.specs.Prelude.{ℕ, ◌+◌, false, List, get_or, map, ◌≡◌, ◌≤◌, ◌<◌, ◌-◌, ◌*◌, ◌%◌, [], ◌∷◌, zero, suc, Bool, true, ◌==◌, nat_lt, nat_le, ◌&&◌, ◌||◌, not, if◌then◌else◌, ◌++◌, Option, Some, None}
 use Rattle.std.specs.List.{range_with_len, flat_map}
 use Rattle.std.specs.Option.{option_map, option_to_list}
-use Rattle.dm_size.specs.Squares.{Square}
 use Rattle.dm_placement.specs.Placement.{number_of, place_of, cell_at, is_left_out, shape_cells, shapes}
 use Rattle.dm_placement.specs.declared.shape.Cell.{Cell}
 use Rattle.dm_placement.specs.declared.shape.Shape.{Shape}
@@ -13,10 +12,10 @@ use Rattle.dm_placement.specs.declared.walk.Sweep.{Sweep}
 use Rattle.dm_placement.specs.declared.walk.Sweep.TheVariants.{Start, Up, Down}
 use Rattle.dm_placement.specs.declared.walk.Walk.{Walk}
 
--- the word whose bits stand at eight places of a list, from index `from` on
-abbrev pub word_from_places : Square → List ℕ → ℕ → ℕ
-word_from_places m places from =
-    number_of (map (λ i. get_or m.modules (get_or places (from + i) 0) false) (range_with_len 0 8))
+-- the word whose bits stand at eight places of a list, from index `from` on, among these modules
+abbrev pub word_from_places : List Bool → List ℕ → ℕ → ℕ
+word_from_places modules places from =
+    number_of (map (λ i. get_or modules (get_or places (from + i) 0) false) (range_with_len 0 8))
 
 -- what the shapes need of a side
 pub record IsSideSound (n : ℕ) : Type 0 where
@@ -115,6 +114,11 @@ pub record Steps (w w' : Walk) (shape : Option Shape) : Type 0 where
   pub nearer : steps_left w' < steps_left w
   pub ahead : (shapes : List Shape) → IsAhead w shapes
       → (later : List Shape) × (shapes ≡ option_to_list shape ++ later) × IsAhead w' later
+
+-- the places of a word that was found, or none
+abbrev pub places_found : Option (List ℕ) → List ℕ
+places_found (Some places) = places
+places_found None = []
 
 -- these are the places of the words that the walk has come to, and the others are ahead
 pub record HasWalked (s : Size) (w : Walk) (places : List ℕ) : Type 0 where

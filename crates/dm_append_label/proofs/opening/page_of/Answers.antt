@@ -16,11 +16,13 @@ returns-in_err-head-clause-page g c =
 
 pub returns-in-Err-Memory-clause-page : goal.returns-in-Err-Memory-clause-page
 returns-in-Err-Memory-clause-page g c =
-    let read = c.in-Err-Memory.ensures.memory (search rules) in (
-      view_of c.in_ok-head.head,
-      ap head_at (sym c.data-data.ensures.data) ∙ c.in_ok-head.ensures.head.0,
-      read.0,
-      subst (λ (d : List ℕ). ReadsOnly 5 (drop 4 d) read.0) c.data-data.ensures.data read.1,
+    let read = c.in-Err-Memory.ensures.memory (search rules) in
+    let head = view_of c.in_ok-head.head in (
+      record { id = head.id; m = head.m; n = head.n; bytes = read.0 },
+      record {
+        head = ap head_at (sym c.data-data.ensures.data) ∙ c.in_ok-head.ensures.head.0;
+        reads = subst (λ (d : List ℕ). ReadsOnly 5 (drop 4 d) read.0) c.data-data.ensures.data read.1;
+      },
     )
 
 pub returns-in-Err : goal.returns-in-Err

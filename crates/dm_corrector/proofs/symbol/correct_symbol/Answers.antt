@@ -1,11 +1,22 @@
-use Rattle.std.proofs.Common.{◌≡◌, ◌<◌, ◌≤◌, ℕ, List, sym, ◌∙◌, subst, arith, length}
-use Rattle.dm_size.specs.Sizes.{blocks, block_checks, block_length}
+use Rattle.std.proofs.Common.{◌≡◌, ◌<◌, ◌≤◌, ℕ, List, sym, ◌∙◌, subst, arith, length, rules}
+use Rattle.std.specs.List.{All}
+use Rattle.dm_size.specs.declared.size.Size.{Size}
+use Rattle.dm_size.specs.Sizes.{all_words, blocks, block_checks}
 use Rattle.dm_check_blocks.specs.Blocks.{block_of}
-use Rattle.dm_corrector.specs.Symbols.{Corrects}
-use Rattle.dm_corrector.proofs.Corrected.{one_correction}
-use Rattle.dm_check_blocks.proofs.Interleaving.{length-block_of, same_from_blocks}
-use Rattle.dm_corrector.proofs.SymbolBlocks.{same_data}
+use Rattle.dm_corrector.specs.Symbols.{Corrects, CorrectsSymbol}
+use Rattle.dm_gf256.specs.Field.{IsBlockWord}
+use Rattle.dm_gf256.proofs.OneBlockWord.{differ-self}
+use Rattle.dm_corrector.proofs.SymbolBlocks.{one_symbol, same_data, sound_symbol}
 use Rattle.dm_corrector.proofs.symbol.correct_symbol.Goals as goal
+
+-- words that were completed to themselves are clean
+clean : (s : Size) (words completed : List ℕ) → completed ≡ words → length words ≡ all_words s
+    → ((b : ℕ) → b < blocks s → IsBlockWord (block_checks s) (block_of s b completed))
+    → All (λ word. word < 256) completed → CorrectsSymbol s words words
+clean s words completed same count sound bytes =
+    sound_symbol s words count
+    (subst (λ (v : List ℕ). (b : ℕ) → b < blocks s → IsBlockWord (block_checks s) (block_of s b v)) same sound)
+    (subst (λ (v : List ℕ). All (λ word. word < 256) v) same bytes)
 
 pub returns-in-Err-clause-first : goal.returns-in-Err-clause-first
 returns-in-Err-clause-first c =
@@ -20,18 +31,27 @@ returns-in-Err-clause-first c =
       earlier = λ b l. (block_of s b c.loop-block.corrected, c.loop-block.invariant.done b l);
     }
 
+pub returns-then-eq-clause-near : goal.returns-then-eq-clause-near
+returns-then-eq-clause-near c = clean c.args.size c.args.words.now c.complete_blocks.new.words (search rules) c.requires
+    c.complete_blocks.ensures.completed c.complete_blocks.ensures.bytes
+
+pub returns-then-eq-clause-changed : goal.returns-then-eq-clause-changed
+returns-then-eq-clause-changed c = sym (differ-self c.args.words.now)
+
+pub returns-then-eq-clause-only : goal.returns-then-eq-clause-only
+returns-then-eq-clause-only c = λ w. one_symbol c.args.size c.args.words.now c.args.words.now w
+    (clean c.args.size c.args.words.now c.complete_blocks.new.words (search rules) c.requires
+    c.complete_blocks.ensures.completed c.complete_blocks.ensures.bytes)
+
 pub returns-clause-only : goal.returns-clause-only
 returns-clause-only c = λ w r.
     let s = c.args.size in
-    let t = c.blocks-blocks.ensures.sound in
     let new = c.loop-block.corrected in
     let e : c.blocks-blocks.result ≡ blocks s = c.blocks-blocks.ensures.value in
-    let longest : block_length s ≤ 243 = t.longest_block in
-    same_from_blocks s w new r.count c.loop-block.invariant.count
-    (λ b l.
-    let n : length (block_of s b c.args.words.now) ≡ block_length s = length-block_of s b c.args.words.now in
-    one_correction (block_checks s) (block_of s b c.args.words.now) (block_of s b new) (block_of s b w) (omega arith)
-    (c.loop-block.invariant.done b (omega arith)) (r.each_block b l))
+    one_symbol s c.args.words.now new w (record {
+      count = c.loop-block.invariant.count;
+      each_block = λ b l. c.loop-block.invariant.done b (omega arith);
+    }) r
     ∙ sym c.copy_from_slice-3.ensures.after
 
 pub loop-block-init : goal.loop-block-init

@@ -7,7 +7,7 @@ use Rattle.dm_size.specs.Sizes.{mapping}
 use Rattle.dm_size.specs.Squares.{Square}
 use Rattle.dm_placement.specs.Placement.{bit_cells, word_from, lifted, place_of}
 use Rattle.dm_placement.specs.inner.Places.{word_from_places}
-use Rattle.dm_placement.proofs.LiftedWords.{same_made}
+use Rattle.dm_placement.proofs.LiftedWords.{same_word}
 use Rattle.dm_placement.proofs.Places.{all_places_in, place_at}
 use Rattle.dm_placement.proofs.ShapesSound.{all_in_bits, bit_count}
 use Rattle.dm_placement.proofs.lifting.lift_with.Goals as goal
@@ -17,11 +17,6 @@ word_at-requires-clause-room g c = grind (arith, length-map, bit_count)
 
 pub word_at-requires-clause-in_matrix : goal.word_at-requires-clause-in_matrix
 word_at-requires-clause-in_matrix g c = grind (arith, all_places_in, all_in_bits)
-
--- a word by the places of its bits is the word by their cells
-same_word : (m : Square) (n : ℕ) (places : List ℕ) (from : ℕ) → m.side ≡ n
-    → places ≡ map (place_of n) (bit_cells n) → word_from_places m places from ≡ word_from m (bit_cells n) from
-same_word m n places from side e = grind (arith, same_made, place_at)
 
 pub loop-k-preserved : goal.loop-k-preserved
 loop-k-preserved g c =

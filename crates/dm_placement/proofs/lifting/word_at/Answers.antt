@@ -4,4 +4,4 @@ use Rattle.dm_placement.proofs.BinaryDigits.{byte_number, more_below, number_mor
 use Rattle.dm_placement.proofs.lifting.word_at.Goals as goal
 
 pub loop-b-preserved : goal.loop-b-preserved
-loop-b-preserved g c = grind (arith, common_steps, byte_number, number_more, more_below)
+loop-b-preserved c = grind (arith, common_steps, byte_number, number_more, more_below)

@@ -1,16 +1,16 @@
 use Rattle.std.proofs.lemmas.Result.{err_from_is_err_and}
 use Rattle.dm_append_label.proofs.Near.{no_page, one_page_opens}
-use Rattle.dm_append_label.proofs.opening.open_label_with.Goals as goal
+use Rattle.dm_append_label.proofs.opening.open_label.Goals as goal
 
-pub returns-in_err-page-clause-opens : goal.returns-in_err-page-clause-opens
-returns-in_err-page-clause-opens g c =
+pub returns-in_err-page : goal.returns-in_err-page
+returns-in_err-page g c =
     let last = c.from_residual-in_err-page in
     let p = err_from_is_err_and last.result last.ensures.1 in
     rw (p.1, p.2) (no_page c.args.grid.now c.in_ok-symbol.symbol c.in_err-page.field-0.0 c.in_ok-symbol.ensures.corrects
     c.in_ok-symbol.ensures.near c.in_err-page.ensures.page)
 
-pub returns-clause-opens : goal.returns-clause-opens
-returns-clause-opens g c =
+pub returns : goal.returns
+returns g c =
     let symbol = c.in_ok-symbol.symbol in
     one_page_opens c.args.grid.now symbol
     (record { page = c.in_ok-page.page; corrected = c.corrected.result; wrong = c.wrong.result })
