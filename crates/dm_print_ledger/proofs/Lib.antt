@@ -10,3 +10,5 @@ pub mod LabelLaws
 pub mod ReadLaws
 pub mod SpelledLaws
 pub mod CarryLaws
+pub mod Silence
+pub mod LastLaws

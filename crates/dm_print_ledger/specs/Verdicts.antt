@@ -1,10 +1,11 @@
 -- What the creation of a printer does to a store.
-use Rattle.std.specs.Prelude.{◌≡◌, ◌⊎◌, ℕ, [], ◌∷◌, None, Result, Ok, Err, IsTrue, IsSome, IfOk, MatchBool, ◌+◌, ◌≤◌, ◌↔◌, ◌&&◌, ◌||◌, not, true, false, List, Some, ◌==◌, if◌then◌else◌, length, nat_lt, Bool, ◌-◌, ◌++◌, nat_le, min, max, Option, unwrap_or, IsSomeAnd, is_some, codes}
+use Rattle.std.specs.Prelude.{◌≡◌, ◌⊎◌, ℕ, [], ◌∷◌, None, Result, Ok, Err, IsTrue, IsSome, IfOk, MatchBool, ◌+◌, ◌≤◌, ◌↔◌, ◌&&◌, ◌||◌, not, true, false, List, Some, ◌==◌, if◌then◌else◌, length, nat_lt, Bool, ◌-◌, ◌++◌, nat_le, min, max, Option, unwrap_or, IsSomeAnd, is_some, codes, ◌<◌, ◌≢◌, MatchOption}
+use Rattle.std.specs.Option.{option_map_or, option_or}
 use Rattle.dm_store.specs.Saved.{Saved, Replaces, LoadsOpen}
 use Rattle.dm_print_ledger.specs.declared.range.Range.{Range}
 use Rattle.dm_print_ledger.specs.declared.fault.CreateFault.{CreateFault}
 use Rattle.dm_print_ledger.specs.Ledger.{is_range, ledger_bytes, LedgerView, PrinterView, running, are_givers, givers_with, last_taken, is_old, are_ranges, is_in, is_free, free_count, size_of, TicketView, ShownView, JobView, read_ledger, is_sound}
-use Rattle.std.specs.List.{list_any}
+use Rattle.std.specs.List.{list_any, Contains}
 use Rattle.dm_print_ledger.specs.declared.giver.Giver.{Giver}
 use Rattle.dm_print_ledger.specs.declared.limits.TheConstants.{MOST_RANGES, MOST_GIVERS}
 use Rattle.dm_print_ledger.specs.declared.fault.PrintFault.{PrintFault}
@@ -151,6 +152,35 @@ pub record Notes (old : List Giver) (number serial : ℕ) (new : List Giver) : T
   pub givers : IsTrue (are_givers new)
   pub last : (other : ℕ) → last_taken new other ≡ (if number == other then Some serial else last_taken old other)
 
+-- how many numbers the longest of the ranges has
+abbrev pub longest : List Range → ℕ
+longest [] = 0
+longest (one ∷ ranges) = max (size_of one) (longest ranges)
+
+-- the last numbers, so many, of the last of the ranges that has as many
+abbrev pub last_of : List Range → ℕ → Option Range
+last_of [] count = None
+last_of (one ∷ ranges) count = option_or (last_of ranges count) (if nat_le count (size_of one)
+    then Some (record { first = one.last + 1 - count; last = one.last }) else None)
+
+-- so many numbers that follow one another and are all free, and no other such ones end later
+pub record AreLastFree (ranges : List Range) (count : ℕ) (range : Range) : Type 0 where
+  pub is : IsTrue (is_range range)
+  pub size : size_of range ≡ count
+  pub free : AreFree ranges range
+  pub last : (other : Range) → IsTrue (is_range other) → size_of other ≡ count → AreFree ranges other
+      → other.last ≤ range.last
+
+-- at most so many numbers follow one another and are all free, and so many do
+pub record IsLongest (ranges : List Range) (most : ℕ) : Type 0 where
+  pub bound : (range : Range) → IsTrue (is_range range) → AreFree ranges range → size_of range ≤ most
+  pub there : (most ≡ 0) ⊎ ((range : Range) × IsTrue (is_range range) × AreFree ranges range × (size_of range ≡ most))
+
+-- the last of so many are found, where there are so many
+abbrev pub LastIsFound : Type 0
+LastIsFound = (ranges : List Range) (count : ℕ) → IsTrue (are_ranges ranges) → 1 ≤ count → IsLongest ranges (longest ranges)
+    × MatchOption (last_of ranges count) (longest ranges < count) (AreLastFree ranges count)
+
 -- givers are noted, each with its last serial
 abbrev pub GiversAreNoted : Type 0
 GiversAreNoted = (givers : List Giver) (last : Giver) → IsTrue (are_givers givers)
@@ -273,6 +303,76 @@ take_verdict old ticket =
 abbrev pub Takes : PrinterView → TicketView → Result (Unit {0}) TakeFault → PrinterView → Type 0
 Takes old ticket result new =
     Carries taking.Failed taking.Memory taking.Save (MayLackMemory old) (take_verdict old.ledger ticket) old result new
+
+-- ---- what ledgers and tickets show of one another
+
+-- a ticket shows that its giver gave it, and, if it is open, its numbers
+abbrev pub shown_of_ticket : TicketView → Bool → ShownView
+shown_of_ticket ticket is_open = record {
+  number = None;
+  next_serial = 0;
+  free = if is_open then ticket.range ∷ [] else [];
+  givers = giver_of ticket ∷ [];
+}
+
+-- nothing is shown
+abbrev pub shown_of_none : ShownView
+shown_of_none = record { number = None; next_serial = 0; free = []; givers = [] }
+
+-- the ledger is that of the printer of a number
+abbrev pub is_of : ShownView → ℕ → Bool
+is_of shown number = option_map_or (λ own. own == number) shown.number false
+
+-- the ticket is for its printer, which has not taken it
+abbrev pub lacks_ticket : ShownView → TicketView → Bool
+lacks_ticket shown ticket = is_of shown ticket.receiver && not (is_old shown.givers ticket.giver ticket.serial)
+
+-- both are ledgers of one printer
+abbrev pub are_of_one : ShownView → ShownView → Bool
+are_of_one one other = option_map_or (is_of other) one.number false
+
+-- some number is shown by both as free
+abbrev pub share_numbers : ShownView → ShownView → Bool
+share_numbers one other = list_any (has_free other.free) one.free
+
+-- some ticket is shown by both
+abbrev pub share_ticket : ShownView → ShownView → Bool
+share_ticket one other = list_any (λ last. list_any (λ its. (last.number == its.number) && (last.serial == its.serial))
+    other.givers) one.givers
+
+-- the other shows a ticket of its printer that it did not give yet
+abbrev pub lacks_gift : ShownView → ShownView → Bool
+lacks_gift one other = list_any (λ last. is_of one last.number && nat_le one.next_serial last.serial) other.givers
+
+-- the other is a ledger of the same printer that has given more, or taken more
+abbrev pub is_older : ShownView → ShownView → Bool
+is_older one other = are_of_one one other && (nat_lt one.next_serial other.next_serial
+    || list_any (λ last. not (is_old one.givers last.number last.serial)) other.givers)
+
+abbrev pub is_behind : ShownView → ShownView → Bool
+is_behind one other = lacks_gift one other || is_older one other
+
+-- What two ledgers of a sound site show, or a ledger and a ticket, or two tickets: they are not of one printer, no number
+-- is free in both, and each has a next serial after those of its tickets that the other shows.
+pub record AreBeside (one other : ShownView) : Type 0 where
+  pub numbers : (number : ℕ) → one.number ≡ Some number → other.number ≢ Some number
+  pub apart : (number : ℕ) → is_free one.free number ≡ true → is_free other.free number ≡ false
+  pub ahead : (last : Giver) → Contains other.givers last → one.number ≡ Some last.number → last.serial < one.next_serial
+  pub other_ahead : (last : Giver) → Contains one.givers last → other.number ≡ Some last.number
+      → last.serial < other.next_serial
+
+-- none of these tests finds anything
+pub record IsSilent (one other : ShownView) : Type 0 where
+  pub numbers : are_of_one one other ≡ false
+  pub apart : share_numbers one other ≡ false
+  pub ahead : is_behind one other ≡ false
+  pub other_ahead : is_behind other one ≡ false
+
+-- They find nothing exactly beside one another, and a shared ticket exactly where both show it.
+abbrev pub SilenceIsExact : Type 0
+SilenceIsExact = (one other : ShownView) → IsTrue (are_ranges one.free) → IsTrue (are_ranges other.free)
+    → (IsSilent one other ↔ AreBeside one other)
+    × ((share_ticket one other ≡ true) ↔ ((last : Giver) × Contains one.givers last × Contains other.givers last))
 
 -- ---- jobs
 

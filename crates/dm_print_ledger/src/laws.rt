@@ -1,7 +1,7 @@
 //! Laws of printers: each function's contract is the law.
 
 ghost use Rattle.std.specs.Prelude.{◌≡◌};
-ghost use Rattle.dm_print_ledger.specs.Verdicts.{RangesAreNumbers, FirstIsLeast, GiversAreNoted};
+ghost use Rattle.dm_print_ledger.specs.Verdicts.{RangesAreNumbers, FirstIsLeast, GiversAreNoted, SilenceIsExact};
 ghost use Rattle.dm_print_ledger.specs.Ledger.{ReadsWhatIsSpelled};
 
 use crate::limits::{GREATEST, MOST_BYTES, MOST_GIVERS, MOST_RANGES, TICKET_BYTES};
@@ -15,11 +15,13 @@ pub fn limits_by_number()
     ensures ticket { TICKET_BYTES ≡ 10 }
 {}
 
-/// What is done to lists of ranges and of givers, told of each number and each giver.
+/// What is done to lists of ranges and of givers, told of each number and each giver; and what two ledgers, or a ledger
+/// and a ticket, show of one another.
 pub fn numbers_and_givers()
     ensures ranges { RangesAreNumbers }
     ensures least { FirstIsLeast }
     ensures givers { GiversAreNoted }
+    ensures silence { SilenceIsExact }
 {}
 
 /// Bytes are read exactly where they are those of a sound ledger, of either version; what is read is that ledger.

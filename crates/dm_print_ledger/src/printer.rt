@@ -3,8 +3,10 @@
 ghost use Rattle.std.specs.Prelude.{◌≡◌, ◌≤◌, ◌+◌, false};
 
 use crate::format::bytes_of;
+use crate::free::{last_of, longest};
 use crate::ledger::Ledger;
 use crate::limits::GREATEST;
+use crate::range::Range;
 use dm_store::{MemStore, NextSave, Store, StoreFault};
 use std::alloc::{Allocator, Global};
 use std::marker::Model;
@@ -33,7 +35,8 @@ impl<S: Store, A: Allocator + Copy> Model for Printer<S, A> {
 
 impl<S: Store, A: Allocator + Copy> Printer<S, A> {
     ghost use Rattle.dm_print_ledger.specs.Ledger.{free_count};
-    ghost use Rattle.dm_print_ledger.specs.Verdicts.{IsInOrder, MayLackMemory, Saves};
+    ghost use Rattle.std.specs.Prelude.{◌<◌, MatchResult};
+    ghost use Rattle.dm_print_ledger.specs.Verdicts.{AreLastFree, IsInOrder, IsLongest, MayLackMemory, Saves};
 
     /// How many identifications are free, as last known to be saved: 0 to 64,516.
     pub fn left(&self) -> u32
@@ -42,6 +45,23 @@ impl<S: Store, A: Allocator + Copy> Printer<S, A> {
         ensures order { IsInOrder self.now }
     {
         self.ledger.left()
+    }
+
+    /// The last identifications, so many, that are free and follow one another.
+    ///
+    /// # Errors
+    /// There are none, or none were asked for. It has how many the longest range of free identifications has.
+    pub fn last_free(&self, count: u16) -> Result<Range, u32>
+        ensures { MatchResult result (AreLastFree self.now.ledger.free count)
+            (λ most. IsLongest self.now.ledger.free most × (1 ≤ count → most < count)) }
+    {
+        if count == 0 {
+            return Err(longest(self.ledger.ranges()));
+        }
+        match last_of(self.ledger.ranges(), count) {
+            Some(range) => Ok(range),
+            None => Err(longest(self.ledger.ranges())),
+        }
     }
 
     /// Gives its store back.

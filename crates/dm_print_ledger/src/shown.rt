@@ -1,14 +1,18 @@
 //! What a ledger says to somebody who only looks at it.
 
-ghost use Rattle.std.specs.Prelude.{◌≡◌, ◌≢◌, Err};
-ghost use Rattle.dm_print_ledger.specs.Ledger.{read_ledger};
+ghost use Rattle.std.specs.Prelude.{◌≡◌, ◌≢◌, ◌==◌, ◌&&◌, not, Err};
+ghost use Rattle.std.specs.List.{list_any};
+ghost use Rattle.dm_print_ledger.specs.Ledger.{is_old as test_of_old, read_ledger};
 
 use crate::fault::OpenFault;
 use crate::format::{first_ledger, second_ledger};
-use crate::giver::Giver;
+use crate::free::has_free;
+use crate::giver::{Giver, is_old};
 use crate::ledger::Ledger;
 use crate::limits::MOST_BYTES;
 use crate::range::Range;
+use crate::ticket::Ticket;
+use arrayvec::ArrayVec;
 use dm_store::{Store, StoreFault};
 use std::marker::Model;
 
@@ -35,7 +39,7 @@ impl Model for Shown {
 impl Shown {
     ghost use Rattle.std.specs.Prelude.{Ok, IsTrue, IfOk};
     ghost use Rattle.dm_print_ledger.specs.Ledger.{is_sound, free_count, is_range};
-    ghost use Rattle.dm_print_ledger.specs.Verdicts.{LoadsLedger, numbered, show_verdict};
+    ghost use Rattle.dm_print_ledger.specs.Verdicts.{LoadsLedger, are_of_one, is_behind as test_of_behind, lacks_gift, is_of as test_of_number, lacks_ticket, numbered, share_numbers, share_ticket, show_verdict, shown_of_none, shown_of_ticket};
     ghost use Rattle.std.specs.List.{All};
 
     /// What the ledger says that the store holds. It takes no memory but the store's.
@@ -53,6 +57,127 @@ impl Shown {
             Err(StoreFault::Device) => Err(OpenFault::Device),
             Err(StoreFault::Memory) => Err(OpenFault::Memory),
         }
+    }
+
+    /// What bytes say, if they are those of a ledger.
+    ///
+    /// # Errors
+    /// `NotALedger`, `Version` and `Damaged`: the first of these, in this order, that applies.
+    pub fn read(bytes: &[u8]) -> Result<Shown, OpenFault>
+        ensures { result ≡ read_ledger bytes.now }
+    {
+        shown_in(bytes)
+    }
+
+    /// What is shown by nothing.
+    pub fn none() -> Shown
+        ensures { result ≡ shown_of_none }
+    {
+        let ledger = Ledger {
+            number: 0,
+            next_serial: 0,
+            free: ArrayVec::new(),
+            givers: ArrayVec::new(),
+        };
+        Shown {
+            number: None,
+            ledger,
+        }
+    }
+
+    /// What a ticket shows: that its giver gave it, and, if it is open, that its identifications are free.
+    pub fn of_ticket(ticket: Ticket, is_open: bool) -> Shown
+        ensures { result ≡ shown_of_ticket ticket is_open }
+    {
+        let (mut free, mut givers) = (ArrayVec::new(), ArrayVec::new());
+        if is_open {
+            free.push(ticket.range);
+        }
+        givers.push(Giver {
+            number: ticket.giver,
+            serial: ticket.serial,
+        });
+        let ledger = Ledger {
+            number: 0,
+            next_serial: 0,
+            free,
+            givers,
+        };
+        Shown {
+            number: None,
+            ledger,
+        }
+    }
+
+    /// Whether it is the ledger of the printer of a number.
+    pub fn is_of(&self, number: u16) -> bool
+        ensures { result ≡ test_of_number self.now number }
+    {
+        matches!(self.number, Some(own) if own == number)
+    }
+
+    /// Whether a ticket is for its printer, which has not taken it.
+    pub fn lacks(&self, ticket: Ticket) -> bool
+        ensures { result ≡ lacks_ticket self.now ticket }
+    {
+        let last = Giver {
+            number: ticket.giver,
+            serial: ticket.serial,
+        };
+        self.is_of(ticket.receiver) && !is_old(self.givers(), last)
+    }
+
+    /// Whether both are ledgers of one printer.
+    pub fn is_of_one_with(&self, other: &Shown) -> bool
+        ensures { result ≡ are_of_one self.now other.now }
+    {
+        match self.number {
+            Some(number) => other.is_of(number),
+            None => false,
+        }
+    }
+
+    /// Whether some identification is free in both.
+    pub fn shares_numbers(&self, other: &Shown) -> bool
+        ensures { result ≡ share_numbers self.now other.now }
+    {
+        self.free().iter().any(|one| has_free(other.free(), *one))
+    }
+
+    /// Whether both show the same ticket.
+    pub fn shares_ticket(&self, other: &Shown) -> bool
+        ensures { result ≡ share_ticket self.now other.now }
+    {
+        self.givers()
+            .iter()
+            .any(|last| is_among(other.givers(), *last))
+    }
+
+    // Whether the other shows a ticket of its printer that it did not give yet.
+    fn lacks_gift(&self, other: &Shown) -> bool
+        ensures { result ≡ lacks_gift self.now other.now }
+    {
+        other.givers().iter().any(|last| self.is_of(last.number) && self.given() <= last.serial)
+    }
+
+    // Whether the other has taken a ticket that it did not take yet.
+    fn lacks_taken(&self, other: &Shown) -> bool
+        ensures { result ≡ list_any (λ last. not (test_of_old self.now.givers last.number last.serial)) other.now.givers }
+    {
+        other
+            .givers()
+            .iter()
+            .any(|last| !is_old(self.givers(), *last))
+    }
+
+    /// Whether the other shows that it is behind: by a ticket that its printer gave, or as a ledger of the same printer
+    /// that has given or taken more.
+    pub fn is_behind(&self, other: &Shown) -> bool
+        ensures { result ≡ test_of_behind self.now other.now }
+    {
+        self.lacks_gift(other)
+            || (self.is_of_one_with(other)
+                && (self.given() < other.given() || self.lacks_taken(other)))
     }
 
     /// The ledger with which the printer of a number goes on.
@@ -106,6 +231,13 @@ impl Shown {
     {
         self.ledger.givers.as_slice()
     }
+}
+
+// Whether a ticket is one of these.
+fn is_among(givers: &[Giver], ticket: Giver) -> bool
+    ensures { result ≡ list_any (λ its. (ticket.number == its.number) && (ticket.serial == its.serial)) givers.now }
+{
+    givers.iter().any(|its| ticket.number == its.number && ticket.serial == its.serial)
 }
 
 // What bytes say, if they are those of a ledger.
