@@ -13,7 +13,7 @@ GIVEN = os.environ.get("RELAY_PROGRAM")
 PROGRAM = GIVEN or str(TOP / "crates" / "relay_main" / "out" / "relay_main")
 LETTER = b"Softcairn joins no wrong pages."
 REFUSED_ON_ERRORS = {"draw", "print", "deliver", "export", "copy"}
-NAME_NO_FILE = {"words", "draw", "read", "plan", "ticket", "world", "explain", "version"}
+NAME_NO_FILE = {"words", "draw", "read", "plan", "ticket", "audit", "world", "explain", "version"}
 
 
 def fail(what):

@@ -10,8 +10,8 @@ use relay_desk_commands::{
     import_command, scan_command,
 };
 use relay_printer_commands::{
-    Labels, give_command, ledger_command, left_command, plan_command, print_command, take_command,
-    ticket_command,
+    Labels, audit_command, give_command, give_last_command, ledger_command, left_command,
+    plan_command, print_command, take_command, ticket_command,
 };
 use relay_shared::Streams;
 use relay_symbol_commands::{Form, draw_command, read_command, words_command};
@@ -30,11 +30,13 @@ pub enum Call {
     Read,
     Plan,
     Ticket,
+    Audit,
     World,
     Ledger,
     Print,
     PrintAuto,
     Give,
+    GiveLast,
     Take,
     Left,
     /// What it reads.
@@ -73,6 +75,9 @@ const CAPACITY: u16 = 4;
 // The images come on the input.
 const NO_IMAGES: [&[u8]; 0] = [];
 
+// The ledger twice, of which an audit has lines.
+const LEDGERS: [&[u8]; 2] = [NEW_LEDGER, NEW_LEDGER];
+
 // The file of printer 0 with the identifications 0 to 9.
 const NEW_LEDGER: &[u8] = b"DMLG\x02\0\0\0\0\x01\0\0\0\x09\0\xff\xf5";
 
@@ -102,9 +107,9 @@ const SCRIPT: &[u8] =
 
 /// The calls that are made alone, over the file that each asks for.
 #[rattlefmt::skip]
-pub const CALLS: [Call; 21] = [
+pub const CALLS: [Call; 23] = [
     Call::Words, Call::Draw(false), Call::Draw(true), Call::Read, Call::Plan, Call::Ticket,
-    Call::World, Call::Ledger, Call::Print, Call::PrintAuto, Call::Give, Call::Take, Call::Left,
+    Call::Audit, Call::GiveLast, Call::World, Call::Ledger, Call::Print, Call::PrintAuto, Call::Give, Call::Take, Call::Left,
     Call::Scan(LABEL), Call::Deliver, Call::Forget(ID), Call::Export(ID), Call::Import(BOTH),
     Call::Held(None), Call::Held(Some(ID)), Call::Copy,
 ];
@@ -126,7 +131,7 @@ impl Call {
     fn disk(self, alloc: Global) -> Result<MemDisk, Fail> {
         let mut disk = MemDisk::new(alloc);
         match self {
-            Call::Print | Call::PrintAuto | Call::Give | Call::Take | Call::Left => {
+            Call::Print | Call::PrintAuto | Call::Give | Call::GiveLast | Call::Take | Call::Left => {
                 keep(&mut disk, STORE, NEW_LEDGER)?;
             }
             Call::Scan(_) | Call::Import(_) | Call::Held(_) => keep(&mut disk, PAGES, PAGE_2)?,
@@ -167,6 +172,7 @@ fn filed<A: Allocator + Copy, S: Store, T: StoreSet, R: Read, W: Write, E: Write
             print_command(memory, store, streams, 0, labels, Scheme::Ascii).status
         }
         Call::Give => give_command(memory, store, streams, 0, 1, GIVEN).status,
+        Call::GiveLast => give_last_command(memory, store, streams, 0, 1, 5).status,
         Call::Take => take_command(memory, store, streams, 0, TICKET).status,
         Call::Left => left_command(store, streams).status,
         Call::Scan(_) => scan_command(memory, store, set, &NO_IMAGES, streams, CAPACITY).status,
@@ -194,6 +200,7 @@ fn status_of<A: Allocator + Copy, R: Read, W: Write, E: Write>(
         Call::Read => read_command(memory, &NO_IMAGES, streams),
         Call::Plan => plan_command(memory, streams, Scheme::Ascii),
         Call::Ticket => ticket_command(streams, TICKET),
+        Call::Audit => audit_command(memory, &LEDGERS, streams),
         Call::World => world_command(memory, streams),
         _ => {
             let path = String::from_str(alloc, STORE)?;

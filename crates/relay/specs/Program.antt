@@ -3,15 +3,16 @@
 use Rattle.std.specs.Prelude.{◌≡◌, ℕ, ◌++◌, List, [], Option, Bool, true, false, not, IsTrue, IsFalse, codes, string_bytes, ◌≢◌, ◌⊎◌, map, None, Some, Result, Ok, Err}
 use Rattle.std.specs.Option.{option_copied}
 use Rattle.relay_command.specs.declared.command.Command.{Command}
-use Rattle.relay_command.specs.declared.command.Command.TheVariants.{Words, Draw, Read, Plan, Ticket, Ledger, Print, Give, Take, Left, Scan, Deliver, Forget, Export, Import, Held, Copy, World}
+use Rattle.relay_command.specs.declared.command.Command.TheVariants.{Words, Draw, Read, Plan, Ticket, Ledger, Print, Give, GiveLast, Take, Left, Audit, Scan, Deliver, Forget, Export, Import, Held, Copy, World}
 use Rattle.relay_streams.specs.Streams.{TakesPart, AppendsPart, OutputView, write_fault_name}
 use Rattle.relay_shared.specs.Command.{LeavesErrors, StreamsView, TellsRefusal}
 use Rattle.relay_shared.specs.declared.command.TheConstants.{DOCUMENT_BYTES}
 use Rattle.relay_desk_commands.specs.declared.import.TheConstants.{IMPORT_BYTES}
+use Rattle.relay_printer_commands.specs.declared.audit.TheConstants.{TICKETS_BYTES}
 use Rattle.relay_world_command.specs.declared.world.TheConstants.{INPUT_BYTES}
 use Rattle.relay_symbol_commands.specs.Symbols.{EndsWords, EndsDraw, EndsRead}
 use Rattle.relay_desk_commands.specs.Desks.{OnDesk, EndsDeliver, EndsExport, EndsForget, EndsImport, EndsScan, EndsCopy, EndsHeld, DeskFiles}
-use Rattle.relay_printer_commands.specs.Printers.{EndsLeft, OnLedger, EndsLedger, EndsGive, EndsTake, ledger_at, EndsPlan, EndsPrint, EndsTicket}
+use Rattle.relay_printer_commands.specs.Printers.{EndsLeft, OnLedger, EndsLedger, EndsAudit, EndsGive, EndsGiveLast, EndsTake, ledger_at, EndsPlan, EndsPrint, EndsTicket}
 use Rattle.relay_world_command.specs.World.{EndsWorld}
 use Rattle.dm_store.specs.Disk.{draft_of, saved_under, set_in, unclaimed}
 use Rattle.relay.specs.declared.place.Access.{Access}
@@ -44,8 +45,8 @@ abbrev pub OnFile : (OnLedger → ℕ → OnLedger → Type 0) → OnDesk → �
 OnFile Ends old status new = Ends (ledger_at old.files.joint old.streams) status (ledger_at new.files.joint new.streams)
     × (new.files.set ≡ old.files.set)
 
--- What a command does over the store at the path that it names and the set beside it, and, of `scan` and `read`, over
--- the files of images that it is given, by their bytes; `A` is what it allocates in.
+-- What a command does over the store at the path that it names and the set beside it, and, of `scan`, `read` and `audit`,
+-- over the files of images or ledgers that it is given, by their bytes; `A` is what it allocates in.
 abbrev pub Does : Type 0 → Command → List (Option (List ℕ)) → OnDesk → ℕ → OnDesk → Type 0
 Does A (Words side scheme) images old status new =
     OnStreams (EndsWords (record { side = side; scheme = scheme })) old status new
@@ -65,8 +66,10 @@ Does A (Print file number labels scheme) images old status new =
     OnFile (EndsPrint number labels scheme) old status new × ReadsPart DOCUMENT_BYTES old.streams new.streams
 Does A (Give file number to first last) images old status new =
     OnFile (EndsGive number to (record { first = first; last = last })) old status new
+Does A (GiveLast file number to count) images old status new = OnFile (EndsGiveLast number to count) old status new
 Does A (Take file number ticket) images old status new = OnFile (EndsTake number ticket.now) old status new
 Does A (Left file) images old status new = OnFile EndsLeft old status new
+Does A Audit images old status new = OnStreams (EndsAudit images) old status new × ReadsPart TICKETS_BYTES old.streams new.streams
 Does A (Scan file capacity) images old status new = EndsScan A capacity images old status new
 Does A (Deliver file id) images old status new = EndsDeliver id.now old status new
 Does A (Forget file id) images old status new = EndsForget id.now old status new
@@ -82,6 +85,7 @@ abbrev pub path_of : Command → List ℕ
 path_of (Ledger file number first last) = file.now
 path_of (Print file number labels scheme) = file.now
 path_of (Give file number to first last) = file.now
+path_of (GiveLast file number to count) = file.now
 path_of (Take file number ticket) = file.now
 path_of (Left file) = file.now
 path_of (Scan file capacity) = file.now

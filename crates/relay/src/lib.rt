@@ -51,8 +51,8 @@ pub use relay_desk_commands::{
 };
 pub use relay_line::{LineFault, command_line};
 pub use relay_printer_commands::{
-    Labels, give_command, ledger_command, left_command, plan_command, print_command, take_command,
-    ticket_command,
+    Labels, TICKETS_BYTES, audit_command, give_command, give_last_command, ledger_command,
+    left_command, plan_command, print_command, take_command, ticket_command,
 };
 pub use relay_shared::{DOCUMENT_BYTES, Ended, EndedDesk, MOST_IMAGES, Streams};
 pub use relay_symbol_commands::{

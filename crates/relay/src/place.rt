@@ -55,15 +55,15 @@ pub(crate) fn named_by<'a>(command: Command<'a>) -> Option<Named<'a>>
         Command::Words { .. }
         | Command::Draw { .. }
         | Command::Read
+        | Command::Audit
         | Command::Plan { .. }
         | Command::Ticket { .. }
         | Command::World => return None,
         Command::Ledger { file, .. } => (file, false, Access::Creates),
-        Command::Print { file, .. } | Command::Give { file, .. } | Command::Take { file, .. } => (
-            file,
-            false,
-            Access::Saves,
-        ),
+        Command::Print { file, .. }
+        | Command::Give { file, .. }
+        | Command::GiveLast { file, .. }
+        | Command::Take { file, .. } => (file, false, Access::Saves),
         Command::Left { file } => (file, false, Access::Looks),
         Command::Scan { file, capacity } | Command::Import { file, capacity } => (
             file,

@@ -31,10 +31,14 @@ pub enum Command<'a> {
     Print { file: &'a str, number: u16, labels: Labels, scheme: Scheme },
     /// Gives the identifications from first to last to the printer `to`.
     Give { file: &'a str, number: u16, to: u16, first: u16, last: u16 },
+    /// Gives the last identifications that are free in one range, so many, to the printer `to`.
+    GiveLast { file: &'a str, number: u16, to: u16, count: u16 },
     /// Takes a ticket, in either of its forms.
     Take { file: &'a str, number: u16, ticket: &'a str },
     /// Says what a ledger holds.
     Left { file: &'a str },
+    /// Says what ledgers and tickets show that breaks what printers rely on.
+    Audit,
     /// Gathers scanned labels at a desk with room for `capacity` documents.
     Scan { file: &'a str, capacity: u16 },
     /// Gives the document of an identification, whose two words are in hexadecimal, back.

@@ -5,7 +5,7 @@ use Rattle.std.specs.Str.Parse.{digits_value, without_leading_plus}
 use Rattle.clap.specs.Walk.{Row, all_of, first_of, one_of}
 use Rattle.dm_encodation.specs.declared.scheme.Scheme.TheVariants.{Ascii}
 use Rattle.relay_command.specs.declared.command.Command.{Command}
-use Rattle.relay_command.specs.declared.command.Command.TheVariants.{Words, Draw, Read, Plan, Ticket, Ledger, Print, Give, Take, Left, Scan, Deliver, Forget, Export, Import, Held, Copy, World}
+use Rattle.relay_command.specs.declared.command.Command.TheVariants.{Words, Draw, Read, Plan, Ticket, Ledger, Print, Give, GiveLast, Take, Left, Audit, Scan, Deliver, Forget, Export, Import, Held, Copy, World}
 use Rattle.relay_command.specs.declared.command.Labels.{Labels}
 use Rattle.relay_command.specs.declared.command.Labels.TheVariants.{OfSide, AtMost}
 use Rattle.relay_command.specs.Schemes.{scheme_name}
@@ -23,8 +23,10 @@ command_name (Ticket ticket) = codes "ticket"
 command_name (Ledger file number first last) = codes "ledger"
 command_name (Print file number labels scheme) = codes "print"
 command_name (Give file number to first last) = codes "give"
+command_name (GiveLast file number to count) = codes "give"
 command_name (Take file number ticket) = codes "take"
 command_name (Left file) = codes "left"
+command_name Audit = codes "audit"
 command_name (Scan file capacity) = codes "scan"
 command_name (Deliver file id) = codes "deliver"
 command_name (Forget file id) = codes "forget"
@@ -82,9 +84,12 @@ module _ (found : List Row) where
       × HasLabels labels × HasText "scheme" (scheme_name scheme)
   HasValues (Give file number to first last) = HasText "file" file.now × HasNumber "number" number
       × HasNumber "to" to × HasNumber "first" first × HasNumber "last" last
+  HasValues (GiveLast file number to count) = HasText "file" file.now × HasNumber "number" number
+      × HasNumber "to" to × HasNumber "count" count
   HasValues (Take file number ticket) = HasText "file" file.now × HasNumber "number" number
       × HasText "ticket" ticket.now
   HasValues (Left file) = HasText "file" file.now
+  HasValues Audit = Unit {0}
   HasValues (Scan file capacity) = HasText "file" file.now × HasNumber "capacity" capacity
   HasValues (Deliver file id) = HasText "file" file.now × HasText "id" id.now
   HasValues (Forget file id) = HasText "file" file.now × HasText "id" id.now

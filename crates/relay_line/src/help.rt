@@ -3,7 +3,7 @@
 
 use crate::options::Row;
 use crate::options::rows::{
-    ANY_ID, CAPACITY, COPY_SIDE, DESK, FIRST, ID, IMAGES, LABELS, LAST, LEAST_SIDE, LEDGER, NUMBER, OWN_NUMBER, PAGE, PLAIN, REFUSAL, SAVED, SCHEME, SIDE, TICKET, TO,
+    ANY_ID, CAPACITY, COPY_SIDE, COUNT, DESK, FIRST, ID, IMAGES, LABELS, LAST, LEAST_SIDE, LEDGER, LEDGERS, NUMBER, OWN_NUMBER, PAGE, PLAIN, REFUSAL, SAVED, SCHEME, SIDE, SOME_FIRST, SOME_LAST, TICKET, TO,
 };
 
 /// A command, its options, and what its help says above and below them.
@@ -83,7 +83,7 @@ Example:
     },
 ];
 
-static OF_PRINTERS: [Page; 7] = [
+static OF_PRINTERS: [Page; 8] = [
     Page {
         name: "ledger",
         about: "Makes the ledger of a printer",
@@ -132,12 +132,15 @@ Example:
     Page {
         name: "give",
         about: "Gives free identifications to another printer, by a ticket",
-        usage: "relay give --file LEDGER --number N --to N --first N --last N",
-        rows: &[LEDGER, NUMBER, TO, FIRST, LAST],
+        usage: "relay give --file LEDGER --number N --to N\n         (--first N --last N | --count N)",
+        rows: &[LEDGER, NUMBER, TO, SOME_FIRST, SOME_LAST, COUNT],
         more: "\
 The identifications are saved as gone, and then `ticket HEX` is printed. Only
 the printer that it is for can take it, and only once. A ticket that is lost
-takes its identifications with it. A refusal goes to standard output.
+takes its identifications with it. With --count the last N identifications go
+that are free and follow one another; if there are none, `refused NotFree` is
+printed, and how many the longest range has goes to standard error. A refusal
+goes to standard output.
 
 Example:
   relay give --file north.ledger --number 1 --to 2 --first 5000 --last 5999",
@@ -193,6 +196,29 @@ standard output.
 
 Example:
   relay left --file north.ledger",
+    },
+    Page {
+        name: "audit",
+        about: "Finds what is wrong between ledgers and tickets",
+        usage: "relay audit [LEDGERS ..] < TICKETS",
+        rows: &[LEDGERS],
+        more: "\
+Reads ledgers, and from standard input tickets, one a line, in either form. For
+each two that break what printers rely on it prints a line:
+  number A B        two ledgers are of one printer
+  free A B          an identification is free in both, or free in A and on the
+                    ticket B that its printer has not taken, or on two of those
+  again A B         one serial of a printer was given twice
+  behind A B        ledger A is an older state: by B its printer has given more,
+                    or, in another ledger of that printer, has taken more
+A and B are `ledger I of P`, with its place on the line and its printer, and
+`ticket K`, with its line. `file I NAME` stands for a file that gives no ledger,
+`line K Ticket` for a line that is no ticket. Give it all ledgers of a site and
+all tickets that were given: it is silent, with status 0, while all is well.
+Nothing is saved, and another program may save meanwhile.
+
+Example:
+  relay audit north.ledger south.ledger < tickets",
     },
 ];
 

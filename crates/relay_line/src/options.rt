@@ -10,6 +10,8 @@ use std::alloc::{AllocError, Global};
 #[derive(Clone, Copy)]
 pub enum Kind {
     Optional,
+    // Only beside this other argument.
+    With(&'static str),
     Required,
     // This value stands where the argument is left out.
     Default(&'static str),
@@ -29,7 +31,7 @@ pub struct Row(&'static str, &'static str, Kind, ValueParser<'static>, &'static 
 // The arguments of the commands.
 #[rattlefmt::skip]
 pub mod rows {
-    use super::{Kind::{Default, Flag, Optional, Required, Word, Words}, Row};
+    use super::{Kind::{Default, Flag, Optional, Required, With, Word, Words}, Row};
     use clap::builder::ValueParser::{self, Names, NonEmptyString, Signed, String as Text};
     use relay_command::SCHEMES;
 
@@ -50,6 +52,9 @@ pub mod rows {
     const LEDGER_HELP: &str = "the file that holds the ledger";
     const FIRST_HELP: &str = "the first identification, from 0";
     const LAST_HELP: &str = "the last identification, up to 64515";
+    const COUNT_HELP: &str = "the last N that are free in one range, in place of\n\
+        --first and --last";
+    const LEDGERS_HELP: &str = "the files that hold the ledgers";
     const PAGE_HELP: &str = "the page, from 1 to 16";
     const SAVED_HELP: &str = "save it as this file, in place of the standard output";
     pub const SIDE: Row = Row("side", "SIDE", Optional, Signed(10, 132), SIDE_HELP);
@@ -65,6 +70,10 @@ pub mod rows {
     pub const OWN_NUMBER: Row = Row("number", "N", Default("0"), U16, "the printer's number");
     pub const FIRST: Row = Row("first", "N", Required, U16, FIRST_HELP);
     pub const LAST: Row = Row("last", "N", Required, U16, LAST_HELP);
+    pub const SOME_FIRST: Row = Row("first", "N", With("last"), U16, FIRST_HELP);
+    pub const SOME_LAST: Row = Row("last", "N", With("first"), U16, LAST_HELP);
+    pub const COUNT: Row = Row("count", "N", Optional, Signed(1, 64_516), COUNT_HELP);
+    pub const LEDGERS: Row = Row("images", "LEDGERS", Words, NonEmptyString, LEDGERS_HELP);
     pub const TICKET: Row = Row("ticket", "HEX", Required, Text, HEX_HELP);
     pub const CAPACITY: Row = Row("capacity", "N", Default("64"), U16, CAPACITY_HELP);
     pub const ID: Row = Row("id", "IIII", Required, Text, ID_HELP);
@@ -76,21 +85,22 @@ pub mod rows {
 }
 
 // An argument, as the parser takes it.
-fn argument<'a>(alloc: Global, row: &Row) -> Arg<'a> {
+fn argument<'a>(alloc: Global, row: &Row) -> Result<Arg<'a>, AllocError> {
     let Row(name, value, kind, values, text) = *row;
     let argument = Arg::new(alloc, name).help(text);
     if matches!(kind, Kind::Flag) {
-        return argument.long(name).action(ArgAction::SetTrue);
+        return Ok(argument.long(name).action(ArgAction::SetTrue));
     }
     let argument = argument
         .value_name(value)
         .value_parser(values)
         .hide_possible_values(true);
     match kind {
-        Kind::Word => argument,
-        Kind::Words => argument.num_args(0..),
-        Kind::Default(default) => argument.long(name).default_value(default),
-        _ => argument.long(name).required(matches!(kind, Kind::Required)),
+        Kind::Word => Ok(argument),
+        Kind::Words => Ok(argument.num_args(0..)),
+        Kind::Default(default) => Ok(argument.long(name).default_value(default)),
+        Kind::With(other) => argument.long(name).requires_arg(other),
+        _ => Ok(argument.long(name).required(matches!(kind, Kind::Required))),
     }
 }
 
@@ -102,15 +112,19 @@ fn command<'a>(alloc: Global, page: &Page) -> Command<'a> {
         .after_help(page.more)
 }
 
-// A command with its arguments. `print` is by a side or by a number of labels.
+// A command with its arguments. `print` is by a side or by a number of labels, and `give` of a range or of the last.
 fn subcommand<'a>(alloc: Global, page: &Page) -> Result<Command<'a>, AllocError> {
     let mut command = command(alloc, page);
     for row in page.rows {
-        command = command.arg(argument(alloc, row))?;
+        command = command.arg(argument(alloc, row)?)?;
     }
     if page.name == "print" {
         let form = ArgGroup::new(alloc, "form").required(true);
         command = command.group(form.arg("side")?.arg("labels")?)?;
+    }
+    if page.name == "give" {
+        let form = ArgGroup::new(alloc, "form").required(true);
+        command = command.group(form.arg("first")?.arg("count")?)?;
     }
     Ok(command)
 }

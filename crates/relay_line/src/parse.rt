@@ -148,6 +148,7 @@ fn command_of<'a>(name: &str, options: &ArgMatches<'a>) -> Option<Command<'a>>
             Some(Command::Draw { side, scheme, plain: options.get_one::<bool>("plain")? })
         }
         ("read", ..) => Some(Command::Read),
+        ("audit", ..) => Some(Command::Audit),
         ("plan", _, Some(scheme)) => Some(Command::Plan { scheme }),
         ("ticket", ..) => Some(Command::Ticket { ticket: text_of(options, "ticket")? }),
         ("world", ..) => Some(Command::World),
@@ -172,6 +173,10 @@ fn printer_command_of<'a>(name: &str, options: &ArgMatches<'a>) -> Option<Comman
         }
         ("give", Some(number), Some(first), Some(last)) => {
             Some(Command::Give { file, number, to: number_in(options, "to", 0, u16::MAX)?, first, last })
+        }
+        ("give", Some(number), ..) => {
+            let (to, count) = (number_in(options, "to", 0, u16::MAX)?, number_in(options, "count", 1, 64_516)?);
+            Some(Command::GiveLast { file, number, to, count })
         }
         ("take", Some(number), ..) => Some(Command::Take { file, number, ticket: text_of(options, "ticket")? }),
         ("left", ..) => Some(Command::Left { file }),

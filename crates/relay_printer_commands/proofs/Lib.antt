@@ -1,3 +1,4 @@
+pub mod AuditSteps
 pub mod CheckWords
 pub mod PlanSteps
 pub mod Sizes

@@ -1,20 +1,24 @@
 -- What the commands of printers do to ledgers and streams, and the lines that they write: what these show is this project's own rule.
-use Rattle.std.specs.Prelude.{ℕ, List, [], ◌∷◌, ◌++◌, codes, zero, suc, Option, Some, None, take, drop, ◌≡◌, ◌⊎◌, ◌<◌, ◌+◌, ◌*◌, ◌/◌, Ok, length, map, slice_index, Result, Err, ◌↔◌, ◌≤◌, ◌≢◌, true}
+use Rattle.std.specs.Prelude.{ℕ, List, [], ◌∷◌, ◌++◌, codes, zero, suc, Option, Some, None, take, drop, ◌≡◌, ◌⊎◌, ◌<◌, ◌+◌, ◌*◌, ◌/◌, Ok, length, map, slice_index, Result, Err, ◌↔◌, ◌≤◌, ◌≢◌, true, false, Bool, ◌&&◌, ◌||◌, ◌==◌, not, nat_eq, if◌then◌else◌, slice_get, IfSome, IsTrue}
+use Rattle.std.specs.Borrow.{Bor}
 use Rattle.std.specs.Fmt.{decimal}
-use Rattle.std.specs.List.{flat_map, All, range_with_len, AllPairs, Contains}
+use Rattle.std.specs.List.{flat_map, All, range_with_len, AllPairs, Contains, list_any, slice_split, AllByRecursion}
+use Rattle.std.specs.Option.{option_map_or}
+use Rattle.std.specs.Cmp.Lexicographic.{pointwise}
 use Rattle.hex.specs.Hex.{encode_lower, decode_sized}
-use Rattle.dm_print_ledger.specs.Ledger.{ticket_bytes, TicketView, free_count, ShownView, AreOfTicket, PrinterView, JobView}
+use Rattle.dm_print_ledger.specs.Ledger.{ticket_bytes, TicketView, free_count, ShownView, AreOfTicket, PrinterView, JobView, are_ranges, read_ledger}
 use Rattle.dm_print_ledger.specs.declared.giver.Giver.{Giver}
 use Rattle.dm_print_ledger.specs.declared.range.Range.{Range}
 use Rattle.relay_shared.specs.Lines.{id_text}
 use Rattle.relay_printer_commands.specs.declared.lines.PlannedSide.{PlannedSide}
 use Rattle.dm_gf256.specs.Field.{IsBlockWord}
-use Rattle.relay_shared.specs.Command.{refusal_name, RefusesOnOutput, StreamsView, TellsOnOutput, OnlyOutput, TellsAnswer, HasInputFault, ReadsDocument, ReadsNothing, RefusesOnErrors, TellsRefusal}
-use Rattle.relay_shared.specs.declared.command.Refusal.TheVariants.{Ticket, Memory, Output, Side}
+use Rattle.relay_shared.specs.Command.{refusal_name, RefusesOnOutput, StreamsView, TellsOnOutput, OnlyOutput, TellsAnswer, HasInputFault, ReadsDocument, ReadsNothing, RefusesOnErrors, TellsRefusal, Tells, Puts}
+use Rattle.relay_shared.specs.declared.command.Refusal.TheVariants.{Ticket, Memory, Output, Side, TooMany}
 use Rattle.dm_store.specs.Saved.{Saved}
-use Rattle.dm_print_ledger.specs.Verdicts.{Creates, create_fault_name, open_fault_name, give_fault_name, take_fault_name, Opens, Gives, Takes, LoadsLedger, show_verdict, print_fault_name, Prints, HasLabels}
+use Rattle.dm_print_ledger.specs.Verdicts.{Creates, create_fault_name, open_fault_name, give_fault_name, take_fault_name, Opens, Gives, Takes, LoadsLedger, show_verdict, print_fault_name, Prints, HasLabels, AreBeside, AreLastFree, IsLongest, are_of_one, is_behind, is_of, lacks_ticket, share_numbers, share_ticket, shown_of_none, shown_of_ticket}
 use Rattle.dm_print_ledger.specs.declared.fault.CreateFault.{CreateFault}
 use Rattle.dm_print_ledger.specs.declared.fault.GiveFault.{GiveFault}
+use Rattle.dm_print_ledger.specs.declared.fault.GiveFault.TheVariants.{NotFree}
 use Rattle.dm_print_ledger.specs.declared.fault.OpenFault.{OpenFault}
 use Rattle.dm_print_ledger.specs.declared.fault.TakeFault.{TakeFault}
 use Rattle.std.specs.Io.KnownBytes.{Appends}
@@ -27,10 +31,11 @@ use Rattle.dm_print_ledger.specs.declared.fault.PrintFault.{PrintFault}
 use Rattle.dm_print_ledger.specs.declared.fault.PrintFault.TheVariants.{TooLong}
 use Rattle.relay_command.specs.declared.command.Labels.{Labels}
 use Rattle.relay_command.specs.declared.command.Labels.TheVariants.{OfSide, AtMost}
-use Rattle.relay_streams.specs.Streams.{input_fault_name, AppendsPart, InputView, OutputView}
+use Rattle.relay_streams.specs.Streams.{input_fault_name, AppendsPart, InputView, OutputView, ReadsFirst}
 use Rattle.relay_streams.specs.declared.fault.InputFault.{InputFault}
 use Rattle.relay_streams.specs.declared.fault.WriteFault.{WriteFault}
 use Rattle.relay_shared.specs.declared.command.Refusal.{Refusal}
+use Rattle.relay_printer_commands.specs.declared.audit.TheConstants.{LEDGER_BYTES, TICKETS_BYTES}
 
 -- ---- lines
 
@@ -192,6 +197,27 @@ pub data EndsGive (number to : ℕ) (range : Range) (old : OnLedger) (status : �
       → RefusesOnOutput (open_fault_name fault) old.streams status new.streams
       → EndsGive number to range old status new
 
+-- how many identifications the longest range that is free has
+abbrev pub longest_note : ℕ → List ℕ
+longest_note most = codes "relay: the longest range that is free has " ++ (decimal most ++ 10 ∷ [])
+
+-- How `give` ends that is to give the last so many: the printer was opened, and was to give these, and the output was
+-- told; or it has not so many, and the output and the standard error were told; or why it was not opened.
+pub data EndsGiveLast (number to count : ℕ) (old : OnLedger) (status : ℕ) (new : OnLedger) : Type 0 where
+  gave : (range : Range) (before after : PrinterView) (answer : Result TicketView GiveFault)
+      → AreLastFree before.ledger.free count range → Opens old.saved number (Ok before)
+      → Gives before to range answer after → new.saved ≡ after.saved
+      → TellsAnswer ticket_line give_fault_name answer old.streams.output status new.streams.output
+      → OnlyOutput old.streams new.streams → EndsGiveLast number to count old status new
+  too_few : (before : PrinterView) (most : ℕ) (put : Result (Unit {0}) WriteFault) → Opens old.saved number (Ok before)
+      → IsLongest before.ledger.free most → (1 ≤ count → most < count) → new.saved ≡ old.saved
+      → TellsRefusal (give_fault_name NotFree) old.streams.output status new.streams.output
+      → Puts (longest_note most) old.streams.errors put new.streams.errors → ReadsNothing old.streams new.streams
+      → EndsGiveLast number to count old status new
+  unopened : (fault : OpenFault) → Opens old.saved number (Err fault) → new.saved ≡ old.saved
+      → RefusesOnOutput (open_fault_name fault) old.streams status new.streams
+      → EndsGiveLast number to count old status new
+
 -- how `take` ends: the text is that of no ticket; or the printer was opened and has answered, or it was not opened
 pub data EndsTake (number : ℕ) (text : List ℕ) (old : OnLedger) (status : ℕ) (new : OnLedger) : Type 0 where
   no_ticket : ¬ HasTicket text → new.saved ≡ old.saved
@@ -331,3 +357,128 @@ pub data EndsPlan (scheme : Scheme) (old : StreamsView) (status : ℕ) (new : St
   not_read : (fault : InputFault) (rest : InputView) → HasInputFault old.input rest fault
       → RefusesOnOutput (input_fault_name fault) (record old { input = rest }) status new
       → EndsPlan scheme old status new
+
+-- ---- audit
+
+-- What `audit` gathers of ledgers and tickets, and the lines in which it says what breaks what printers rely on.
+
+-- What a ledger or a ticket shows, its place among the files or the lines, from 1, and the ticket; or why it shows nothing.
+pub record EvidenceView : Type 0 where
+  pub is_ledger : Bool
+  pub place : ℕ
+  pub fault : Option (List ℕ)
+  pub ticket : Option TicketView
+  pub shown : ShownView
+
+abbrev pub shows_none : Bool → ℕ → Option (List ℕ) → EvidenceView
+shows_none is_ledger place fault =
+    record { is_ledger = is_ledger; place = place; fault = fault; ticket = None; shown = shown_of_none }
+
+-- a file shows what its bytes say of a ledger, if these are its first bytes; or it is refused
+pub data ShowsFile (place : ℕ) (file : Option (List ℕ)) : EvidenceView → Type 0 where
+  read : (bytes : List ℕ) (shown : ShownView) → IfSome file (λ all. bytes ≡ take LEDGER_BYTES all)
+      → read_ledger bytes ≡ Ok shown → ShowsFile place file (record (shows_none true place None) { shown = shown })
+  refused : (bytes : List ℕ) (fault : OpenFault) → IfSome file (λ all. bytes ≡ take LEDGER_BYTES all)
+      → read_ledger bytes ≡ Err fault → ShowsFile place file (shows_none true place (Some (open_fault_name fault)))
+  not_read : (fault : InputFault) → ShowsFile place file (shows_none true place (Some (input_fault_name fault)))
+
+-- a line shows its ticket, which is open if the ledger of its receiver is before it, and has not taken it
+pub data ShowsLine (before : List EvidenceView) (place : ℕ) (line : List ℕ) : EvidenceView → Type 0 where
+  empty : length line ≡ 0 → ShowsLine before place line (shows_none false place None)
+  ticket : (ticket : TicketView) → HasTicket line → IsTextOf line ticket → ShowsLine before place line
+      (record (shows_none false place None) {
+        ticket = Some ticket;
+        shown = shown_of_ticket ticket (list_any (λ one. lacks_ticket one.shown ticket) before);
+      })
+  refused : ¬ HasTicket line → ShowsLine before place line (shows_none false place (Some (refusal_name Ticket)))
+
+-- what the first files show, and then the first lines
+pub data Gathers (files : List (Option (List ℕ))) (lines : List (List ℕ)) : ℕ → ℕ → List EvidenceView → Type 0 where
+  begun : Gathers files lines 0 0 []
+  file : {n : ℕ} {before : List EvidenceView} {one : EvidenceView} (file : Option (List ℕ)) → Gathers files lines n 0 before
+      → slice_get files n ≡ Some file → ShowsFile (n + 1) file one → Gathers files lines (n + 1) 0 (before ++ one ∷ [])
+  line : {n k : ℕ} {before : List EvidenceView} {one : EvidenceView} (line : List ℕ) → Gathers files lines n k before
+      → slice_get lines k ≡ Some line → ShowsLine before (k + 1) line one
+      → Gathers files lines n (k + 1) (before ++ one ∷ [])
+
+-- the texts that are referred to
+abbrev pub texts : List (Bor (List ℕ)) → List (List ℕ)
+texts lines = map (λ line. line.now) lines
+
+-- what all files show, and all lines of these bytes
+abbrev pub GathersAll : List (Option (List ℕ)) → List ℕ → List EvidenceView → Type 0
+GathersAll files bytes evidence = let lines = slice_split (λ byte. byte == 10) bytes in
+    Gathers files lines (length files) (length lines) evidence
+
+-- they are the same ticket
+abbrev pub are_same : EvidenceView → EvidenceView → Bool
+are_same one other = option_map_or (λ ticket. option_map_or (λ its. pointwise nat_eq (ticket_bytes ticket) (ticket_bytes its))
+    other.ticket false) one.ticket false
+
+-- the first is the ledger of the printer that the other, a ticket, is for
+abbrev pub is_receiver : EvidenceView → EvidenceView → Bool
+is_receiver one other = option_map_or (λ ticket. is_of one.shown ticket.receiver) other.ticket false
+
+-- both show one ticket, and neither is the ledger of the printer that the other is for
+abbrev pub is_again : EvidenceView → EvidenceView → Bool
+is_again one other = share_ticket one.shown other.shown && not (is_receiver one other || is_receiver other one)
+
+-- a ledger, its place, and the number of its printer, or a hyphen for none; or a ticket and its place
+abbrev pub evidence_name : EvidenceView → List ℕ
+evidence_name one = if one.is_ledger
+    then codes "ledger " ++ (decimal one.place ++ (codes " of " ++ option_map_or decimal one.shown.number (codes "-")))
+    else codes "ticket " ++ decimal one.place
+
+-- why a file or a line shows nothing
+abbrev pub fault_line : EvidenceView → List ℕ
+fault_line one = option_map_or (λ name. (if one.is_ledger then codes "file " else codes "line ")
+    ++ (decimal one.place ++ (32 ∷ (name ++ 10 ∷ [])))) one.fault []
+
+-- what is wrong between two, if it is
+abbrev pub breach_line : Bool → List ℕ → EvidenceView → EvidenceView → List ℕ
+breach_line is kind one other =
+    if is then kind ++ (32 ∷ (evidence_name one ++ (32 ∷ (evidence_name other ++ 10 ∷ [])))) else []
+
+abbrev pub breach_lines : EvidenceView → EvidenceView → List ℕ
+breach_lines one other = if are_same one other then [] else
+    breach_line (are_of_one one.shown other.shown) (codes "number") one other
+    ++ (breach_line (share_numbers one.shown other.shown) (codes "free") one other
+    ++ (breach_line (is_again one other) (codes "again") one other
+    ++ (breach_line (is_behind one.shown other.shown) (codes "behind") one other
+    ++ breach_line (is_behind other.shown one.shown) (codes "behind") other one)))
+
+-- of each, why it shows nothing, and what is wrong between it and each later one
+abbrev pub audit_lines : List EvidenceView → List ℕ
+audit_lines [] = []
+audit_lines (one ∷ later) = fault_line one ++ (flat_map (breach_lines one) later ++ audit_lines later)
+
+-- How `audit` ends: the tickets could not be read, or are too many; memory was refused; or the lines were written, and the
+-- status is 0 if there is none.
+pub data EndsAudit (files : List (Option (List ℕ))) (old : StreamsView) (status : ℕ) (new : StreamsView) : Type 0 where
+  not_read : (fault : InputFault) (rest : InputView) → HasInputFault old.input rest fault
+      → RefusesOnOutput (input_fault_name fault) (record old { input = rest }) status new → EndsAudit files old status new
+  too_many : (bytes : List ℕ) (rest : InputView) → ReadsFirst old.input rest TICKETS_BYTES bytes
+      → length bytes ≡ TICKETS_BYTES → RefusesOnOutput (refusal_name TooMany) (record old { input = rest }) status new
+      → EndsAudit files old status new
+  no_memory : (bytes : List ℕ) (rest : InputView) → ReadsFirst old.input rest TICKETS_BYTES bytes
+      → RefusesOnOutput (refusal_name Memory) (record old { input = rest }) status new → EndsAudit files old status new
+  audited : (bytes : List ℕ) (rest : InputView) (evidence : List EvidenceView) → ReadsFirst old.input rest TICKETS_BYTES bytes
+      → length bytes < TICKETS_BYTES → GathersAll files bytes evidence
+      → Tells (audit_lines evidence) (if length (audit_lines evidence) == 0 then 0 else 1) old.output status new.output
+      → new ≡ record old { input = rest; output = new.output } → EndsAudit files old status new
+
+-- What is shown breaks nothing that printers rely on: one ticket twice; or two that are beside one another, which show no
+-- ticket both, but for one and the ledger of the printer that it is for.
+pub data IsSoundPair (one other : EvidenceView) : Type 0 where
+  same : are_same one other ≡ true → IsSoundPair one other
+  beside : AreBeside one.shown other.shown → is_again one other ≡ false → IsSoundPair one other
+
+-- each was read, and breaks nothing with any later one
+abbrev pub AreAllSound : List EvidenceView → Type 0
+AreAllSound [] = Unit {0}
+AreAllSound (one ∷ later) = (one.fault ≡ None) × AllByRecursion (IsSoundPair one) later × AreAllSound later
+
+-- `audit` is silent exactly where all is sound.
+abbrev pub AuditIsExact : Type 0
+AuditIsExact = (evidence : List EvidenceView) → AllByRecursion (λ one. IsTrue (are_ranges one.shown.free)) evidence
+    → (audit_lines evidence ≡ []) ↔ AreAllSound evidence

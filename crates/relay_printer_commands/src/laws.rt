@@ -1,8 +1,10 @@
-//! Laws of the texts of tickets. The functions do nothing: their contracts are the laws.
+//! Laws of the texts of tickets, and of audits. The functions do nothing: their contracts are the laws.
 
 ghost use Rattle.std.specs.Prelude.{◌≢◌, ◌≤◌, List, ℕ};
 ghost use Rattle.dm_gf256.specs.Field.{differ};
-ghost use Rattle.relay_printer_commands.specs.Printers.{check_text, HasTicket, IsCheckText, IsChecked, IsGroupedText};
+ghost use Rattle.relay_printer_commands.specs.Printers.{AuditIsExact, check_text, HasTicket, IsCheckText, IsChecked, IsGroupedText};
+
+use dm_print_ledger::laws::numbers_and_givers;
 
 /// If one or two of the twelve bytes that a text in the check form spells are changed, the new text is no ticket's.
 pub fn changed_bytes_are_refused()
@@ -14,3 +16,10 @@ pub fn changed_bytes_are_refused()
 pub fn check_text_is_read()
     ensures { (bytes whole : List ℕ) → IsChecked bytes whole → IsCheckText (check_text whole) bytes }
 {}
+
+/// An audit is silent exactly where what it was given breaks nothing.
+pub fn audit_is_exact()
+    ensures { AuditIsExact }
+{
+    numbers_and_givers();
+}

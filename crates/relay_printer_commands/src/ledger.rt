@@ -1,16 +1,18 @@
 //! `relay ledger`, a new printer; `relay give`, identifications for another; and the printer that other commands open.
 
-ghost use Rattle.std.specs.Prelude.{◌≡◌, Ok, Err, IfErr, MatchResult};
-ghost use Rattle.dm_print_ledger.specs.Verdicts.{Opens, give_fault_name, open_fault_name};
+ghost use Rattle.std.specs.Prelude.{◌≡◌, Ok, Err, IfErr, MatchResult, Result};
+ghost use Rattle.dm_print_ledger.specs.Verdicts.{Gives, Opens, give_fault_name, open_fault_name};
+ghost use Rattle.dm_print_ledger.specs.Ledger.{PrinterView, TicketView};
 ghost use Rattle.dm_print_ledger.specs.declared.fault.OpenFault.{OpenFault};
-ghost use Rattle.relay_printer_commands.specs.Printers.{EndsLedger, ledger_at, EndsGive, ticket_line};
-ghost use Rattle.relay_shared.specs.Command.{TellsAnswer, TellsRefusal};
+ghost use Rattle.relay_printer_commands.specs.Printers.{EndsGive, EndsGiveLast, EndsLedger, ledger_at, longest_note, ticket_line};
+ghost use Rattle.relay_shared.specs.Command.{Puts, TellsAnswer, TellsRefusal};
 
 use crate::lines::{put_left, put_ticket};
 use dm_print_ledger::{CreateRefused, GiveFault, OpenRefused, Printer, Range, Ticket};
 use dm_store::Store;
+use itoa::Buffer;
 use relay_shared::{Ended, Streams, refuse, status_after};
-use relay_streams::Output;
+use relay_streams::{Output, WriteFault};
 use std::alloc::Allocator;
 use std::io::{Read, Write};
 
@@ -61,6 +63,23 @@ pub fn ledger_command<A: Allocator + Copy, S: Store, R: Read, W: Write, E: Write
     }
 }
 
+// Gives a range from an open printer, and ends the command.
+fn give_from<A: Allocator + Copy, S: Store, W: Write>(
+    printer: Printer<S, A>,
+    output: &mut Output<W>,
+    to: u16,
+    range: Range,
+) -> Ended<S>
+    ensures { (after : PrinterView) × (answer : Result TicketView GiveFault) × Gives printer to range answer after
+        × (S.state result.store ≡ after.saved)
+        × TellsAnswer ticket_line give_fault_name answer output.old result.status output.new }
+{
+    let mut printer = printer;
+    let status = tell_give(output, printer.give(to, range));
+    let store = printer.close();
+    Ended { status, store }
+}
+
 #[tactic(auto, using(relay_shared::proofs::Telling::told))]
 fn tell_give<W: Write>(output: &mut Output<W>, answer: Result<Ticket, GiveFault>) -> u8
     ensures { TellsAnswer ticket_line give_fault_name answer output.old result output.new }
@@ -84,11 +103,45 @@ pub fn give_command<A: Allocator + Copy, S: Store, R: Read, W: Write, E: Write>(
     ensures { EndsGive number to range (ledger_at (S.state store) streams.old) result.status
         (ledger_at (S.state result.store) streams.new) }
 {
-    let mut printer = match open_printer(alloc, store, &mut streams.output, number) {
+    match open_printer(alloc, store, &mut streams.output, number) {
+        Ok(printer) => give_from(printer, &mut streams.output, to, range),
+        Err(ended) => ended,
+    }
+}
+
+// Notes how many identifications the longest range that is free has.
+fn note_longest<E: Write>(errors: &mut Output<E>, most: u32) -> Result<(), WriteFault>
+    ensures { Puts (longest_note most) errors.old result errors.new }
+{
+    let mut digits = Buffer::new();
+    let most = digits.format(most).as_bytes();
+    errors.put_all(&[b"relay: the longest range that is free has ", most, b"\n"])
+}
+
+/// Gives the last identifications, so many, that are free and follow one another, as [`give_command`] does; or it
+/// prints `refused NotFree`, and notes how many the longest range that is free has.
+pub fn give_last_command<A: Allocator + Copy, S: Store, R: Read, W: Write, E: Write>(
+    alloc: A,
+    store: S,
+    streams: &mut Streams<R, W, E>,
+    number: u16,
+    to: u16,
+    count: u16,
+) -> Ended<S>
+    ensures { EndsGiveLast number to count (ledger_at (S.state store) streams.old) result.status
+        (ledger_at (S.state result.store) streams.new) }
+{
+    let printer = match open_printer(alloc, store, &mut streams.output, number) {
         Ok(printer) => printer,
         Err(ended) => return ended,
     };
-    let status = tell_give(&mut streams.output, printer.give(to, range));
-    let store = printer.close();
-    Ended { status, store }
+    match printer.last_free(count) {
+        Ok(range) => give_from(printer, &mut streams.output, to, range),
+        Err(most) => {
+            let status = refuse(&mut streams.output, GiveFault::NotFree.name());
+            let _ = note_longest(&mut streams.errors, most);
+            let store = printer.close();
+            Ended { status, store }
+        }
+    }
 }

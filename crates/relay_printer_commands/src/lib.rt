@@ -10,6 +10,7 @@
 //! so that one or two wrong bytes of it are found. A stream that a command doesn't need it leaves as it was.
 #![tactic(auto)]
 
+mod audit;
 pub mod laws;
 mod ledger;
 mod left;
@@ -18,7 +19,8 @@ mod plan;
 mod print;
 mod tickets;
 
-pub use ledger::{give_command, ledger_command};
+pub use audit::{TICKETS_BYTES, audit_command};
+pub use ledger::{give_command, give_last_command, ledger_command};
 pub use left::left_command;
 pub use lines::PlannedSide;
 pub use plan::plan_command;

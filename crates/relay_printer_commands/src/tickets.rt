@@ -74,18 +74,27 @@ fn of_check_form(text: &[u8]) -> Option<Ticket>
     }
 }
 
-fn of_digits(text: &str) -> Option<Ticket>
+fn of_digits(text: &[u8]) -> Option<Ticket>
     ensures { MatchOption result ((bytes : List ℕ) → AreOfTicket bytes → ¬ IsBareText text.now bytes)
         (λ ticket. AreOfTicket (ticket_bytes ticket) × IsBareText text.now (ticket_bytes ticket)) }
 {
     Ticket::of_bytes(&<[u8; 10]>::from_hex(text).ok()?)
 }
 
-// The ticket of a text, in either form.
+/// The ticket of a text, in either form.
+pub(crate) fn ticket_on(text: &[u8]) -> Option<Ticket>
+    ensures { MatchOption result (¬ HasTicket text.now) (λ ticket. HasTicket text.now × IsTextOf text.now ticket) }
+{
+    match of_digits(text) {
+        Some(ticket) => Some(ticket),
+        None => of_check_form(text),
+    }
+}
+
 fn ticket_of(text: &str) -> Option<Ticket>
     ensures { MatchOption result (¬ HasTicket text.now) (λ ticket. HasTicket text.now × IsTextOf text.now ticket) }
 {
-    of_digits(text).or_else(|| of_check_form(text.as_bytes()))
+    ticket_on(text.as_bytes())
 }
 
 fn put_lines<W: Write>(

@@ -19,7 +19,7 @@ use Rattle.dm_event_history.proofs.Headline.{each_run_is_sound}
 use Rattle.dm_event_history.proofs.Told.{page_none}
 use Rattle.dm_event_history.proofs.Stays.{have_more, more_left, more_pages}
 use Rattle.relay_command.specs.declared.command.Command.{Command}
-use Rattle.relay_command.specs.declared.command.Command.TheVariants.{Words, Draw, Read, Plan, Ticket, Ledger, Print, Give, Take, Left, Scan, Deliver, Forget, Export, Import, Held, Copy, World}
+use Rattle.relay_command.specs.declared.command.Command.TheVariants.{Words, Draw, Read, Plan, Ticket, Ledger, Print, Give, GiveLast, Take, Left, Audit, Scan, Deliver, Forget, Export, Import, Held, Copy, World}
 use Rattle.relay_desk_commands.specs.Desks.{DeskFiles, OnDesk}
 use Rattle.relay_desk_runs.specs.Answered.{GivesPrinted, HoldsPrinted, IsClean, IsNearPrinted, IsOfLabel, IsPrintedFile}
 use Rattle.relay_desk_runs.specs.Answered.GivesPrinted.{nothing as gives_nothing, document as gives_document}
@@ -155,6 +155,8 @@ module _ (A : Type 0) (labels : List Label) (printed : ArePrinted labels) (one :
       record { set = same_set does.0.1; exported = tt; copied = tt; delivered = tt }
   effect (Give file number to first last) does near sent =
       record { set = same_set does.1; exported = tt; copied = tt; delivered = tt }
+  effect (GiveLast file number to count) does near sent =
+      record { set = same_set does.1; exported = tt; copied = tt; delivered = tt }
   effect (Take file number ticket) does near sent =
       record { set = same_set does.1; exported = tt; copied = tt; delivered = tt }
   effect (Left file) does near sent = record { set = same_set does.1; exported = tt; copied = tt; delivered = tt }
@@ -164,6 +166,7 @@ module _ (A : Type 0) (labels : List Label) (printed : ArePrinted labels) (one :
       record { set = same_files does.0.1; exported = tt; copied = tt; delivered = tt }
   effect Read does near sent = record { set = same_files does.1; exported = tt; copied = tt; delivered = tt }
   effect (Plan scheme) does near sent = record { set = same_files does.0.1; exported = tt; copied = tt; delivered = tt }
+  effect Audit does near sent = record { set = same_files does.0.1; exported = tt; copied = tt; delivered = tt }
   effect (Ticket ticket) does near sent = record { set = same_files does.1; exported = tt; copied = tt; delivered = tt }
   effect World does near sent = record { set = same_files does.0.1; exported = tt; copied = tt; delivered = tt }
 

@@ -13,15 +13,15 @@ use Rattle.dm_assembly_desk.specs.Desk.{HoldsJointFile, joint_file}
 use Rattle.dm_assembly_desk.specs.declared.limits.TheConstants.{MOST_CAPACITY}
 use Rattle.dm_event_history.specs.Relay.{Actor, Relay, stored_of}
 use Rattle.relay_command.specs.declared.command.Command.{Command}
-use Rattle.relay_command.specs.declared.command.Command.TheVariants.{Words, Draw, Read, Plan, Ticket, Ledger, Print, Give, Take, Left, Scan, Deliver, Forget, Export, Import, Held, Copy, World}
+use Rattle.relay_command.specs.declared.command.Command.TheVariants.{Words, Draw, Read, Plan, Ticket, Ledger, Print, Give, GiveLast, Take, Left, Audit, Scan, Deliver, Forget, Export, Import, Held, Copy, World}
 use Rattle.relay_printer_commands.specs.Printers.{images_of, ledger_at}
 use Rattle.relay_streams.specs.Streams.{AppendsPart}
 use Rattle.relay_desk_commands.specs.Desks.{DeskFiles, OnDesk}
 use Rattle.relay_runs.specs.Runs.{Follows, Keeps}
-use Rattle.relay_runs.proofs.EachGive.{give_follows}
+use Rattle.relay_runs.proofs.EachGive.{give_follows, give_last_follows}
 use Rattle.relay_runs.proofs.EachPrint.{print_follows}
 use Rattle.relay_runs.proofs.EachTake.{take_follows}
-use Rattle.relay_runs.proofs.Ledgers.{give_idle, is_made, made_same, print_idle, shown_same, take_idle}
+use Rattle.relay_runs.proofs.Ledgers.{give_idle, give_last_idle, is_made, made_same, print_idle, shown_same, take_idle}
 use Rattle.relay_runs.proofs.PrintTold.{print_out}
 use Rattle.relay_desk_runs.specs.Answered.{HasNoDocuments}
 use Rattle.relay_desk_runs.proofs.Opened.{at_desk_joint, copy_joint, held_same, import_joint, on_id_joint}
@@ -122,6 +122,13 @@ module _ (A : Type 0) (relay : Relay) (images : List (Option (List ℕ))) (befor
   effect (Give file number to first last) does (Some own) (actor, there, keeps) left =
       follows own refl (give_follows A relay own actor to (record { first = first; last = last }) number
       (ledger_at before.files.joint before.streams) (ledger_at after.files.joint after.streams) status there keeps does.0)
+  effect (GiveLast file number to count) does None (honest, none) left =
+      let i = give_last_idle number (ledger_at before.files.joint before.streams)
+      (ledger_at after.files.joint after.streams) status honest none to count does.0 in
+      idle i.0 refl i.1
+  effect (GiveLast file number to count) does (Some own) (actor, there, keeps) left =
+      follows own refl (give_last_follows A relay own actor to count number
+      (ledger_at before.files.joint before.streams) (ledger_at after.files.joint after.streams) status there keeps does.0)
   effect (Take file number ticket) does None (honest, none) left =
       idle (take_idle number (ledger_at before.files.joint before.streams)
       (ledger_at after.files.joint after.streams) status honest none ticket.now does.0) refl refl
@@ -152,6 +159,7 @@ module _ (A : Type 0) (relay : Relay) (images : List (Option (List ℕ))) (befor
   effect (Draw side scheme plain) does o holds left = idle (same_joint does.0.1) refl refl
   effect Read does o holds left = idle (same_joint does.1) refl refl
   effect (Plan scheme) does o holds left = idle (same_joint does.0.1) refl refl
+  effect Audit does o holds left = idle (same_joint does.0.1) refl refl
   effect (Ticket ticket) does o holds left = idle (same_joint does.1) refl refl
   effect World does o holds left = idle (same_joint does.0.1) refl refl
 

@@ -4,9 +4,9 @@ use Rattle.dm_finder_frame.specs.Frame.{GridView}
 use Rattle.dm_print_ledger.specs.declared.range.Range.{Range}
 use Rattle.dm_print_ledger.specs.Ledger.{JobView, TicketView}
 use Rattle.relay_command.specs.declared.command.Command.{Command}
-use Rattle.relay_command.specs.declared.command.Command.TheVariants.{Copy, Deliver, Export, Give, Import, Ledger, Print, Scan, Take}
+use Rattle.relay_command.specs.declared.command.Command.TheVariants.{Copy, Deliver, Export, Give, GiveLast, Import, Ledger, Print, Scan, Take}
 use Rattle.relay_desk_commands.specs.Desks.{OnDesk}
-use Rattle.relay_runs.specs.Runs.{job_ended, ticket_given, ticket_taken}
+use Rattle.relay_runs.specs.Runs.{job_ended, ticket_given, ticket_given_last, ticket_taken}
 use Rattle.relay_desk_runs.specs.Answered.{file_exported, file_imported, grids_scanned, label_copied}
 use Rattle.relay.specs.Program.{Does}
 
@@ -45,6 +45,7 @@ abbrev pub passed_by : (A : Type 0) (command : Command) (images : List (Option (
     (after : OnDesk) → Does A command images before status after → Passed
 passed_by A (Print file number labels scheme) images before status after does = record nothing { printed = job_ended does.0.0 }
 passed_by A (Give file number to first last) images before status after does = record nothing { given = ticket_given does.0 }
+passed_by A (GiveLast file number to count) images before status after does = record nothing { given = ticket_given_last does.0 }
 passed_by A (Take file number ticket) images before status after does = record nothing { taken = ticket_taken does.0 }
 passed_by A (Scan file capacity) images before status after does = record nothing { scanned = grids_scanned does }
 passed_by A (Export file id) images before status after does = record nothing { exported = file_exported does }

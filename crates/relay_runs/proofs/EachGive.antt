@@ -11,9 +11,10 @@ use Rattle.dm_event_history.specs.declared.event.Event.TheVariants.{Give}
 use Rattle.dm_event_history.specs.Relay.{Actor, Relay, stored_of, with_printer}
 use Rattle.dm_event_history.specs.Steps.{Calls, GiveComes, MayLackFirst, give_faults}
 use Rattle.dm_event_world.specs.inner.Calls.{give_reply}
-use Rattle.relay_printer_commands.specs.Printers.{EndsGive, OnLedger}
+use Rattle.relay_printer_commands.specs.Printers.{EndsGive, EndsGiveLast, OnLedger}
 use Rattle.relay_printer_commands.specs.Printers.EndsGive.{opened as was_opened, not_opened}
-use Rattle.relay_runs.specs.Runs.{answered, ticket_given, EachGiveIsARun, Follows, Keeps, grids_of}
+use Rattle.relay_printer_commands.specs.Printers.EndsGiveLast.{gave, too_few, unopened}
+use Rattle.relay_runs.specs.Runs.{answered, ticket_given, ticket_given_last, EachGiveIsARun, Follows, Keeps, grids_of}
 use Rattle.relay_runs.proofs.Places.{calling, restart, restarted, run_of, still_within}
 use Rattle.relay_runs.proofs.Files.{HoldsFile, holds_file, opened}
 use Rattle.relay_runs.proofs.Calling.{keeps_shown, shows_opened}
@@ -68,3 +69,18 @@ module _ (A : Type 0) (relay : Relay) (place : ℕ) (actor : Actor LedgerView) (
 pub give_follows : (A : Type 0) → EachGiveIsARun A
 give_follows A relay place actor to range number old new status was keeps ends =
     give_by A relay place actor to range number old new status was keeps ends
+
+-- so is each give of the last
+pub give_last_follows : (A : Type 0) (relay : Relay) (place : ℕ) (actor : Actor LedgerView) (to count number : ℕ)
+    (old new : OnLedger) (status : ℕ) → slice_get relay.printers place ≡ Some actor → Keeps old.saved actor →
+    (ends : EndsGiveLast number to count old status new) →
+    Follows A relay place old.streams.input new.saved None (ticket_given_last ends)
+give_last_follows A relay place actor to count number old new status was keeps
+    (gave range before after answer last opens gives same told only) =
+    give_follows A relay place actor to range number old new status was keeps
+    (was_opened before after answer opens gives same told only)
+give_last_follows A relay place actor to count number old new status was keeps
+    (too_few before most put opens longest less same told notes reads) =
+    uncalled A relay place old.streams.input old.saved new.saved actor None None was keeps same refl refl
+give_last_follows A relay place actor to count number old new status was keeps (unopened fault opens same told) =
+    uncalled A relay place old.streams.input old.saved new.saved actor None None was keeps same refl refl

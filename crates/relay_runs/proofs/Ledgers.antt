@@ -11,14 +11,15 @@ use Rattle.dm_print_ledger.specs.Verdicts.{Creates, SavesFirst, opening, Opens, 
 use Rattle.dm_print_ledger.specs.Ledger.{LedgerView, PrinterView, is_range, ledger_bytes}
 use Rattle.dm_event_history.specs.Relay.{Actor, stored_of}
 use Rattle.relay_command.specs.declared.command.Labels.{Labels}
-use Rattle.relay_printer_commands.specs.Printers.{EndsPrint, EndsGive, EndsLeft, EndsLedger, EndsTake, OnLedger}
+use Rattle.relay_printer_commands.specs.Printers.{EndsPrint, EndsGive, EndsGiveLast, EndsLeft, EndsLedger, EndsTake, OnLedger}
 use Rattle.relay_printer_commands.specs.Printers.EndsPrint.{no_side, not_read, too_long, read as was_read}
 use Rattle.relay_printer_commands.specs.Printers.PrintsDocument.{opened as print_opened, not_opened as print_not_opened}
 use Rattle.relay_printer_commands.specs.Printers.EndsGive.{opened as give_opened, not_opened as give_not_opened}
+use Rattle.relay_printer_commands.specs.Printers.EndsGiveLast.{gave, too_few, unopened}
 use Rattle.relay_printer_commands.specs.Printers.EndsTake.{no_ticket, opened as take_opened, not_opened as take_not_opened}
 use Rattle.relay_printer_commands.specs.Printers.EndsLedger.{created, refused as not_created}
 use Rattle.relay_printer_commands.specs.Printers.EndsLeft.{shown as was_shown, refused as not_shown}
-use Rattle.relay_runs.specs.Runs.{job_ended, ticket_given, Keeps}
+use Rattle.relay_runs.specs.Runs.{job_ended, ticket_given, ticket_given_last, Keeps}
 use Rattle.relay_runs.proofs.Files.{ok_of}
 use Rattle.relay_runs.proofs.Plans.{old_or_new}
 
@@ -158,6 +159,13 @@ module _ (number : ℕ) (old new : OnLedger) (status : ℕ) (honest : IsTrue old
       (new.saved ≡ old.saved) × (ticket_given ends ≡ None)
   give_idle to range (give_not_opened fault opens same told) = (same, refl)
   give_idle to range (give_opened before after answer opens gives same told only) =
+      absurd (absent old.saved number before honest none opens)
+
+  pub give_last_idle : (to count : ℕ) (ends : EndsGiveLast number to count old status new) →
+      (new.saved ≡ old.saved) × (ticket_given_last ends ≡ None)
+  give_last_idle to count (unopened fault opens same told) = (same, refl)
+  give_last_idle to count (too_few before most put opens longest less same told notes reads) = (same, refl)
+  give_last_idle to count (gave range before after answer last opens gives same told only) =
       absurd (absent old.saved number before honest none opens)
 
   pub take_idle : (text : List ℕ) → EndsTake number text old status new → new.saved ≡ old.saved

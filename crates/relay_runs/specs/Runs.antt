@@ -8,10 +8,11 @@ use Rattle.dm_print_ledger.specs.declared.fault.TakeFault.TheVariants.{Save}
 use Rattle.dm_print_ledger.specs.declared.range.Range.{Range}
 use Rattle.dm_print_ledger.specs.Ledger.{JobView, TicketView, LedgerView, is_sound, ledger_bytes}
 use Rattle.relay_command.specs.declared.command.Labels.{Labels}
-use Rattle.relay_printer_commands.specs.Printers.{EndsPrint, PrintsDocument, EndsGive, EndsTake, OnLedger}
+use Rattle.relay_printer_commands.specs.Printers.{EndsPrint, PrintsDocument, EndsGive, EndsGiveLast, EndsTake, OnLedger}
 use Rattle.relay_printer_commands.specs.Printers.EndsPrint.{no_side, not_read, too_long, read}
 use Rattle.relay_printer_commands.specs.Printers.PrintsDocument.{opened as print_opened, not_opened as print_not_opened}
 use Rattle.relay_printer_commands.specs.Printers.EndsGive.{opened as give_opened, not_opened as give_not_opened}
+use Rattle.relay_printer_commands.specs.Printers.EndsGiveLast.{gave, too_few, unopened}
 use Rattle.relay_printer_commands.specs.Printers.EndsTake.{no_ticket, opened as take_opened, not_opened as take_not_opened}
 use Rattle.dm_finder_frame.specs.Frame.{GridView}
 use Rattle.dm_store.specs.Saved.{Saved}
@@ -44,6 +45,12 @@ abbrev pub ticket_given : {number to : ℕ} {range : Range} {old new : OnLedger}
     EndsGive number to range old status new → Option TicketView
 ticket_given (give_opened before after answer opens gives same told only) = answered answer
 ticket_given (give_not_opened fault opens same told) = None
+
+abbrev pub ticket_given_last : {number to count : ℕ} {old new : OnLedger} {status : ℕ} →
+    EndsGiveLast number to count old status new → Option TicketView
+ticket_given_last (gave range before after answer last opens gives same told only) = answered answer
+ticket_given_last (too_few before most put opens longest less same told notes reads) = None
+ticket_given_last (unopened fault opens same told) = None
 
 -- a ticket that was taken, or may have been, since the save failed
 abbrev pub if_taken : Result (Unit {0}) TakeFault → TicketView → Option TicketView
