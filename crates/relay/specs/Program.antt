@@ -22,7 +22,7 @@ use Rattle.relay.specs.declared.locked.Found.{Found}
 use Rattle.std.specs.Io.KnownBytes.{Appends, Keeps}
 use Rattle.dm_store.specs.Saved.{Replaces, Saved, SavedSet}
 use Rattle.dm_store.specs.declared.store.StoreFault.{StoreFault}
-use Rattle.relay_line.specs.Line.{HasStatus, images_of, IsFound, IsNamed, saved_path}
+use Rattle.relay_line.specs.Line.{HasStatus, named_images, IsFound, IsNamed, saved_path}
 use Rattle.relay_line.specs.declared.line.CommandLine.{CommandLine}
 use Rattle.relay_line.specs.declared.fault.LineFault.{LineFault}
 use Rattle.relay_line.specs.declared.fault.LineFault.TheVariants.{Line, Memory}
@@ -256,7 +256,7 @@ pub record DoesAndSaves (A : Type 0) (command : Command) (path : List ℕ) (old 
 -- file that it names.
 pub data DoesFor (A : Type 0) (images : List ℕ → Option (List ℕ)) (line : CommandLine) (old : SystemView) (status : ℕ)
     (new : SystemView) : Type 0 where
-  does_here : saved_path line ≡ None → DoesAt A line.command (map images (images_of line)) old status new →
+  does_here : saved_path line ≡ None → DoesAt A line.command (map images (named_images line)) old status new →
       DoesFor A images line old status new
   does_and_saves : (path : List ℕ) → saved_path line ≡ Some path → DoesAndSaves A line.command path old status new →
       DoesFor A images line old status new

@@ -66,7 +66,7 @@ pub(crate) fn has_own_ending(place: &Place) -> bool {
 }
 
 // The plain file of a command, if surely something is there.
-fn file_at<R: Files>(rt: &R, place: &Place) -> Result<Option<Metadata>, Reason> {
+fn file_at(rt: &HostRuntime, place: &Place) -> Result<Option<Metadata>, Reason> {
     if place.is_file_lost {
         return Err(Reason::LostLink);
     }
@@ -84,7 +84,7 @@ fn file_at<R: Files>(rt: &R, place: &Place) -> Result<Option<Metadata>, Reason> 
 }
 
 // Whether a file has a name beside its own, and beside that of its draft, which a stop may have left it.
-fn has_second_name<R: Files>(rt: &R, place: &Place, file: &Metadata) -> bool {
+fn has_second_name(rt: &HostRuntime, place: &Place, file: &Metadata) -> bool {
     let is_draft = matches!(rt.symlink_metadata(place.draft.as_str()), Ok(draft)
         if (draft.dev(), draft.ino()) == (file.dev(), file.ino()));
     file.nlink() > 1 + u64::from(is_draft)
@@ -93,8 +93,8 @@ fn has_second_name<R: Files>(rt: &R, place: &Place, file: &Metadata) -> bool {
 /// The files of one command, which its stores share: they are looked at, and locked if the command may save, at its
 /// first load. The lock is held until this is closed.
 #[derive(Drop)]
-pub(crate) struct Gate<'a, R> {
-    rt: &'a R,
+pub(crate) struct Gate<'a> {
+    rt: &'a HostRuntime,
     pub(crate) place: Place,
     // What came of the first load: the lock, if the command takes one, or why it can't have its files.
     entered: OnceCell<Result<Option<Lock>, Reason>>,
@@ -107,9 +107,9 @@ pub(crate) struct Gate<'a, R> {
     pub(crate) loaded: Cell<Option<String>>,
 }
 
-impl<'a, R: AllocGlobal + Files<File = File>> Gate<'a, R> {
+impl<'a> Gate<'a> {
     /// The files at a place, which were not asked for yet.
-    pub(crate) fn new(rt: &'a R, place: Place) -> Gate<'a, R> {
+    pub(crate) fn new(rt: &'a HostRuntime, place: Place) -> Gate<'a> {
         Gate {
             rt,
             place,
@@ -208,20 +208,20 @@ impl<'a, R: AllocGlobal + Files<File = File>> Gate<'a, R> {
 /// The disk of a command's files, behind its gate. What the gate refuses is a device fault. It looks at the lock right
 /// before each call that makes, renames or removes.
 #[derive(Drop)]
-pub(crate) struct Locked<'a, R, D> {
-    rt: &'a R,
-    gate: Rc<Gate<'a, R>>,
+pub(crate) struct Locked<'a, D> {
+    rt: &'a HostRuntime,
+    gate: Rc<Gate<'a>>,
     within: D,
 }
 
-impl<'a, R, D> Locked<'a, R, D> {
+impl<'a, D> Locked<'a, D> {
     /// A disk behind a gate.
-    pub(crate) fn new(rt: &'a R, gate: Rc<Gate<'a, R>>, within: D) -> Locked<'a, R, D> {
+    pub(crate) fn new(rt: &'a HostRuntime, gate: Rc<Gate<'a>>, within: D) -> Locked<'a, D> {
         Locked { rt, gate, within }
     }
 }
 
-impl<R: AllocGlobal + Files<File = File>, D: Disk> Disk for Locked<'_, R, D> {
+impl<D: Disk> Disk for Locked<'_, D> {
     type Memory = D::Memory;
 
     ghost state = { λ locked. D.state locked.within };
@@ -273,7 +273,7 @@ impl<R: AllocGlobal + Files<File = File>, D: Disk> Disk for Locked<'_, R, D> {
     }
 }
 
-impl<R: AllocGlobal + Files<File = File>, D: Folders> Folders for Locked<'_, R, D> {
+impl<D: Folders> Folders for Locked<'_, D> {
     fn make_folder(&mut self, folder: &str) -> Result<(), StoreFault> {
         if !self.gate.may_save() {
             return Err(StoreFault::Device);

@@ -5,13 +5,12 @@ use relay_shared::ImageFile;
 use relay_streams::InputFault;
 use std::fs::File;
 use std::io::{BufReader, Read};
-use std::rt::Files;
 use std::{fs, io};
 
 /// A file of images by its name, or the program's input, where that is `-`.
 #[derive(Drop)]
-pub(crate) struct NamedImages<'a, R> {
-    pub(crate) rt: &'a R,
+pub(crate) struct NamedImages<'a> {
+    pub(crate) rt: &'a HostRuntime,
     pub(crate) name: String,
 }
 
@@ -31,14 +30,14 @@ impl<I: Read + Drop> Read for Source<I> {
     }
 }
 
-impl<R: AllocGlobal + Input + Eprint + Files<File = File>> ImageFile for NamedImages<'_, R> {
+impl ImageFile for NamedImages<'_> {
     ghost use Rattle.std.specs.Prelude.{None};
 
-    type Reader = BufReader<Source<R::Reader>>;
+    type Reader = BufReader<Source<<HostRuntime as Input>::Reader>>;
 
     ghost remaining = { λ _. None };
 
-    fn open(&self) -> Result<BufReader<Source<R::Reader>>, InputFault> {
+    fn open(&self) -> Result<BufReader<Source<<HostRuntime as Input>::Reader>>, InputFault> {
         let source = if self.name.as_str() == "-" {
             Source::Input(self.rt.reader())
         } else {

@@ -20,7 +20,7 @@ fn line_of(alloc: Global, name: &str, why: &str) -> Result<String, AllocError> {
 }
 
 /// Writes why something was refused, at once.
-pub(crate) fn note<R: AllocGlobal + Eprint>(rt: &R, name: &str, why: &str) {
+pub(crate) fn note(rt: &HostRuntime, name: &str, why: &str) {
     if let Ok(line) = line_of(rt.alloc(), name, why) {
         let _ = eprint!(rt; "{line}");
     }
@@ -85,7 +85,7 @@ pub(crate) fn note_of_file<D: Folders>(
 }
 
 // The first name in a folder that is not UTF-8, escaped, if it has one. Each name ends with a byte 0.
-fn odd_name<R: AllocGlobal + Files>(rt: &R, folder: &str) -> Option<String> {
+fn odd_name(rt: &HostRuntime, folder: &str) -> Option<String> {
     let path = format!(in rt.alloc(); "{folder}/").ok()?;
     let mut names = rt.open_dir(path.as_str()).ok()?;
     let mut piece = [0u8; 4096];
@@ -104,7 +104,7 @@ fn odd_name<R: AllocGlobal + Files>(rt: &R, folder: &str) -> Option<String> {
 }
 
 /// Why the files in a desk's folder can't be listed.
-pub(crate) fn note_of_folder<R: AllocGlobal + Files>(rt: &R, place: &Place) -> Option<String> {
+pub(crate) fn note_of_folder(rt: &HostRuntime, place: &Place) -> Option<String> {
     let folder = place.folder.as_str();
     let odd = odd_name(rt, folder);
     let why = match &odd {

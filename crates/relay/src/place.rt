@@ -118,7 +118,7 @@ pub(crate) struct Place {
 }
 
 // Where the link at a path leads, if one is there, and whether it leads nowhere.
-fn follow<R: AllocGlobal + Files>(rt: &R, path: String) -> Result<(String, bool), AllocError> {
+fn follow(rt: &HostRuntime, path: String) -> Result<(String, bool), AllocError> {
     if !matches!(rt.symlink_metadata(path.as_str()), Ok(found) if found.is_symlink()) {
         return Ok((path, false));
     }
@@ -134,7 +134,7 @@ impl Place {
     ///
     /// # Errors
     /// Memory was refused.
-    pub(crate) fn of<R: AllocGlobal + Files>(rt: &R, named: Named<'_>) -> Result<Self, AllocError>
+    pub(crate) fn of(rt: &HostRuntime, named: Named<'_>) -> Result<Self, AllocError>
         ensures { IfOk result IsPlaced }
     {
         let alloc = rt.alloc();

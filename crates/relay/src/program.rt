@@ -7,21 +7,20 @@ use crate::real_places::RealPlaces;
 use crate::standard::{StandardStreams, tell};
 use crate::system::System;
 use std::io::{BufReader, ErrorKind};
-use std::rt::Env;
 use std::{env, io};
 
 // Refuses on the standard error, and gives the exit status.
-fn refuse_on_errors<R: AllocGlobal + Eprint>(rt: &R, name: &str) -> u8 {
+fn refuse_on_errors(rt: &HostRuntime, name: &str) -> u8 {
     tell(rt.alloc(), ErrorWriter { to: rt }, name).0
 }
 
 // The program's own words, its name first.
-fn own_words<R: AllocGlobal + Env>(rt: &R) -> io::Result<Vec<String>> {
+fn own_words(rt: &HostRuntime) -> io::Result<Vec<String>> {
     Ok(env::args(rt)?.collect(rt.alloc())?)
 }
 
 // Says why the program's own words can't be had, and gives the exit status.
-fn show_word_fault<R: AllocGlobal + Eprint>(rt: &R, error: &io::Error) -> u8 {
+fn show_word_fault(rt: &HostRuntime, error: &io::Error) -> u8 {
     let why = match error.kind() {
         ErrorKind::OutOfMemory => return refuse_on_errors(rt, "Memory"),
         ErrorKind::InvalidData => "a word of the command line is not UTF-8",

@@ -10,45 +10,28 @@ use dm_store::{FileSet, FileStore, RealDisk, StoreFault};
 use std::alloc::AllocError;
 use std::fs::File;
 use std::rc::Rc;
-use std::rt::Files;
 
 /// The system's own files, which are locked while they are given out. It claims nothing of them.
 #[derive(Drop)]
-pub(crate) struct RealPlaces<'a, R> {
-    rt: &'a R,
-    gate: Option<Rc<Gate<'a, R>>>,
+pub(crate) struct RealPlaces<'a> {
+    rt: &'a HostRuntime,
+    gate: Option<Rc<Gate<'a>>>,
 }
 
-impl<'a, R> RealPlaces<'a, R> {
+impl<'a> RealPlaces<'a> {
     /// The system's files, of which none is given out.
-    pub(crate) fn new(rt: &'a R) -> RealPlaces<'a, R> {
+    pub(crate) fn new(rt: &'a HostRuntime) -> RealPlaces<'a> {
         RealPlaces { rt, gate: None }
     }
 }
 
 // The system's disk behind a gate.
-type Gated<'a, R> = Locked<'a, R, RealDisk<'a, R>>;
-
-// What is shared by the files of a place, and its files.
-type Opened<'a, R> = (
-    Rc<Gate<'a, R>>,
-    FileStore<Gated<'a, R>>,
-    FileSet<Gated<'a, R>>,
-);
-
-// The disk of a ledger or of a joint file. A new ledger takes the place of nothing.
-fn disk_of<'a, R: AllocGlobal + Files>(rt: &'a R, access: Access) -> RealDisk<'a, R> {
-    if access == Access::Creates {
-        RealDisk::of_new_files(rt.alloc(), rt)
-    } else {
-        RealDisk::new(rt.alloc(), rt)
-    }
-}
+type Gated<'a> = Locked<'a, RealDisk<'a, HostRuntime>>;
 
 // What the line of a refusal can't say of a command's files.
-fn note_of<R: AllocGlobal + Files<File = File> + Clone>(
-    rt: &R,
-    gate: &Gate<'_, R>,
+fn note_of(
+    rt: &HostRuntime,
+    gate: &Gate<'_>,
 ) -> Option<String> {
     let (alloc, place) = (rt.alloc(), &gate.place);
     if let Some(reason) = gate.reason.get() {
@@ -64,35 +47,48 @@ fn note_of<R: AllocGlobal + Files<File = File> + Clone>(
     note_of_file(alloc, RealDisk::new(alloc, rt), place, path.as_str())
 }
 
-// The file and the folder that a command names, behind one gate.
-fn open_at<'a, R: AllocGlobal + Files<File = File> + Clone>(
-    rt: &'a R,
+// The gate of the files that a command names.
+fn gate_of<'a>(
+    rt: &'a HostRuntime,
     named: Named<'_>,
-) -> Result<Opened<'a, R>, AllocError> {
-    let alloc = rt.alloc();
-    let place = Place::of(rt, named)?;
-    let (path, folder) = (place.file.clone()?, place.folder.clone()?);
-    let Ok(gate) = Rc::new(alloc, Gate::new(rt, place)) else {
-        return Err(AllocError);
-    };
-    let file = Locked::new(rt, gate.clone()?, disk_of(rt, named.access));
-    let set = Locked::new(rt, gate.clone()?, RealDisk::new(alloc, rt));
-    Ok((gate, FileStore::new(file, path), FileSet::new(set, folder)))
+) -> Result<Rc<Gate<'a>>, AllocError> {
+    let gate = Gate::new(rt, Place::of(rt, named)?);
+    match Rc::new(rt.alloc(), gate) {
+        Ok(gate) => Ok(gate),
+        Err(_) => Err(AllocError),
+    }
 }
 
-// Lets the files go, and then their lock, and gives what is to be said of them.
-fn close_at<'a, R: AllocGlobal + Files<File = File> + Clone>(
-    rt: &'a R,
-    opened: Opened<'a, R>,
+// The ledger or the joint file behind a gate. A new ledger takes the place of nothing.
+fn file_at<'a>(
+    rt: &'a HostRuntime,
+    gate: &Rc<Gate<'a>>,
+) -> Result<FileStore<Gated<'a>>, AllocError> {
+    let path = gate.place.file.clone()?;
+    let disk = if gate.place.access == Access::Creates {
+        RealDisk::of_new_files(rt.alloc(), rt)
+    } else {
+        RealDisk::new(rt.alloc(), rt)
+    };
+    Ok(FileStore::new(Locked::new(rt, gate.clone()?, disk), path))
+}
+
+// The folder behind a gate.
+fn folder_at<'a>(
+    rt: &'a HostRuntime,
+    gate: &Rc<Gate<'a>>,
+) -> Result<FileSet<Gated<'a>>, AllocError> {
+    let path = gate.place.folder.clone()?;
+    let disk = RealDisk::new(rt.alloc(), rt);
+    Ok(FileSet::new(Locked::new(rt, gate.clone()?, disk), path))
+}
+
+// Ends the lock of files that are let go, and gives what is to be said of them.
+fn close_gate(
+    rt: &HostRuntime,
+    gate: Gate<'_>,
     status: u8,
 ) -> Option<String> {
-    let (gate, file, folder) = opened;
-    // While these live they share the gate.
-    drop(file);
-    drop(folder);
-    let Ok(gate) = Rc::try_unwrap(gate) else {
-        return None;
-    };
     let note = if status != 0 || gate.reason.get().is_some() {
         note_of(rt, &gate)
     } else {
@@ -102,16 +98,15 @@ fn close_at<'a, R: AllocGlobal + Files<File = File> + Clone>(
     note
 }
 
-impl<'a, R: AllocGlobal + Input + Eprint + Files<File = File> + Clone> Places
-    for RealPlaces<'a, R> {
+impl<'a> Places for RealPlaces<'a> {
     ghost use Rattle.std.specs.Prelude.{None};
     ghost use Rattle.relay.specs.Program.{unclaimed_places};
 
-    type File = FileStore<Gated<'a, R>>;
+    type File = FileStore<Gated<'a>>;
 
-    type Folder = FileSet<Gated<'a, R>>;
+    type Folder = FileSet<Gated<'a>>;
 
-    type Images = NamedImages<'a, R>;
+    type Images = NamedImages<'a>;
 
     ghost state = { λ _. unclaimed_places };
 
@@ -120,9 +115,10 @@ impl<'a, R: AllocGlobal + Input + Eprint + Files<File = File> + Clone> Places
     ghost is_open = { λ _ _. Unit {0} };
 
     fn open(&mut self, named: Named<'_>) -> Result<(Self::File, Self::Folder), AllocError> {
-        let (gate, file, folder) = open_at(self.rt, named)?;
+        let gate = gate_of(self.rt, named)?;
+        let files = (file_at(self.rt, &gate)?, folder_at(self.rt, &gate)?);
         self.gate = Some(gate);
-        Ok((file, folder))
+        Ok(files)
     }
 
     fn close(
@@ -132,8 +128,13 @@ impl<'a, R: AllocGlobal + Input + Eprint + Files<File = File> + Clone> Places
         folder: Self::Folder,
         status: u8,
     ) -> Option<String> {
-        let gate = self.gate.take()?;
-        close_at(self.rt, (gate, file, folder), status)
+        // While these live they share the gate.
+        drop(file);
+        drop(folder);
+        match Rc::try_unwrap(self.gate.take()?) {
+            Ok(gate) => close_gate(self.rt, gate, status),
+            Err(_) => None,
+        }
     }
 
     fn images(&self, name: &str) -> Result<Self::Images, AllocError> {

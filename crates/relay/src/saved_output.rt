@@ -8,7 +8,7 @@ use std::alloc::AllocError;
 use std::rt::Files;
 
 // Why no new file can be at a place, if none can.
-fn why_not_new<R: Files>(rt: &R, place: &Place) -> Option<Reason> {
+fn why_not_new(rt: &HostRuntime, place: &Place) -> Option<Reason> {
     if place.is_file_lost {
         Some(Reason::LostLink)
     } else if rt.symlink_metadata(place.file.as_str()).is_ok() {
@@ -21,14 +21,14 @@ fn why_not_new<R: Files>(rt: &R, place: &Place) -> Option<Reason> {
 }
 
 // Saves the bytes as the file of a place, where none was.
-fn save_at<R: AllocGlobal + Files>(rt: &R, place: &Place, bytes: &[u8]) -> Result<(), StoreFault> {
+fn save_at(rt: &HostRuntime, place: &Place, bytes: &[u8]) -> Result<(), StoreFault> {
     let disk = RealDisk::of_new_files(rt.alloc(), rt);
     FileStore::new(disk, place.file.clone()?).replace(bytes)
 }
 
 /// Saves the bytes as a new file, as stores are saved, and gives what is to be said where it is not saved.
-pub(crate) fn save_new<R: AllocGlobal + Files>(
-    rt: &R,
+pub(crate) fn save_new(
+    rt: &HostRuntime,
     name: &str,
     bytes: &[u8],
 ) -> (Result<(), StoreFault>, Option<String>) {

@@ -43,8 +43,8 @@ saves_output (Export file id) = true
 saves_output other = false
 
 -- the files of images that a line names, in turn, and the file that its output is saved as
-abbrev pub images_of : CommandLine → List (List ℕ)
-images_of line = map (λ name. name.now) line.images.items
+abbrev pub named_images : CommandLine → List (List ℕ)
+named_images line = map (λ name. name.now) line.images.items
 
 abbrev pub saved_path : CommandLine → Option (List ℕ)
 saved_path line = option_map (λ path. path.now) line.saved_as
@@ -102,7 +102,7 @@ module _ (found : List Row) where
 
   -- the other files of a line are what was found too
   abbrev pub HasFiles : CommandLine → Type 0
-  HasFiles line = MatchOption (all_of (codes "images") found) (images_of line ≡ []) (λ names. images_of line ≡ names)
+  HasFiles line = MatchOption (all_of (codes "images") found) (named_images line ≡ []) (λ names. named_images line ≡ names)
       × (saved_path line ≡ if saves_output line.command then first_of (codes "to") found else None)
 
   abbrev pub IsFoundIn : CommandLine → Type 0
@@ -110,7 +110,7 @@ module _ (found : List Row) where
 
 -- `words` with its defaults, and no other files; or what some parse has found
 abbrev pub IsFound : CommandLine → Type 0
-IsFound line = ((line.command ≡ Words 10 Ascii) × (images_of line ≡ []) × (saved_path line ≡ None))
+IsFound line = ((line.command ≡ Words 10 Ascii) × (named_images line ≡ []) × (saved_path line ≡ None))
     ⊎ ((found : List Row) × IsFoundIn found line)
 
 -- The command is the one of this name, the word after the program's own, or `words` with its defaults where there is no
