@@ -10,8 +10,8 @@ use relay_desk_commands::{
     import_command, scan_command,
 };
 use relay_printer_commands::{
-    Labels, audit_command, give_command, give_last_command, ledger_command, left_command,
-    plan_command, print_command, take_command, ticket_command,
+    Labels, give_command, give_last_command, ledger_command, left_command, plan_command,
+    print_command, take_command, ticket_command,
 };
 use relay_shared::Streams;
 use relay_symbol_commands::{Form, draw_command, read_command, words_command};
@@ -30,7 +30,6 @@ pub enum Call {
     Read,
     Plan,
     Ticket,
-    Audit,
     World,
     Ledger,
     Print,
@@ -75,11 +74,8 @@ const CAPACITY: u16 = 4;
 // The images come on the input.
 const NO_IMAGES: [&[u8]; 0] = [];
 
-// The ledger twice, of which an audit has lines.
-const LEDGERS: [&[u8]; 2] = [NEW_LEDGER, NEW_LEDGER];
-
-// The file of printer 0 with the identifications 0 to 9.
-const NEW_LEDGER: &[u8] = b"DMLG\x02\0\0\0\0\x01\0\0\0\x09\0\xff\xf5";
+/// The file of printer 0 with the identifications 0 to 9.
+pub const NEW_LEDGER: &[u8] = b"DMLG\x02\0\0\0\0\x01\0\0\0\x09\0\xff\xf5";
 
 // The file of page 2 of `1234`.
 const PAGE_2: &[u8] = b"DMPG\x02\x01\x01\x02\0\x02\0\x0234";
@@ -107,9 +103,9 @@ const SCRIPT: &[u8] =
 
 /// The calls that are made alone, over the file that each asks for.
 #[rattlefmt::skip]
-pub const CALLS: [Call; 23] = [
+pub const CALLS: [Call; 22] = [
     Call::Words, Call::Draw(false), Call::Draw(true), Call::Read, Call::Plan, Call::Ticket,
-    Call::Audit, Call::GiveLast, Call::World, Call::Ledger, Call::Print, Call::PrintAuto, Call::Give, Call::Take, Call::Left,
+    Call::GiveLast, Call::World, Call::Ledger, Call::Print, Call::PrintAuto, Call::Give, Call::Take, Call::Left,
     Call::Scan(LABEL), Call::Deliver, Call::Forget(ID), Call::Export(ID), Call::Import(BOTH),
     Call::Held(None), Call::Held(Some(ID)), Call::Copy,
 ];
@@ -131,9 +127,10 @@ impl Call {
     fn disk(self, alloc: Global) -> Result<MemDisk, Fail> {
         let mut disk = MemDisk::new(alloc);
         match self {
-            Call::Print | Call::PrintAuto | Call::Give | Call::GiveLast | Call::Take | Call::Left => {
-                keep(&mut disk, STORE, NEW_LEDGER)?;
-            }
+            Call::Print | Call::PrintAuto | Call::Give | Call::GiveLast | Call::Take | Call::Left =>
+                {
+                    keep(&mut disk, STORE, NEW_LEDGER)?;
+                }
             Call::Scan(_) | Call::Import(_) | Call::Held(_) => keep(&mut disk, PAGES, PAGE_2)?,
             Call::Deliver | Call::Forget(_) | Call::Export(_) | Call::Copy => {
                 keep(&mut disk, PAGES, BOTH)?;
@@ -200,7 +197,6 @@ fn status_of<A: Allocator + Copy, R: Read, W: Write, E: Write>(
         Call::Read => read_command(memory, &NO_IMAGES, streams),
         Call::Plan => plan_command(memory, streams, Scheme::Ascii),
         Call::Ticket => ticket_command(streams, TICKET),
-        Call::Audit => audit_command(memory, &LEDGERS, streams),
         Call::World => world_command(memory, streams),
         _ => {
             let path = String::from_str(alloc, STORE)?;

@@ -1,6 +1,7 @@
 //! Each command over memory that is refused, growth by growth.
 
-use crate::calls::{CALLS, Call, Whole, alone, alone_whole, is_whole, streams_of};
+use crate::calls::{CALLS, Call, NEW_LEDGER, Whole, alone, alone_whole, is_whole, streams_of};
+use relay_printer_commands::audit_command;
 use std::alloc::Global;
 use std::process::Abort;
 use std::test::Fail;
@@ -10,6 +11,9 @@ use test_helpers::Refusing;
 const MOST_GROWTHS: u64 = 1_000;
 
 const LINE: &[u8] = b"refused Memory\n";
+
+// What an audit says of a ledger that it is given twice.
+const TWICE: &str = "number ledger 1 of 0 ledger 2 of 0\nfree ledger 1 of 0 ledger 2 of 0\n";
 
 // Whether a print was refused after its save: its line is out, the identification is used, and the labels before the
 // refusal are out.
@@ -41,11 +45,11 @@ fn refusals_of(rt: &impl Abort, alloc: Global, call: Call) -> Result<u64, Fail> 
 }
 
 // `ledger`, `give`, `take`, `left`, `ticket` and `held` take no memory of their own. The growths of a world are refused
-// in a test of another crate; an audit may say of a file that its memory was refused, and go on.
+// in a test of another crate.
 #[test]
 fn commands_are_refused_by_name(rt: HostRuntime) -> Result<(), Fail> {
     for call in CALLS {
-        if !matches!(call, Call::World | Call::Audit) {
+        if !matches!(call, Call::World) {
             let refusals = refusals_of(&rt, rt.alloc(), call)?;
             let takes_none = matches!(
                 call,
@@ -61,4 +65,27 @@ fn commands_are_refused_by_name(rt: HostRuntime) -> Result<(), Fail> {
         }
     }
     Ok(())
+}
+
+// Of an audit whose growth is refused the lines are whole, or say so: of a file, or of all.
+#[test]
+fn an_audit_is_refused_by_name(rt: HostRuntime) -> Result<(), Fail> {
+    let alloc = rt.alloc();
+    for passes in 0..MOST_GROWTHS {
+        let memory = Refusing::new(alloc, passes);
+        let mut streams = streams_of(alloc, b"".as_slice());
+        let status = audit_command(&memory, &[NEW_LEDGER, NEW_LEDGER], &mut streams);
+        let written = streams.output.into_writer();
+        let lines = str::from_utf8(written.as_slice()).unwrap_or("");
+        assert!(rt; status == 1, "{passes}");
+        if !memory.is_spent() {
+            assert_eq!(rt; lines, TWICE);
+            return Ok(());
+        }
+        assert!(rt;
+            lines == TWICE || lines.contains(" Memory\n"),
+            "{passes} {lines}"
+        );
+    }
+    Err("growths without end".into())
 }

@@ -4,7 +4,7 @@
 //! [`Printer::print`] makes the labels of a document as a [`Job`]. [`Printer::give`] hands a [`Range`] of free
 //! identifications to another printer by a [`Ticket`], which that printer's [`Printer::take`] makes free there. One
 //! for another printer is refused `Receiver`; one whose serial is not above the last taken from its giver is refused
-//! `Old`. [`Shown::load`] says what a store holds of a printer, and only reads.
+//! `Old`. [`Shown::load`] says what a store holds of a printer, and only reads; two that are shown can be compared.
 //!
 //! Proved: each call says of every identification whether it is free afterwards. A job has exactly the labels of the
 //! parts of its document, in order, under the least identification that was free. Over an honest store the change is

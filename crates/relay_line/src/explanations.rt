@@ -61,8 +61,8 @@ pub static EXPLANATIONS: [&str; 45] = [
     system: LIMITS.md), or one was misread. `forget` drops what is held.\n",
     "Full\n  The desk of `scan` or `import` may hold no further document.\n  \
     What to do: `deliver` and `forget` complete documents, or give a larger\n  `--capacity`, up to 1,024.\n",
-    "TooMany\n  More follows after 65,536 images.\n  What to do: use two commands.\n\n  \
-    From: the commands of desks but `held`.\n  \
+    "TooMany\n  More follows after 65,536 images, or `audit` gets more than 1,048,576 bytes\n  of tickets.\n  \
+    What to do: use two commands.\n\n  From: the commands of desks but `held`.\n  \
     The desk holds more documents than its capacity, which is 1,024 for commands\n  without `--capacity`.\n  \
     What to do: give a larger `--capacity`, up to 1,024. Beyond that, while no\n  \
     command runs, move files to another desk's folder that has none of these\n  names.\n",
@@ -102,8 +102,9 @@ pub static EXPLANATIONS: [&str; 45] = [
     What to do: read the line `relay: FILE: NAME`. Move that file away, and scan\n  \
     its labels again. Meanwhile `held` lists the other documents.\n",
     "Exhausted\n  From: `print`.\n  No ID is free.\n  What to do: `give` some from another printer.\n",
-    "NotFree\n  From: `give`.\n  An ID of the range is not free here.\n  \
-    What to do: give another range; `left` prints which are free.\n",
+    "NotFree\n  From: `give`.\n  An ID of the range is not free here, or for `--count` not so many free IDs\n  \
+    follow one another.\n  What to do: give another range, or as many as the line `relay: the longest\n  \
+    range ..` says; `left` prints which are free.\n",
     "Serials\n  From: `give`.\n  The printer has given 65,535 tickets, the most that it can.\n  \
     What to do: give from another printer.\n",
     "Ranges\n  From: `give`, `take`.\n  The ledger would have more than 64 ranges of free IDs.\n  \

@@ -51,7 +51,7 @@ DrawsWords n words (Ok image) =
     OfSide n (λ size. (length words ≡ all_words size) × (image ≡ p4 (grid_of_words size words)))
 DrawsWords n words (Err NoSide) = IsSide n → ⊥
 DrawsWords n words (Err WordCount) = OfSide n (λ size. length words ≢ all_words size)
-DrawsWords n words (Err NoMemory) = Unit {0}
+DrawsWords n words (Err NoMemory) = OfSide n (λ size. length words ≡ all_words size)
 DrawsWords n words (Err _) = ⊥
 
 -- the image of the one symbol of this side that carries the text
@@ -60,7 +60,7 @@ DrawsText n text (Ok image) = OfSide n (λ size.
     (grid : GridView) × DrawsSymbol size (filled Ascii [] text (data_words size)) grid × (image ≡ p4 grid))
 DrawsText n text (Err NoSide) = IsSide n → ⊥
 DrawsText n text (Err TooLong) = OfSide n (λ size. data_words size < need_of Ascii text)
-DrawsText n text (Err NoMemory) = Unit {0}
+DrawsText n text (Err NoMemory) = OfSide n (λ size. need_of Ascii text ≤ data_words size)
 DrawsText n text (Err _) = ⊥
 
 -- the image of the label of this side of a page

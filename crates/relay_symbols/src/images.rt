@@ -11,13 +11,8 @@ use dm_pbm_io::laws::{not_refused, one_image};
 use dm_pbm_io::{PbmFault, ShapeFault, grid_of, image_in, image_of, write_image};
 use std::alloc::{AllocError, Allocator};
 
-// More than the bytes of a header, with its widths of three digits.
-const HEADER_ROOM: usize = 16;
-
-// Room for the bytes of a packed image of this width and height.
-fn image_room(width: u16, height: u16) -> usize {
-    HEADER_ROOM + height as usize * (width as usize).div_ceil(8)
-}
+// Room for the bytes of the greatest image, a packed one of side 132.
+const IMAGE_ROOM: usize = 2289;
 
 /// The bytes of a grid's image.
 pub(crate) fn grid_image<A: Allocator + Copy>(
@@ -27,7 +22,7 @@ pub(crate) fn grid_image<A: Allocator + Copy>(
     ensures { IfOk result (λ bytes. bytes.items ≡ p4 grid.now) }
 {
     let image = image_of(alloc, grid, false)?;
-    let mut bytes = Vec::with_capacity(alloc, image_room(image.width, image.height))?;
+    let mut bytes = Vec::with_capacity(alloc, IMAGE_ROOM)?;
     match write_image(&mut bytes, &image) {
         Ok(()) => Ok(bytes),
         Err(_) => Err(AllocError),

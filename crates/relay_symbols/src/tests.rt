@@ -74,6 +74,21 @@ fn draws_and_opens_a_label(rt: HostRuntime) {
     }
 }
 
+#[test]
+fn draws_and_reads_each_side(rt: HostRuntime) {
+    let mut sides = 0u8;
+    for side in 0..=144 {
+        let mut image = [0; LARGE];
+        if relay_symbol_from_text(rt.alloc(), side, b"12", &mut image) > 0 {
+            let mut text = [0; 2];
+            assert!(rt; relay_text_from_image(rt.alloc(), &image, &mut text) == 2);
+            assert!(rt; &text == b"12");
+            sides = sides.wrapping_add(1);
+        }
+    }
+    assert!(rt; sides == 23);
+}
+
 // A symbol of the greatest side, and the same with a row of modules turned.
 #[test]
 fn reads_a_large_symbol_damaged(rt: HostRuntime) {
@@ -105,8 +120,10 @@ fn refuses_to_draw_and_writes_nothing(rt: HostRuntime) {
     assert!(rt; relay_symbol_from_text(rt.alloc(), 10, b"1234567", &mut image) == -4);
     assert!(rt; relay_label_from_text(rt.alloc(), 10, 0, 1, 2, b"", &mut image) == -4);
     assert!(rt; relay_label_from_text(rt.alloc(), 12, 0, 1, 2, b"123", &mut image) == -4);
-    assert!(rt; relay_symbol_from_text(rt.alloc(), 10, b"123456", &mut image[..32]) == -9);
     assert!(rt; image == [7; 40]);
+    let mut small = [7; 32];
+    assert!(rt; relay_symbol_from_text(rt.alloc(), 10, b"123456", &mut small) == -9);
+    assert!(rt; small == [7; 32]);
 }
 
 // What no image of a symbol is, too many wrong modules, words that are cut off, a symbol that is no label, a head that

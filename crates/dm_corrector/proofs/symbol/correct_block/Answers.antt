@@ -1,5 +1,4 @@
-use Rattle.std.proofs.Common.{◌-◌, arith, Result, Ok, Err, OnErr}
-use Rattle.dm_gf256.specs.Field.{value}
+use Rattle.std.proofs.Common.{arith, Result, Ok, Err, OnErr}
 use Rattle.dm_check_blocks.proofs.Interleaving.{length-block_of}
 use Rattle.dm_corrector.proofs.symbol.correct_block.Goals as goal
 

@@ -1,9 +1,8 @@
 use Rattle.std.specs.List.{range_with_len}
-use Rattle.std.proofs.Common.{◌≡◌, ◌+◌, ◌*◌, ◌<◌, ◌≤◌, ◌++◌, ◌∷◌, [], arith, ap, sym, ◌∙◌, ℕ, Bool, true, false, get_or, length, map, List, zero-add, append-nil, length-append, refl, add-zero, rules}
+use Rattle.std.proofs.Common.{◌≡◌, ◌+◌, ◌*◌, ◌≤◌, ◌++◌, ◌∷◌, [], arith, ap, sym, ◌∙◌, ℕ, Bool, true, false, get_or, length, map, List, zero-add, append-nil, length-append, refl, rules}
 use Rattle.std.proofs.Math.ListN.{get_or-append}
 use Rattle.std.proofs.lemmas.List.{get_or-append-add, get_or_default, length-map}
 use Rattle.std.proofs.lemmas.List.FromFn.{map-range_with_len_more}
-use Rattle.std.proofs.lemmas.List.Elements.{All-from_get_or}
 use Rattle.dm_size.specs.Sizes.{all_words, mapping}
 use Rattle.dm_placement.specs.Placement.{bit_cells, lifted, number_of, place_of, word_from}
 use Rattle.dm_placement.specs.declared.walk.Walk.{Walk}

@@ -15,8 +15,8 @@ returns-in_err-line_of_label-in-Ok-page_of g c =
     let p = err_from_is_err_and c.from_residual.result c.from_residual.ensures.1 in
     rw (p.1, p.2) memory
 
-pub returns-in-Ok-page_of : goal.returns-in-Ok-page_of
-returns-in-Ok-page_of g c =
+pub returns-in_ok-line_of_label-in-Ok-page_of : goal.returns-in_ok-line_of_label-in-Ok-page_of
+returns-in_ok-line_of_label-in-Ok-page_of g c =
     let s = c.in-Ok.symbol in
     let is = c.in-Ok.ensures.corrects in
     rw c.in_ok-line_of_label-in-Ok-page_of.ensures (label c.in-Ok-page_of.page s.corrected s.wrong record {
@@ -27,8 +27,8 @@ returns-in-Ok-page_of g c =
       wrong_is = is.wrong;
     })
 
-pub returns : goal.returns
-returns g c =
+pub returns-in-Err-page_of : goal.returns-in-Err-page_of
+returns-in-Err-page_of g c =
     let s = c.in-Ok.symbol in
     let is = c.in-Ok.ensures.corrects in
     let fault = c.in-Err-page_of.fault in

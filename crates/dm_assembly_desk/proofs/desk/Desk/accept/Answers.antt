@@ -1,6 +1,5 @@
-use Rattle.std.proofs.Common.{subst}
 use Rattle.dm_append_label.specs.Labels.{PageView}
-use Rattle.dm_assembly_desk.specs.Desk.{lone, Adds}
+use Rattle.dm_assembly_desk.specs.Desk.{lone}
 use Rattle.dm_assembly_desk.specs.Documents.{DeskView}
 use Rattle.dm_assembly_desk.proofs.AddLaws.{adds_kept}
 use Rattle.dm_assembly_desk.proofs.desk.Desk.accept.Goals as goal
@@ -10,5 +9,4 @@ returns-in-Ok-clause-kept g c =
     let p : PageView = c.in-Ok.opened.page in
     let accepts = c.accept_page.ensures.accepts in
     let new : DeskView = c.accept_page.new.self in
-    adds_kept p.id (lone p) c.args.self.now new accepts.0
-    (subst (λ (d : DeskView). Adds p.id (lone p) d accepts.0 new) c.self.view_is accepts.2)
+    adds_kept p.id (lone p) c.args.self.now new accepts.0 accepts.2
