@@ -1,6 +1,6 @@
 # Completions of relay for bash: commands, then the options of the command, and names of files.
 _relay() {
-    local commands='words draw read ledger plan print give ticket take left scan deliver forget export import held copy world explain version'
+    local commands='words draw read ledger plan print give ticket take left audit scan deliver forget export import held copy world explain version'
     local words word=${COMP_WORDS[COMP_CWORD]}
     case ${COMP_WORDS[1]} in
     words) words='--help --scheme --side' ;;
@@ -9,10 +9,11 @@ _relay() {
     ledger) words='--file --first --help --last --number' ;;
     plan) words='--help --scheme' ;;
     print) words='--file --help --labels --number --scheme --side' ;;
-    give) words='--file --first --help --last --number --to' ;;
+    give) words='--count --file --first --help --last --number --to' ;;
     ticket) words='--help --ticket' ;;
     take) words='--file --help --number --ticket' ;;
     left) words='--file --help' ;;
+    audit) words='--help' ;;
     scan) words='--capacity --file --help' ;;
     deliver) words='--file --help --id --to' ;;
     forget) words='--file --help --id' ;;

@@ -47,7 +47,7 @@ def start(*words, output, **options):
 def names_of_refusals():
     """The names of refusals that the tables of docs/REFUSALS.md have."""
     tables = (TOP / "docs" / "REFUSALS.md").read_text()
-    rows = [line.split("|")[1] for line in tables.splitlines() if line.startswith("| `")]
+    rows = [line.split("|")[1] for line in tables.splitlines() if line.startswith("|`")]
     return {name for row in rows for name in re.findall(r"`(\w+)`", row)}
 
 
