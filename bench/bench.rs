@@ -1,6 +1,6 @@
 //! Times of the project's static library beside those of Debian's libraries: symbols of three sides made, read clean
-//! and read with as many wrong words in each block as can be corrected, and labels opened. Each answer is checked before
-//! it is timed.
+//! and read with as many wrong codewords in each block as can be corrected, and labels opened. Each answer is checked
+//! before it is timed.
 
 mod measure;
 mod others;
@@ -24,7 +24,7 @@ enum Kind {
     Open,
 }
 
-/// What is done: on which side, and with how many wrong words in each block.
+/// What is done: on which side, and with how many wrong codewords in each block.
 #[derive(Clone, Copy, PartialEq)]
 struct Work {
     kind: Kind,
@@ -191,7 +191,7 @@ fn print_aim(what: &str, ours: Option<&[f64]>, others: Option<&[f64]>, aim: f64)
 }
 
 /// What is aimed at on each side: the most of libiec16022's time to make a symbol, of ZXing's to read a clean
-/// one, and, to read one with wrong words, of ZXing's to read a clean one.
+/// one, and, to read one with wrong codewords, of ZXing's to read a clean one.
 type Aims = [(u16, [f64; 3]); 3];
 
 const AIMS: Aims = [(10, [0.85, 0.17, 0.30]), (52, [0.20, 0.07, 0.22]), (132, [0.10, 0.05, 0.20])];
@@ -212,7 +212,7 @@ fn print_aims(times: &[Times]) {
     }
 }
 
-// The greatest heap of one symbol made and of one read with wrong words.
+// The greatest heap of one symbol made and of one read with wrong codewords.
 fn print_heap(size: Size) {
     let text = size.digits(size.data_words);
     let image = size.damaged(&drawn(size, &text), size.limit());

@@ -59,7 +59,7 @@ impl Buffer {
         self.draw(relay_symbol_from_text, side, text)
     }
 
-    /// The label of page 1 of 2, under the identification 0.
+    /// The label of page 1 of 2, under the ID 0.
     pub fn label_from_text(&mut self, side: u16, text: &[u8]) -> Option<&[u8]> {
         // SAFETY: as in `draw`.
         let length = unsafe {

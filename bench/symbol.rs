@@ -1,4 +1,4 @@
-//! Sizes, texts that fill them, and images with wrong words.
+//! Sizes, texts that fill them, and images with wrong codewords.
 
 use crate::softcairn::Buffer;
 
@@ -18,7 +18,7 @@ pub const SIZES: [Size; 3] = [
     Size { side: 132, data_words: 1304, check_words: 496, blocks: 8 },
 ];
 
-/// The words of a label's head.
+/// The codewords of a label's head.
 pub const HEAD_WORDS: usize = 4;
 
 /// A generator of numbers that are the same in each run (a linear congruence modulo 2^64).
@@ -32,18 +32,19 @@ impl Numbers {
 }
 
 impl Size {
-    /// The most wrong words of one block that can be corrected.
+    /// The most wrong codewords of one block that can be corrected.
     pub fn limit(self) -> usize {
         self.check_words / self.blocks / 2
     }
 
-    /// As many digits as fill that many data words, two to a word.
+    /// As many digits as fill that many data codewords, two to a codeword.
     pub fn digits(self, words: usize) -> Vec<u8> {
         let mut numbers = Numbers(1);
         (0..2 * words).map(|_| b'0' + numbers.below(10) as u8).collect()
     }
 
-    /// What is to be added, bit by bit, to the words of a symbol, so that `count` words of each block are wrong.
+    /// What is to be added, bit by bit, to the codewords of a symbol, so that `count` codewords of each block are
+    /// wrong.
     fn wrong_words(self, count: usize) -> Vec<u8> {
         let words = self.data_words + self.check_words;
         let mut numbers = Numbers(2);
@@ -58,8 +59,8 @@ impl Size {
         changes
     }
 
-    /// The image with `count` wrong words in each block: the modules turned over are those in which the image of the
-    /// wrong words differs from that of words 0.
+    /// The image with `count` wrong codewords in each block: the modules turned over are those in which the image of
+    /// the wrong codewords differs from that of codewords 0.
     pub fn damaged(self, image: &[u8], count: usize) -> Vec<u8> {
         let zeros = vec![0; self.data_words + self.check_words];
         let changes = self.wrong_words(count);

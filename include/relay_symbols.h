@@ -23,13 +23,13 @@ extern "C" {
 
 enum {
     RELAY_NO_SIDE = -1,        /* no symbol has this side */
-    RELAY_WORD_COUNT = -2,     /* the words are not as many as the symbol has */
-    RELAY_NO_PAGE = -3,        /* an identification above 64,515, or a page that is not one: n is 2 to 16, m 1 to n */
+    RELAY_WORD_COUNT = -2,     /* the codewords are not as many as the symbol has */
+    RELAY_NO_PAGE = -3,        /* an ID above 64,515, or a page that is not one: n is 2 to 16, m 1 to n */
     RELAY_TOO_LONG = -4,       /* the text does not fit the symbol */
     RELAY_NO_SYMBOL = -5,      /* the bytes do not begin with the image of a symbol */
-    RELAY_TOO_MANY_WRONG = -6, /* more modules of the finder patterns, or words of a block, are wrong than may be */
+    RELAY_TOO_MANY_WRONG = -6, /* more modules of the finder patterns, or codewords of a block, are wrong than may be */
     RELAY_NO_LABEL = -7,       /* the symbol is not that of a label */
-    RELAY_NO_TEXT = -8,        /* the words are no text, or have none after the head of the label */
+    RELAY_NO_TEXT = -8,        /* the codewords are no text, or have none after the head of the label */
     RELAY_NO_ROOM = -9,        /* what is to be written is longer than the caller's bytes */
     RELAY_NO_MEMORY = -10      /* memory was refused, perhaps before another reason was found */
 };
@@ -39,13 +39,14 @@ enum {
 ptrdiff_t relay_symbol_from_text(uint16_t side, const uint8_t *text, size_t text_length, uint8_t *image,
                                  size_t image_length);
 
-/* Draws the symbol of these words, data words first: all words of a symbol of this side, whether their check words are
- * right or not. Answers the length of its image, or RELAY_NO_SIDE, _WORD_COUNT, _NO_ROOM or _NO_MEMORY. */
+/* Draws the symbol of these codewords, data codewords first: all codewords of a symbol of this side, whether their
+ * error correction codewords are right or not. Answers the length of its image, or RELAY_NO_SIDE, _WORD_COUNT, _NO_ROOM
+ * or _NO_MEMORY. */
 ptrdiff_t relay_image_from_words(uint16_t side, const uint8_t *words, size_t words_length, uint8_t *image,
                                  size_t image_length);
 
-/* Draws the label of page m of n that has this text, under the file identification of this number. Answers the length
- * of its image, or RELAY_NO_SIDE, _NO_PAGE, _TOO_LONG, _NO_ROOM or _NO_MEMORY. */
+/* Draws the label of page m of n that has this text, under the ID of this number. Answers the length of its image, or
+ * RELAY_NO_SIDE, _NO_PAGE, _TOO_LONG, _NO_ROOM or _NO_MEMORY. */
 ptrdiff_t relay_label_from_text(uint16_t side, uint16_t id, uint8_t m, uint8_t n, const uint8_t *text,
                                 size_t text_length, uint8_t *image, size_t image_length);
 

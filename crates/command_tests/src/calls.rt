@@ -41,12 +41,12 @@ pub enum Call {
     /// What it reads.
     Scan(&'static [u8]),
     Deliver,
-    /// An identification.
+    /// An ID.
     Forget(&'static str),
     Export(&'static str),
     /// What it reads.
     Import(&'static [u8]),
-    /// An identification, or none for all.
+    /// An ID, or none for all.
     Held(Option<&'static str>),
     Copy,
     /// What a desk of an older version has saved: a file of two documents.
@@ -61,7 +61,7 @@ const NUMBERS: Range = Range { first: 0, last: 9 };
 
 const GIVEN: Range = Range { first: 5, last: 9 };
 
-// Two identifications of printer 1, for printer 0.
+// Two IDs of printer 1, for printer 0.
 const TICKET: &str = "00010000000000140015";
 
 const ID: &str = "0101";
@@ -74,7 +74,7 @@ const CAPACITY: u16 = 4;
 // The images come on the input.
 const NO_IMAGES: [&[u8]; 0] = [];
 
-/// The file of printer 0 with the identifications 0 to 9.
+/// The file of printer 0 with the IDs 0 to 9.
 pub const NEW_LEDGER: &[u8] = b"DMLG\x02\0\0\0\0\x01\0\0\0\x09\0\xff\xf5";
 
 // The file of page 2 of `1234`.

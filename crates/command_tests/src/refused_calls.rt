@@ -68,7 +68,7 @@ fn both_ways<A: Allocator + Copy>(alloc: A, id: FileId) -> Result<bool, Fault> {
 
 #[test]
 fn images_and_labels_are_refused_by_name(rt: HostRuntime) -> Result<(), Fail> {
-    let id = FileId::of_words(1, 1).ok_or("no identification")?;
+    let id = FileId::of_words(1, 1).ok_or("no ID")?;
     for passes in 0..MOST_GROWTHS {
         let memory = Refusing::new(rt.alloc(), passes);
         let ended = both_ways(&memory, id);
@@ -84,7 +84,7 @@ fn images_and_labels_are_refused_by_name(rt: HostRuntime) -> Result<(), Fail> {
 // Faults that come before any memory is asked for.
 #[test]
 fn some_faults_ask_for_no_memory(rt: HostRuntime) -> Result<(), Fail> {
-    let id = FileId::of_words(1, 1).ok_or("no identification")?;
+    let id = FileId::of_words(1, 1).ok_or("no ID")?;
     let memory = Refusing::new(rt.alloc(), 1);
     let grid = Grid::of_modules(&memory, 12, &[false; 144])?;
     assert!(rt; matches!(open_label(&memory, &grid), Err(LabelFault::Border { .. })));

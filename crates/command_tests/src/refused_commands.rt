@@ -15,7 +15,7 @@ const LINE: &[u8] = b"refused Memory\n";
 // What an audit says of a ledger that it is given twice.
 const TWICE: &str = "number ledger 1 of 0 ledger 2 of 0\nfree ledger 1 of 0 ledger 2 of 0\n";
 
-// Whether a print was refused after its save: its line is out, the identification is used, and the labels before the
+// Whether a print was refused after its save: its line is out, the ID is used, and the labels before the
 // refusal are out.
 fn is_cut_short(ended: &Whole, whole: &Whole, call: Call) -> bool {
     matches!(call, Call::Print | Call::PrintAuto)

@@ -75,7 +75,7 @@ fn writers_are_interrupted_or_fail(rt: HostRuntime) -> Result<(), Fail> {
 }
 
 // Where the line of a print can't be written no label goes out, nothing follows what is out of the line, and the
-// identification stays used.
+// ID stays used.
 #[test]
 fn prints_no_label_without_its_line(rt: HostRuntime) -> Result<(), Fail> {
     let alloc = rt.alloc();
@@ -161,9 +161,9 @@ fn a_scan_ends_at_a_failed_save(rt: HostRuntime) -> Result<(), Fail> {
     Ok(())
 }
 
-// A text that is no identification is refused before any file is looked at: of a disk that does one call this is left.
+// A text that is no ID is refused before any file is looked at: of a disk that does one call this is left.
 #[test]
-fn no_identification_is_refused_before_any_file(rt: HostRuntime) -> Result<(), Fail> {
+fn no_id_is_refused_before_any_file(rt: HostRuntime) -> Result<(), Fail> {
     let alloc = rt.alloc();
     for text in ["", "0001", "ff01", "01fg"] {
         for call in [Call::Forget(text), Call::Export(text)] {

@@ -1,12 +1,9 @@
 -- The parts of a document: how many there are, that each fits a label, that joined they are the document, and that
 -- there is one list of them at most.
-use Rattle.std.specs.Prelude.{slice_range}
-use Rattle.std.specs.List.{concat}
+use Rattle.std.specs.{Prelude.slice_range, List.concat}
 use Rattle.std.proofs.Common.{◌≡◌, ◌+◌, ◌-◌, ◌≤◌, ◌<◌, ◌++◌, ℕ, zero, suc, List, [], ◌∷◌, length, take, drop, refl, sym, ap, subst, ◌∙◌, arith, length-drop}
-use Rattle.std.proofs.Math.Seq.{drop-nil, drop-length}
-use Rattle.std.proofs.lemmas.List.{take-append-drop}
-use Rattle.dm_size.specs.declared.size.Size.{Size}
-use Rattle.dm_size.specs.Sizes.{data_words}
+use Rattle.std.proofs.{Math.Seq.drop-nil, Math.Seq.drop-length, lemmas.List.take-append-drop}
+use Rattle.dm_size.specs.{declared.size.Size.Size, Sizes.data_words}
 use Rattle.dm_encodation.specs.declared.scheme.Scheme.{Scheme}
 use Rattle.dm_encodation.specs.declared.scheme.Scheme.TheVariants.{Ascii, C40, Text, Base256}
 use Rattle.dm_encodation.specs.Written.{IsGreatestPrefix, need_of, text, ascii, run_and_rest, run_length, greatest, base_256}
@@ -14,7 +11,7 @@ use Rattle.dm_append_label.specs.Labels.{Fits, AreFullEnds, until_two, parts_fro
 
 -- ---- each part fits
 
--- The empty text needs no word.
+-- The empty text needs no codeword.
 empty_need : (scheme : Scheme) → need_of scheme [] ≡ 0
 unfolding need_of text ascii run_and_rest run_length greatest base_256
 empty_need Ascii = refl

@@ -1,9 +1,8 @@
 -- Cutting from the left finds the one list of parts.
 use Rattle.std.proofs.Common.{◌≡◌, ℕ, ◌+◌, ◌-◌, ◌<◌, List, [], ◌∷◌, ◌++◌, length, take, drop, sym, ap, subst, ◌∙◌, append_assoc, length-append, length-drop, arith}
 use Rattle.std.proofs.lemmas.List.{append-nil, take_all}
-use Rattle.dm_encodation.specs.declared.scheme.Scheme.{Scheme}
+use Rattle.dm_encodation.specs.{declared.scheme.Scheme.Scheme, Written.IsGreatestPrefix}
 use Rattle.dm_append_label.specs.Labels.{AreFullEnds}
-use Rattle.dm_encodation.specs.Written.{IsGreatestPrefix}
 
 -- The document up to `from` is cut at these ends: ends of the rest complete them to ends of the whole, and all ends of
 -- the whole begin with them.

@@ -9,8 +9,7 @@ use Rattle.dm_symbol.specs.Correction.{CorrectedView, CorrectsNear, IsCorrectedA
 use Rattle.dm_symbol.specs.declared.fault.SymbolFault.{SymbolFault}
 use Rattle.dm_append_label.specs.Labels.{PageView, HeadView, IsHead, head_at, head_from, head_of, head_words, Carries}
 use Rattle.dm_append_label.specs.Opening.{IsPageOf, LabelOpens, Opens, OpensNear, ReadsPage}
-use Rattle.dm_append_label.specs.declared.opening.TheConstants.{MOST_PAGE_BYTES}
-use Rattle.dm_append_label.specs.declared.fault.LabelFault.{LabelFault}
+use Rattle.dm_append_label.specs.declared.{opening.TheConstants.MOST_PAGE_BYTES, fault.LabelFault.LabelFault}
 use Rattle.dm_append_label.specs.declared.fault.LabelFault.TheVariants.{Border, Block, Content, Memory}
 use Rattle.dm_append_label.specs.declared.opening.Opened.{Opened}
 
@@ -23,7 +22,7 @@ head_by_parts h m n id a b c =
     ∙ ap (λ (x : ℕ). let q : HeadView = record { m = h.m; n = x; id = id } in q) b
     ∙ ap (λ (x : ℕ). let q : HeadView = record { m = h.m; n = h.n; id = x } in q) c
 
--- The words of a head spell that head.
+-- The codewords of a head spell that head.
 spelled : (h : HeadView) (i a b : ℕ) → IsHead h → i ≡ 16 * (h.m - 1) + (17 - h.n) → a ≡ h.id / 254 + 1 →
     b ≡ h.id % 254 + 1 → head_from i a b ≡ Ok h
 spelled h i a b is ei ea eb =
@@ -46,7 +45,7 @@ spelled h i a b is ei ea eb =
     let ok : HeadView → Result HeadView LabelFault = λ q. Ok q in
     ap ok (head_by_parts h _ _ _ m_is n_is id_is)))))))
 
--- Words that begin with the words of a head have that head.
+-- Codewords that begin with the codewords of a head have that head.
 at_head : (h : HeadView) (words : List ℕ) → IsHead h → take 4 words ≡ head_words h → head_at words ≡ Ok h
 unfolding head_at
 at_head h [] is e = absurd (omega (arith, ap length e))
@@ -131,7 +130,7 @@ head_or h (Err fault) = h
 not_both : (r : Result HeadView LabelFault) (h : HeadView) (fault : LabelFault) → r ≡ Ok h → r ≡ Err fault → ⊥
 not_both r h fault a b = grind arith
 
--- Data words that are read as a page are read as no other.
+-- Data codewords that are read as a page are read as no other.
 one_page : (words : List ℕ) (one other : PageView) → IsPageOf words one → IsPageOf words other → one ≡ other
 one_page words one other p q =
     let same : head_of one ≡ head_of other = ap (head_or (head_of other)) (sym p.head ∙ q.head) in
@@ -139,7 +138,7 @@ one_page words one other p q =
     (ap (λ (h : HeadView). h.n) same)
     (q.reads.only one.bytes p.reads.reads)
 
--- the page of the words of a label
+-- the page of the codewords of a label
 page_there : (grid label : GridView) (page : PageView) (symbol : CorrectedView) (c : CarriesAt grid.size page label) →
     symbol.size ≡ grid.size
     → symbol.words ≡ c.words → IsPageOf (data_of symbol.size symbol.words) page
@@ -150,7 +149,7 @@ page_there grid label page symbol c size words =
     ap (λ (s : Size). data_of s symbol.words) size ∙ ap (data_of grid.size) words in
     subst (λ (d : List ℕ). IsPageOf d page) (sym same) here
 
--- the data words of a symbol that was read from a grid
+-- the data codewords of a symbol that was read from a grid
 data_there : (grid : GridView) (symbol : CorrectedView) → symbol.size ≡ grid.size →
     data_of symbol.size symbol.words ≡ data_of grid.size symbol.words
 data_there grid symbol size = ap (λ (s : Size). data_of s symbol.words) size

@@ -1,37 +1,35 @@
--- Pages, and the labels that carry them: file identifications and heads (ISO/IEC 16022:2006, 5.6), and parts.
+-- Pages, and the labels that carry them: IDs and heads (ISO/IEC 16022:2006, 5.6), and parts.
 use Rattle.std.specs.Prelude.{ℕ, ◌+◌, ◌/◌, ◌%◌, ◌≤◌, List, [], ◌∷◌, ◌-◌, ◌*◌, ◌<◌, Bool, Result, Ok, Err, ◌||◌, nat_lt, ◌==◌, if◌then◌else◌, ◌≡◌, ◌⊎◌, take, drop, length, slice_range}
 use Rattle.std.specs.List.{concat}
 use Rattle.dm_append_label.specs.declared.fault.LabelFault.{LabelFault}
-use Rattle.dm_size.specs.declared.size.Size.{Size}
-use Rattle.dm_size.specs.Sizes.{data_words}
+use Rattle.dm_size.specs.{declared.size.Size.Size, Sizes.data_words}
 use Rattle.dm_check_blocks.specs.Blocks.{IsSymbol}
-use Rattle.dm_encodation.specs.declared.scheme.Scheme.{Scheme}
+use Rattle.dm_encodation.specs.{declared.scheme.Scheme.Scheme, Grammar.ReadsOnly}
 use Rattle.dm_encodation.specs.Written.{filled, need_of, IsGreatestPrefix}
-use Rattle.dm_encodation.specs.Grammar.{ReadsOnly}
 use Rattle.dm_finder_frame.specs.Frame.{GridView}
 use Rattle.dm_symbol.specs.Correction.{DrawsSymbol, data_of, grid_of_words}
 use Rattle.dm_append_label.specs.declared.fault.LabelFault.TheVariants as faults
 
--- the two words of an identification number
+-- the two codewords of an ID number
 abbrev pub id_words : ℕ → List ℕ
 id_words id = (id / 254 + 1) ∷ (id % 254 + 1) ∷ []
 
--- a word that an identification may have
+-- a codeword that an ID may have
 abbrev pub IsIdWord : ℕ → Type 0
 IsIdWord word = (1 ≤ word) × (word ≤ 254)
 
--- a page as contracts see it: page m of n of the document of this identification
+-- a page as contracts see it: page m of n of the document of this ID
 pub record PageView : Type 0 where
   pub id : ℕ
   pub m : ℕ
   pub n : ℕ
   pub bytes : List ℕ
 
--- ---- The head of a label: Structured Append (ISO/IEC 16022:2006, 5.6). Its first four data words are 233, the
--- sequence indicator, with m - 1 in its high four bits and 17 - n in its low four for label m of n, and the two words
--- of the file identification.
+-- ---- The head of a label: Structured Append (ISO/IEC 16022:2006, 5.6). Its first four data codewords are 233, the
+-- sequence indicator, with m - 1 in its high four bits and 17 - n in its low four for label m of n, and the two
+-- codewords of the ID.
 
--- what a head says: label m of n of the document of an identification
+-- what a head says: label m of n of the document of an ID
 pub record HeadView : Type 0 where
   pub m : ℕ
   pub n : ℕ
@@ -48,16 +46,16 @@ pub record IsHead (h : HeadView) : Type 0 where
 abbrev pub head_of : PageView → HeadView
 head_of page = record { m = page.m; n = page.n; id = page.id }
 
--- the words of a head
+-- the codewords of a head
 abbrev pub head_words : HeadView → List ℕ
 head_words h = 233 ∷ (16 * (h.m - 1) + (17 - h.n)) ∷ id_words h.id
 
--- a word that no identification has
+-- a codeword that no ID has
 abbrev pub is_no_id_word : ℕ → Bool
 is_no_id_word word = nat_lt word 1 || nat_lt 254 word
 
--- The head that a sequence indicator and two words spell, or the first fault: an indicator of more than 16 labels or of
--- a label after the last, and words that no identification has.
+-- The head that a sequence indicator and two codewords spell, or the first fault: an indicator of more than 16 labels
+-- or of a label after the last, and codewords that no ID has.
 abbrev pub head_from : ℕ → ℕ → ℕ → Result HeadView LabelFault
 head_from indicator a b =
     let m = indicator / 16 + 1 in
@@ -66,13 +64,13 @@ head_from indicator a b =
     if is_no_id_word a || is_no_id_word b then Err faults.FileId else
     Ok (record { m = m; n = n; id = (a - 1) * 254 + (b - 1) })
 
--- the head that data words begin with, or its first fault
+-- the head that data codewords begin with, or its first fault
 unfoldable pub head_at : List ℕ → Result HeadView LabelFault
 head_at (word ∷ indicator ∷ a ∷ b ∷ rest) = if word == 233 then head_from indicator a b else Err faults.NotAppended
 head_at _ = Err faults.NotAppended
 
--- The grid carries the page: it is that of a symbol whose data words are the page's head and then words that read as
--- its bytes, and as no others.
+-- The grid carries the page: it is that of a symbol whose data codewords are the page's head and then codewords that
+-- read as its bytes, and as no others.
 pub record Carries (page : PageView) (grid : GridView) : Type 0 where
   pub words : List ℕ
   pub symbol : IsSymbol grid.size words
@@ -81,7 +79,7 @@ pub record Carries (page : PageView) (grid : GridView) : Type 0 where
   pub begins : take 4 (data_of grid.size words) ≡ head_words (head_of page)
   pub reads : ReadsOnly 5 (drop 4 (data_of grid.size words)) page.bytes
 
--- the grid of the one symbol whose data words are the page's head, the text of its bytes in an encodation, and pads
+-- the grid of the one symbol whose data codewords are the page's head, the text of its bytes in an encodation, and pads
 abbrev pub Seals : Size → Scheme → PageView → GridView → Type 0
 Seals size scheme page grid = DrawsSymbol size
     (filled scheme (head_words (head_of page)) page.bytes (data_words size)) grid
@@ -91,12 +89,12 @@ pub record Fits (size : Size) (scheme : Scheme) (bytes : List ℕ) : Type 0 wher
   pub head : 4 ≤ data_words size
   pub text : need_of scheme bytes ≤ data_words size - 4
 
--- a size has no room for the head, or the bytes need more words than it leaves
+-- a size has no room for the head, or the bytes need more codewords than it leaves
 abbrev pub IsTooLong : Size → Scheme → List ℕ → Type 0
 IsTooLong size scheme bytes = (data_words size < 4) ⊎ (data_words size - 4 < need_of scheme bytes)
 
 -- ---- Where a document is cut (this project's own rule): each part is the greatest prefix of what remains that a label
--- of this size has room for after its head of four words, and empty parts follow until there are two.
+-- of this size has room for after its head of four codewords, and empty parts follow until there are two.
 
 -- From the byte `from` on, the parts end there: each is the greatest prefix of what remains that fits, and none is
 -- empty.

@@ -3,33 +3,31 @@
 -- patterns may be wrong is this project's own rule).
 use Rattle.std.specs.Prelude.{◌≡◌, ℕ, ◌≤◌, List, length, drop, Result, Ok, Err, IfOk, codes}
 use Rattle.dm_gf256.specs.Field.{differ}
-use Rattle.dm_encodation.specs.Grammar.{ReadsOnly, StuckOnly}
-use Rattle.dm_encodation.specs.declared.fault.DecodeFault.{DecodeFault}
+use Rattle.dm_encodation.specs.{Grammar.ReadsOnly, Grammar.StuckOnly, declared.fault.DecodeFault.DecodeFault}
 use Rattle.dm_finder_frame.specs.Frame.{wrong_frame_modules, GridView, HasBadFrame}
 use Rattle.dm_symbol.specs.Correction.{HasBadBlock, IsReadAs, IsNear, data_of, words_of_grid}
 use Rattle.dm_append_label.specs.Labels.{PageView, HeadView, head_of, head_at, Carries}
-use Rattle.dm_append_label.specs.declared.opening.TheConstants.{MOST_PAGE_BYTES}
-use Rattle.dm_append_label.specs.declared.fault.LabelFault.{LabelFault}
+use Rattle.dm_append_label.specs.declared.{opening.TheConstants.MOST_PAGE_BYTES, fault.LabelFault.LabelFault}
 use Rattle.dm_append_label.specs.declared.opening.Opened.{Opened}
 use Rattle.dm_symbol.specs.declared.fault.SymbolFault.{SymbolFault}
 use Rattle.dm_encodation.specs.Faults.{decode_fault_name}
 use Rattle.dm_append_label.specs.declared.fault.LabelFault.TheVariants.{Border, Block, NotAppended, Sequence, FileId, Content, Memory}
 use Rattle.dm_symbol.specs.declared.fault.SymbolFault.TheVariants as symbol_faults
 
--- ---- data words
+-- ---- data codewords
 
--- the data words have the head of this page, and read as its bytes and as no others
+-- the data codewords have the head of this page, and read as its bytes and as no others
 pub record IsPageOf (words : List ℕ) (page : PageView) : Type 0 where
   pub head : head_at words ≡ Ok (head_of page)
   pub reads : ReadsOnly 5 (drop 4 words) page.bytes
 
--- the data words have a head, and the text after it has this fault and no other
+-- the data codewords have a head, and the text after it has this fault and no other
 pub record HasTextFault (words : List ℕ) (fault : DecodeFault) : Type 0 where
   pub head : HeadView
   pub is_head : head_at words ≡ Ok head
   pub stuck : StuckOnly 5 (drop 4 words) fault
 
--- what data words are read as: the page of a label, or the first fault that applies
+-- what data codewords are read as: the page of a label, or the first fault that applies
 abbrev pub ReadsPage : List ℕ → Result PageView LabelFault → Type 0
 ReadsPage words (Ok page) = IsPageOf words page
 ReadsPage words (Err (Content fault)) = HasTextFault words fault
@@ -40,7 +38,7 @@ ReadsPage words (Err fault) = head_at words ≡ Err fault
 
 -- ---- grids
 
--- the grid is read as words that have this page
+-- the grid is read as codewords that have this page
 pub record OpensAs (grid : GridView) (page : PageView) (corrected wrong : ℕ) : Type 0 where
   pub words : List ℕ
   pub read : IsReadAs grid words
@@ -48,11 +46,11 @@ pub record OpensAs (grid : GridView) (page : PageView) (corrected wrong : ℕ) :
   pub changed : corrected ≡ differ (words_of_grid grid) words
   pub wrong_is : wrong ≡ wrong_frame_modules grid
 
--- the grid is read as words whose head has this fault
+-- the grid is read as codewords whose head has this fault
 abbrev pub HasBadHead : GridView → LabelFault → Type 0
 HasBadHead grid fault = (words : List ℕ) × IsReadAs grid words × (head_at (data_of grid.size words) ≡ Err fault)
 
--- the grid is read as words whose text has this fault
+-- the grid is read as codewords whose text has this fault
 abbrev pub HasBadText : GridView → DecodeFault → Type 0
 HasBadText grid fault = (words : List ℕ) × IsReadAs grid words × HasTextFault (data_of grid.size words) fault
 

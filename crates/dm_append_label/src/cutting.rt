@@ -66,8 +66,8 @@ fn greedy_ends(
 /// of this size has room for, and empty parts follow until there are two. The last end is the document's length, and
 /// each part can be sealed. A document of no bytes has the ends 0 and 0. It takes no memory.
 ///
-/// A label of side 12 has one word left after its head, and two digits are one word: in ASCII `1234567` has the ends 2,
-/// 4, 6 and 7.
+/// A label of side 12 has one codeword left after its head, and two digits are one codeword: in ASCII `1234567` has the
+/// ends 2, 4, 6 and 7.
 ///
 /// # Errors
 /// `TooLong` where the document has no such parts, at side 10 whatever it is.

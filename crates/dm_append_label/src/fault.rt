@@ -12,7 +12,7 @@ use thiserror::Error;
 /// Why a page isn't sealed.
 #[derive(Clone, Copy, Debug, PartialEq, Eq, Error)]
 pub enum SealFault {
-    /// The symbol has no room for the head of a label, or the page's bytes need more words than the head leaves.
+    /// The symbol has no room for the head of a label, or the page's bytes need more codewords than the head leaves.
     #[error("the page does not fit a label of this size")]
     TooLong,
     /// The allocator refused its memory.
@@ -26,17 +26,17 @@ pub enum LabelFault {
     /// More than an eighth of the finder patterns' modules are wrong; this is their number.
     #[error("{wrong} modules of the finder patterns are wrong")]
     Border { wrong: u16 },
-    /// This block, from 0, has more wrong words than can be corrected.
-    #[error("block {block} has more wrong words than can be corrected")]
+    /// This block, from 0, has more wrong codewords than can be corrected.
+    #[error("block {block} has more wrong codewords than can be corrected")]
     Block { block: usize },
-    /// There is no head of a label: the first word is not that of Structured Append.
+    /// There is no head of a label: the first codeword is not that of Structured Append.
     #[error("the symbol is not a label")]
     NotAppended,
     /// The sequence indicator is that of no label 1 to n of 2 to 16.
     #[error("the sequence indicator {word} is invalid")]
     Sequence { word: u8 },
-    /// One of the identification's words is 0 or 255.
-    #[error("the file identification is invalid")]
+    /// One of the ID's codewords is 0 or 255.
+    #[error("the ID is invalid")]
     FileId,
     /// The text after the head has this fault, which is never `Memory`.
     #[error("{0}")]

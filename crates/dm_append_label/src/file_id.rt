@@ -1,8 +1,8 @@
-//! File identifications.
+//! File IDs.
 
 use std::marker::Model;
 
-/// The identification that all labels of one document carry (ISO/IEC 16022:2006, 5.6.3): two words of 1 to 254, or,
+/// The ID that all labels of one document carry (ISO/IEC 16022:2006, 5.6.3): two codewords of 1 to 254, or,
 /// as this project counts them, a number from 0 to 64,515. Ordered by number.
 #[derive(Clone, Copy, Debug, PartialEq, Eq, PartialOrd, Ord, Hash)]
 pub struct FileId {
@@ -25,7 +25,7 @@ impl FileId {
     ghost use Rattle.std.specs.Prelude.{◌≡◌, ◌<◌, [], ◌∷◌, IfSome, IsSome, ◌↔◌};
     ghost use Rattle.dm_append_label.specs.Labels.{id_words, IsIdWord};
 
-    /// The identification of a number from 0 to 64,515.
+    /// The ID of a number from 0 to 64,515.
     pub fn of_number(number: u16) -> Option<FileId>
         ensures some { IsSome result ↔ (number < 64516) }
         ensures same { IfSome result (λ id. id ≡ number) }
@@ -37,7 +37,7 @@ impl FileId {
         }
     }
 
-    /// The identification of two words, each from 1 to 254.
+    /// The ID of two codewords, each from 1 to 254.
     pub fn of_words(first: u8, second: u8) -> Option<FileId>
         ensures some { IsSome result ↔ (IsIdWord first × IsIdWord second) }
         ensures same { IfSome result (λ id. id_words id ≡ first ∷ second ∷ []) }
@@ -58,7 +58,7 @@ impl FileId {
         self.number
     }
 
-    /// Its two words, in the order in which a label has them.
+    /// Its two codewords, in the order in which a label has them.
     pub fn words(self) -> (u8, u8)
         ensures same { result.0 ∷ result.1 ∷ [] ≡ id_words self }
         ensures below { self < 64516 }

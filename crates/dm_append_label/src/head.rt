@@ -7,13 +7,13 @@ ghost use Rattle.dm_append_label.specs.inner.ReadHeads.{ReadsHead, view_of};
 use crate::fault::LabelFault;
 use crate::file_id::FileId;
 
-/// The words of a head.
+/// The codewords of a head.
 pub(crate) const HEAD_WORDS: usize = 4;
 
-// The word of Structured Append, the first of a head.
+// The codeword of Structured Append, the first of a head.
 const APPENDED: u8 = 233;
 
-/// What a head says: label m of n of the document of an identification.
+/// What a head says: label m of n of the document of an ID.
 #[derive(Clone, Copy, Debug, PartialEq, Eq)]
 pub(crate) struct Head {
     pub m: u8,
@@ -21,7 +21,7 @@ pub(crate) struct Head {
     pub id: FileId,
 }
 
-/// The four words of a head.
+/// The four codewords of a head.
 pub(crate) fn words_of_head(head: Head) -> [u8; HEAD_WORDS]
     requires least { 2 ≤ head.n }
     requires most { head.n ≤ 16 }
@@ -34,7 +34,7 @@ pub(crate) fn words_of_head(head: Head) -> [u8; HEAD_WORDS]
     [APPENDED, 16 * (head.m - 1) + (17 - head.n), first, second]
 }
 
-// The head that a sequence indicator and the words of an identification spell.
+// The head that a sequence indicator and the codewords of an ID spell.
 fn head_of_words(indicator: u8, first: u8, second: u8) -> Result<Head, LabelFault>
     ensures { ReadsHead (head_from indicator first second) result }
 {
@@ -48,7 +48,7 @@ fn head_of_words(indicator: u8, first: u8, second: u8) -> Result<Head, LabelFaul
     Ok(Head { m, n, id })
 }
 
-/// The head that data words begin with, or its first fault.
+/// The head that data codewords begin with, or its first fault.
 #[tactic(auto, unfolding(crate::specs::Labels::head_at))]
 pub(crate) fn read_head(words: &[u8]) -> Result<Head, LabelFault>
     ensures head { ReadsHead (head_at words.now) result }

@@ -8,8 +8,8 @@ use crate::file_id::FileId;
 use crate::opening::MOST_PAGE_BYTES;
 use std::cmp::Ordering;
 
-/// Identifications are ordered by number.
-pub fn identifications_are_ordered_by_number(one: FileId, other: FileId) -> Ordering
+/// IDs are ordered by number.
+pub fn ids_are_ordered_by_number(one: FileId, other: FileId) -> Ordering
     ensures { result ≡ nat_cmp one other }
 {
     one.cmp(&other)

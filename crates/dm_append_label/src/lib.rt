@@ -1,7 +1,7 @@
 //! Labels: symbols with Structured Append, each of which carries one page of a document (ISO/IEC 16022:2006, 5.6).
 //!
 //! [`cut`] divides a document into the parts of its labels, [`seal`] draws the label of a [`Page`], and [`open_label`]
-//! reads one from any grid: it corrects the words of its symbol, and [`page_of`] reads the page that these have.
+//! reads one from any grid: it corrects the codewords of its symbol, and [`page_of`] reads the page that these have.
 //! [`still_near`] says whether flipped modules leave a grid within what is corrected.
 //!
 //! Proved: the grid of `seal` carries the page; what `open_label` gives is the page of the one symbol near the grid,

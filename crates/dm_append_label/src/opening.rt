@@ -20,14 +20,14 @@ pub const MOST_PAGE_BYTES: usize = 2600;
 pub struct Opened<A: Allocator = Global> {
     /// Its page.
     pub page: Page<A>,
-    /// How many of its words were wrong, and were corrected.
+    /// How many of its codewords were wrong, and were corrected.
     pub corrected: u16,
     /// How many modules of its finder patterns are wrong.
     pub wrong: u16,
 }
 
-/// The page that a corrected symbol has in its data words: the head of a label, and the text after it, read from word 5
-/// (ISO/IEC 16022:2006, 5.6).
+/// The page that a corrected symbol has in its data codewords: the head of a label, and the text after it, read from
+/// codeword 5 (ISO/IEC 16022:2006, 5.6).
 ///
 /// # Errors
 /// The first fault that applies, in the order of `LabelFault`, from `NotAppended` on. `Memory` comes after all else.
@@ -48,13 +48,13 @@ pub fn page_of<A: Allocator + Copy>(alloc: A, symbol: &Corrected) -> Result<Page
     Ok(page)
 }
 
-/// Opens a label, from any grid: corrects the words of its symbol and reads the page after the head. A grid that is
-/// near a label, so that each of its blocks has no more wrong words than can be corrected, opens as that label's page
-/// or not at all, and it opens where its finder patterns are within their limit (ISO/IEC 16022:2006, 5.6 and 5.7,
+/// Opens a label, from any grid: corrects the codewords of its symbol and reads the page after the head. A grid that is
+/// near a label, so that each of its blocks has no more wrong codewords than can be corrected, opens as that label's
+/// page or not at all, and it opens where its finder patterns are within their limit (ISO/IEC 16022:2006, 5.6 and 5.7,
 /// Annexes A, E and F).
 ///
-/// A grid of side 12 whose data words, corrected, are `233 15 1 1 50` opens as page 1 of 2 of the identification 0, with
-/// the one byte `1`. A grid of side 10 is no label: its three data words have no room for a head.
+/// A grid of side 12 whose data codewords, corrected, are `233 15 1 1 50` opens as page 1 of 2 of the ID 0, with
+/// the one byte `1`. A grid of side 10 is no label: its three data codewords have no room for a head.
 ///
 /// # Errors
 /// The first fault that applies, in the order of `LabelFault`. Memory is asked for once, for the page's bytes: after

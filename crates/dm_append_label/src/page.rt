@@ -38,7 +38,7 @@ impl<A: Allocator> Page<A> {
         Some(Page { id, m, n, bytes })
     }
 
-    /// The identification of its document.
+    /// The ID of its document.
     pub fn id(&self) -> FileId
         ensures { result ≡ self.now.id }
     {

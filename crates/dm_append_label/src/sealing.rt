@@ -15,7 +15,7 @@ use dm_size::Size;
 use dm_symbol::draw_symbol;
 use std::alloc::Allocator;
 
-// The data words of a page's label.
+// The data codewords of a page's label.
 fn data_words<A: Allocator + Copy>(
     alloc: A,
     page: &Page<A>,
@@ -40,8 +40,8 @@ fn data_words<A: Allocator + Copy>(
     }
 }
 
-/// The label of a page: the grid of the symbol of this size whose data words are the page's head, the text of its bytes
-/// in this encodation, and pads (ISO/IEC 16022:2006, 5.2 and 5.6).
+/// The label of a page: the grid of the symbol of this size whose data codewords are the page's head, the text of its
+/// bytes in this encodation, and pads (ISO/IEC 16022:2006, 5.2 and 5.6).
 ///
 /// # Errors
 /// `TooLong` where the size has no room, before any memory is asked for; `Memory` where the allocator refuses.

@@ -1,10 +1,8 @@
 -- What the pages that are held and those that are given are together, page by page.
 use Rattle.std.proofs.Common.{arith, ◌≡◌, ℕ, zero, suc, ◌&&◌, List, [], ◌∷◌, Bool, true, false, Option, Some, None, refl, ap, sym, ◌∙◌}
-use Rattle.std.specs.Prelude.{is_none, is_some}
-use Rattle.std.specs.Option.{option_or}
-use Rattle.std.proofs.lemmas.Bool.{and_parts}
-use Rattle.std.proofs.lemmas.Slice.Eq.{bytes_eq-Decides}
-use Rattle.dm_assembly_desk.specs.Documents.{Pages, page, names, union_of, added_mask, agrees_at, agree}
+use Rattle.std.specs.{Prelude.is_none, Prelude.is_some, Option.option_or}
+use Rattle.std.proofs.lemmas.{Bool.and_parts, Slice.Eq.bytes_eq-Decides}
+use Rattle.dm_assembly_desk.specs.Documents.{Pages, page, names, union_of_pages, added_mask, agrees_at, agree}
 use Rattle.dm_assembly_desk.proofs.Masks.{half, odd, none_named, names_mask}
 
 and_none : (b : Bool) → (b && false) ≡ false
@@ -24,7 +22,8 @@ else_none : (o : Option (List ℕ)) → o ≡ option_or o None
 else_none o = grind arith
 
 -- each page is what was held, else what the file has
-pub page_merged : (own pages : Pages) (m : ℕ) → page (union_of own pages) m ≡ option_or (page own m) (page pages m)
+pub page_merged : (own pages : Pages) (m : ℕ) → page (union_of_pages own pages) m
+    ≡ option_or (page own m) (page pages m)
 page_merged own pages zero = refl
 page_merged [] pages (suc m) = refl
 page_merged (p ∷ ps) [] (suc m) = else_none (page (p ∷ ps) (suc m))

@@ -1,23 +1,16 @@
 -- What the verdict on pages says, and what is held where they are added.
 use Rattle.std.proofs.Common.{◌≡◌, ℕ, ◌+◌, ◌*◌, ◌<◌, ◌≤◌, Bool, true, false, cond, leb, List, [], ◌∷◌, length, Option, Some, None, Result, Ok, Err, sym, ap, subst, ◌∙◌, arith}
 use Rattle.std.specs.Prelude.{◌≢◌, not, is_some, if◌then◌else◌, IfSome, unwrap_or}
-use Rattle.std.specs.List.{AllByRecursion, list_all}
+use Rattle.std.specs.{List.AllByRecursion, List.list_all, Cmp.nat_cmp_total, Option.option_or}
 use Rattle.std.proofs.lemmas.Bool.{eq-eqb, ne_eqb}
-use Rattle.std.specs.Cmp.{nat_cmp_total}
-use Rattle.std.specs.Option.{option_or}
-use Rattle.std.specs.Ordering.{nat_cmp, eq_by_cmp}
-use Rattle.std.specs.FinMap.{get, len, get-insert}
+use Rattle.std.specs.{Ordering.nat_cmp, Ordering.eq_by_cmp, FinMap.get, FinMap.len, FinMap.get-insert}
 use Rattle.dm_store.specs.Saved.{Outcome}
-use Rattle.dm_assembly_desk.specs.Documents.{Pages, page, mask, IsEntry, IsShort, Documents, AreEntries, own_pages, page_at, KeepsPages, DeskView, union_of, added_mask}
-use Rattle.dm_assembly_desk.specs.Desk.{Carries, Ends, JudgedAs, answer_by, add_kind, kind_of, pages_with, with_pages, reply_of, verdict_by, Adds}
-use Rattle.dm_assembly_desk.specs.declared.reply.Kind.{Kind}
-use Rattle.dm_assembly_desk.specs.declared.reply.Kind.TheVariants.{New, Again, Complete}
-use Rattle.dm_assembly_desk.specs.declared.reply.Imported.{Imported}
-use Rattle.dm_assembly_desk.specs.declared.adding.AddFault.{AddFault}
+use Rattle.dm_assembly_desk.specs.Documents.{Pages, page, mask, IsEntry, IsShort, Documents, AreEntries, own_pages, page_at, KeepsPages, DeskView, union_of_pages, added_mask}
+use Rattle.dm_assembly_desk.specs.Desk.{DeskCarriesOut, SaveEnds, JudgedAs, answer_by, add_kind, kind_of, pages_with, with_pages, reply_of, verdict_by, Adds}
+use Rattle.dm_assembly_desk.specs.declared.reply.Kind.{Kind, TheVariants.New, TheVariants.Again, TheVariants.Complete}
+use Rattle.dm_assembly_desk.specs.declared.{reply.Imported.Imported, adding.AddFault.AddFault}
 use Rattle.dm_assembly_desk.specs.declared.adding.AddFault.TheVariants as adds
-use Rattle.dm_assembly_desk.proofs.Loading.{apart, same_key}
-use Rattle.dm_assembly_desk.proofs.Undoing.{get_here}
-use Rattle.dm_assembly_desk.proofs.MergingLaws.{length_both}
+use Rattle.dm_assembly_desk.proofs.{Loading.apart, Loading.same_key, Undoing.get_here, MergingLaws.length_both}
 use Rattle.dm_assembly_desk.proofs.AddFacts.{page_merged}
 
 -- ---- what an answer without a fault says
@@ -55,8 +48,8 @@ never_again all is = grind arith
 -- what a kind says of the pages that are held and those that are given
 abbrev pub KindSays : Kind → Pages → Pages → Type 0
 KindSays Again own given = added_mask own given ≡ 0
-KindSays New own given = (added_mask own given ≢ 0) × (list_all is_some (union_of own given) ≡ false)
-KindSays Complete own given = (added_mask own given ≢ 0) × (list_all is_some (union_of own given) ≡ true)
+KindSays New own given = (added_mask own given ≢ 0) × (list_all is_some (union_of_pages own given) ≡ false)
+KindSays Complete own given = (added_mask own given ≢ 0) × (list_all is_some (union_of_pages own given) ≡ true)
 
 pub kind_says : (capacity : ℕ) (held : Documents) (id : ℕ) (given : Pages) (kind : Kind) →
     add_kind capacity held id given ≡ Ok kind → KindSays kind (own_pages held id) given
@@ -78,23 +71,23 @@ more_held : (p q : Option (List ℕ)) (a b : ℕ) → a ≤ b →
     2 * a + cond (is_some p) 1 0 ≤ 2 * b + cond (is_some (option_or p q)) 1 0
 more_held p q a b le = grind arith
 
-mask_merged : (ps qs : Pages) → mask ps ≤ mask (union_of ps qs)
+mask_merged : (ps qs : Pages) → mask ps ≤ mask (union_of_pages ps qs)
 mask_merged [] qs = omega arith
 mask_merged (p ∷ ps) [] = omega arith
-mask_merged (p ∷ ps) (q ∷ qs) = more_held p q (mask ps) (mask (union_of ps qs)) (mask_merged ps qs)
+mask_merged (p ∷ ps) (q ∷ qs) = more_held p q (mask ps) (mask (union_of_pages ps qs)) (mask_merged ps qs)
 
 short_or : (p q : Option (List ℕ)) → IsShort p → IsShort q → IsShort (option_or p q)
 short_or p q one other = grind arith
 
 short_merged : (ps qs : Pages) → AllByRecursion IsShort ps → AllByRecursion IsShort qs →
-    AllByRecursion IsShort (union_of ps qs)
+    AllByRecursion IsShort (union_of_pages ps qs)
 short_merged [] qs one other = other
 short_merged (p ∷ ps) [] one other = one
 short_merged (p ∷ ps) (q ∷ qs) one other = (short_or p q one.0 other.0, short_merged ps qs one.1 other.1)
 
 merged_at : (id : ℕ) (given : Pages) (held : Option Pages) → IsEntry id given →
     ((pages : Pages) → held ≡ Some pages → IsEntry id pages) → IfSome held (λ pages. length pages ≡ length given) →
-    IsEntry id (union_of (unwrap_or held []) given)
+    IsEntry id (union_of_pages (unwrap_or held []) given)
 merged_at id given is sound held same = grind (arith, length_both, mask_merged, short_merged)
 
 pub merged_entry : (capacity : ℕ) (held : Documents) (id : ℕ) (given : Pages) (kind : Kind) → AreEntries held →
@@ -104,7 +97,7 @@ merged_entry capacity held id given kind entries sound judged =
 
 -- ---- pages that are held then
 
-same_page : (o : Option Pages) (given pages : Pages) (m : ℕ) → o ≡ Some (union_of pages given) →
+same_page : (o : Option Pages) (given pages : Pages) (m : ℕ) → o ≡ Some (union_of_pages pages given) →
     page (unwrap_or o []) m ≡ option_or (page pages m) (page given m)
 same_page o given pages m is = ap (λ (x : Option Pages). page (unwrap_or x []) m) is ∙ page_merged pages given m
 
@@ -137,7 +130,7 @@ kept_with held id given other m bytes is = grind (arith, page_with, or_kept, sam
 module _ (old : DeskView) (id : ℕ) (given : Pages) where
   abbrev Carried : Result Kind AddFault → Result Imported AddFault → DeskView → Type 0
   Carried judged result new =
-      Carries (Err adds.Memory) (Err adds.Save) id (verdict_by old.held id given judged) old result new
+      DeskCarriesOut (Err adds.Memory) (Err adds.Save) id (verdict_by old.held id given judged) old result new
 
   again : (kind : Kind) (reply : Imported) → kind ≡ Again → reply ≡ reply_of old.held id given kind →
       Carried (Ok kind) (Ok reply) old
@@ -149,7 +142,7 @@ module _ (old : DeskView) (id : ℕ) (given : Pages) where
       subst (λ (a : Result Kind AddFault). Carried a (Ok reply) old) (sym judged) (again kind reply is same)
 
   module _ (result : Result Imported AddFault) (new : DeskView) (outcome : Outcome)
-      (ends : Ends id (with_pages old.held id given) outcome old new) where
+      (ends : SaveEnds id (with_pages old.held id given) outcome old new) where
     some : (kind : Kind) → kind ≢ Again →
         result ≡ answer_by (Ok (reply_of old.held id given kind)) (Err adds.Memory) (Err adds.Save) outcome →
         Carried (Ok kind) result new
@@ -167,12 +160,12 @@ module _ (id : ℕ) (given : Pages) (old new : DeskView) where
   same_kept : new.held ≡ old.held → KeepsPages old.held new.held
   same_kept is other m bytes held = ap (λ (d : Documents). page_at d other m) is ∙ held
 
-  ends_kept : (outcome : Outcome) → Ends id (with_pages old.held id given) outcome old new →
+  ends_kept : (outcome : Outcome) → SaveEnds id (with_pages old.held id given) outcome old new →
       KeepsPages old.held new.held
   ends_kept outcome e = grind (arith, kept_with, same_kept)
 
   by_kept : (judged : Result Kind AddFault) (result : Result Imported AddFault) →
-      Carries (Err adds.Memory) (Err adds.Save) id (verdict_by old.held id given judged) old result new →
+      DeskCarriesOut (Err adds.Memory) (Err adds.Save) id (verdict_by old.held id given judged) old result new →
       KeepsPages old.held new.held
   by_kept judged result h = grind (arith, same_kept, ends_kept)
 
@@ -191,7 +184,7 @@ no_save joins none full kind is = grind arith
 module _ (id : ℕ) (given : Pages) (old new : DeskView) (running : old.is_failed ≡ false)
     (result : Result Imported AddFault) where
   by_failed : (judged : Result Kind AddFault) → (judged ≡ Err adds.Save → ⊥) →
-      Carries (Err adds.Memory) (Err adds.Save) id (verdict_by old.held id given judged) old result new →
+      DeskCarriesOut (Err adds.Memory) (Err adds.Save) id (verdict_by old.held id given judged) old result new →
       new.is_failed ≡ says_save result
   by_failed judged never h = grind arith
 

@@ -1,21 +1,17 @@
 -- What a store holds of documents: one list of them has one joint file; what was loaded of it; and that of none.
 use Rattle.std.proofs.Common.{◌≡◌, ℕ, zero, suc, ◌+◌, ◌<◌, ◌≤◌, List, [], ◌∷◌, length, take, Option, Some, Result, Ok, get_or, refl, sym, ap, subst, ◌∙◌, arith}
 use Rattle.std.specs.Prelude.{◌≢◌, IsSomeAnd, option_map, slice_get}
-use Rattle.std.specs.List.{AllByRecursion}
-use Rattle.std.specs.List.Sorted.{IsStrictlySortedBy}
-use Rattle.std.specs.Ordering.{nat_cmp}
+use Rattle.std.specs.{List.AllByRecursion, List.Sorted.IsStrictlySortedBy, Ordering.nat_cmp}
 use Rattle.std.specs.declared.cmp.Ordering.TheVariants.{Less}
 use Rattle.std.specs.FinMap.{entries, keys, empty, len, len-entries, len-empty, same_entries_map}
 use Rattle.std.proofs.lemmas.List.{take_all, length-take}
 use Rattle.dm_store.specs.Saved.{Contents}
-use Rattle.dm_assembly_desk.specs.Documents.{Pages, Documents}
+use Rattle.dm_assembly_desk.specs.{Documents.Pages, Documents.Documents, inner.Reading.entries_at}
 use Rattle.dm_assembly_desk.specs.Desk.{entries_of, joint_file, SpellsAll, HoldsJointFile, IsOfOtherJointVersion, HasJointFileFault}
-use Rattle.dm_assembly_desk.specs.inner.Reading.{entries_at}
 use Rattle.dm_assembly_desk.specs.declared.fault.MoveFault.{MoveFault}
 use Rattle.dm_assembly_desk.specs.declared.fault.MoveFault.TheVariants.{NotPages, Version, Damaged, Device, Memory}
-use Rattle.dm_assembly_desk.proofs.FileLaws.{all_taken, four_of, fifth_of}
+use Rattle.dm_assembly_desk.proofs.{FileLaws.all_taken, FileLaws.four_of, FileLaws.fifth_of, Found.all_found}
 use Rattle.dm_assembly_desk.proofs.Loading.{above, keys_rise, entries_empty, some_saved}
-use Rattle.dm_assembly_desk.proofs.Found.{all_found}
 use Rattle.dm_assembly_desk.proofs.JointEntries.{entries_again}
 use Rattle.dm_assembly_desk.proofs.JointFileLaws.{old_again, each_entry, held_rising, from_zero}
 

@@ -1,16 +1,14 @@
 -- What a desk and its set hold after a save, done or failed.
 use Rattle.std.proofs.Common.{◌≡◌, ◌⊎◌, ℕ, ◌+◌, ◌<◌, ◌≤◌, Bool, true, false, cond, List, Option, Some, None, Result, Ok, Err, inl, inr, refl, sym, ap, subst, ◌∙◌, arith}
-use Rattle.std.specs.Prelude.{option_map, IsTrue, IsSome, is_some}
+use Rattle.std.specs.{Prelude.option_map, Prelude.IsTrue, Prelude.IsSome, Prelude.is_some, Cmp.nat_cmp_total}
 use Rattle.std.specs.Ordering.{nat_cmp, eq_by_cmp}
-use Rattle.std.specs.Cmp.{nat_cmp_total}
 use Rattle.std.specs.FinMap.{get, insert, remove, len, get-insert, get-remove, len-insert, len-remove}
-use Rattle.dm_store.specs.Saved.{SavePlan, SavesFine, FaultOld, FaultNew, SavesOpen, Outcome, Done, Faulted, Refused, HeldAfterFault, outcome_of, Saves, SavedSet, Contents, SavesKey, RemovesKey}
+use Rattle.dm_store.specs.Saved.{SavePlan, SavesFine, FaultOld, FaultNew, SavesOpen, Outcome, Done, Faulted, Refused, HeldAfterFault, outcome_of, SavesIn, SavedSet, Contents, SavesKey, RemovesKey}
 use Rattle.dm_store.specs.declared.store.StoreFault.{StoreFault}
 use Rattle.dm_store.specs.declared.store.StoreFault.TheVariants as removing
-use Rattle.dm_assembly_desk.specs.Documents.{Pages, IsEntry, file, Documents, AreEntries, HoldsFiles, DeskView, IsInOrder}
-use Rattle.dm_assembly_desk.specs.Desk.{SavesDocument, shown, Ends}
-use Rattle.dm_assembly_desk.proofs.Loading.{itself, same_key, entries_insert}
-use Rattle.dm_assembly_desk.proofs.Undoing.{get_here}
+use Rattle.dm_assembly_desk.specs.Documents.{Pages, IsEntry, file, Documents, AreEntries, HoldsFiles, DeskView, DeskIsInOrder}
+use Rattle.dm_assembly_desk.specs.Desk.{SavesDocument, shown, SaveEnds}
+use Rattle.dm_assembly_desk.proofs.{Loading.itself, Loading.same_key, Loading.entries_insert, Undoing.get_here}
 
 -- ---- files of what is held
 
@@ -84,7 +82,7 @@ kept_after SavesOpen old new content held after h n (inr is) =
 
 -- what is saved, and what is held where it is done
 pub record IsToSave (old : DeskView) (content : Contents) (held : Documents) : Type 0 where
-  pub order : IsInOrder old
+  pub order : DeskIsInOrder old
   pub running : old.is_failed ≡ false
   pub few : len held ≤ old.capacity
   pub entries : AreEntries held
@@ -92,13 +90,13 @@ pub record IsToSave (old : DeskView) (content : Contents) (held : Documents) : T
 
 module _ (old : DeskView) (id : ℕ) (content : Contents) (held : Documents) (set : SavedSet)
     (t : IsToSave old content held) where
-  holds_now : Saves old.saved content Done set → IsTrue old.saved.is_honest → HoldsFiles set.content held
+  holds_now : SavesIn old.saved content Done set → IsTrue old.saved.is_honest → HoldsFiles set.content held
   holds_now s honest = subst (λ (c : Contents). HoldsFiles c held) (sym (s.done refl honest)) (t.files honest)
 
   pub ends : (outcome : Outcome) → (outcome ≡ Refused → set ≡ old.saved) →
       SavesDocument old.saved id (get held id) outcome set →
-      (IsTrue old.saved.is_honest → Saves old.saved content outcome set) →
-      Ends id held outcome old (shown held outcome old set)
+      (IsTrue old.saved.is_honest → SavesIn old.saved content outcome set) →
+      SaveEnds id held outcome old (shown held outcome old set)
   ends Done refused document saves = record {
     shows = refl;
     saved = document;
@@ -117,7 +115,7 @@ module _ (old : DeskView) (id : ℕ) (content : Contents) (held : Documents) (se
   }
 
   pub ordered : (outcome : Outcome) → set.is_honest ≡ old.saved.is_honest →
-      (IsTrue old.saved.is_honest → Saves old.saved content outcome set) → IsInOrder (shown held outcome old set)
+      (IsTrue old.saved.is_honest → SavesIn old.saved content outcome set) → DeskIsInOrder (shown held outcome old set)
   ordered Done same saves = grind arith
   ordered Faulted same saves = grind arith
   ordered Refused same saves = t.order
@@ -128,7 +126,7 @@ few_insert : (o : Option Pages) (n capacity : ℕ) → n ≤ capacity → (o ≡
     cond (is_some o) n (n + 1) ≤ capacity
 few_insert o n capacity le room = grind arith
 
-module _ (old : DeskView) (id : ℕ) (pages : Pages) (set : SavedSet) (order : IsInOrder old)
+module _ (old : DeskView) (id : ℕ) (pages : Pages) (set : SavedSet) (order : DeskIsInOrder old)
     (running : old.is_failed ≡ false) (entry : IsEntry id pages)
     (room : get old.held id ≡ None → len old.held < old.capacity) where
   to_hold : IsToSave old (insert old.saved.content id (file id pages)) (insert old.held id pages)
@@ -142,17 +140,17 @@ module _ (old : DeskView) (id : ℕ) (pages : Pages) (set : SavedSet) (order : I
   }
 
   pub held_ends : (answer : Result (Unit {0}) StoreFault) → SavesKey old.saved id (file id pages) answer set →
-      Ends id (insert old.held id pages) (outcome_of answer) old
+      SaveEnds id (insert old.held id pages) (outcome_of answer) old
       (shown (insert old.held id pages) (outcome_of answer) old set)
   held_ends answer s = search (arith, ends, to_hold, get_here)
 
   pub held_order : (answer : Result (Unit {0}) StoreFault) → SavesKey old.saved id (file id pages) answer set →
-      IsInOrder (shown (insert old.held id pages) (outcome_of answer) old set)
+      DeskIsInOrder (shown (insert old.held id pages) (outcome_of answer) old set)
   held_order answer s = ordered old id (insert old.saved.content id (file id pages)) (insert old.held id pages) set
       to_hold (outcome_of answer) s.same_honesty (λ _. s)
 
 -- a save that is refused before it is begun
-pub not_begun : (s : SavedSet) (content : Contents) → Saves s content Refused s
+pub not_begun : (s : SavedSet) (content : Contents) → SavesIn s content Refused s
 not_begun s content = grind arith
 
 -- ---- a document that is let go
@@ -175,7 +173,7 @@ refused_to_remove old id set answer r e = grind arith
 gone_here : (held : Documents) (id : ℕ) → get (remove held id) id ≡ None
 gone_here held id = get-remove nat_cmp_total held id id ∙ ap (λ b. cond b None (get held id)) (itself id)
 
-module _ (old : DeskView) (id : ℕ) (set : SavedSet) (order : IsInOrder old) (running : old.is_failed ≡ false)
+module _ (old : DeskView) (id : ℕ) (set : SavedSet) (order : DeskIsInOrder old) (running : old.is_failed ≡ false)
     (some : IsSome (get old.held id)) (answer : Result (Unit {0}) StoreFault)
     (removes : RemovesKey old.saved id answer set) where
   to_let_go : IsToSave old (remove old.saved.content id) (remove old.held id)
@@ -187,12 +185,12 @@ module _ (old : DeskView) (id : ℕ) (set : SavedSet) (order : IsInOrder old) (r
     files = λ honest. files_remove old.saved.content old.held id (order.saved running honest);
   }
 
-  removed : IsTrue old.saved.is_honest → Saves old.saved (remove old.saved.content id) (outcome_of answer) set
+  removed : IsTrue old.saved.is_honest → SavesIn old.saved (remove old.saved.content id) (outcome_of answer) set
   removed honest = removes.there (is_there old.saved.content old.held id (order.saved running honest) some)
 
-  pub gone_ends : Ends id (remove old.held id) (outcome_of answer) old
+  pub gone_ends : SaveEnds id (remove old.held id) (outcome_of answer) old
       (shown (remove old.held id) (outcome_of answer) old set)
   gone_ends = search (arith, ends, to_let_go, refused_to_remove, gone_here, removed)
 
-  pub gone_order : IsInOrder (shown (remove old.held id) (outcome_of answer) old set)
+  pub gone_order : DeskIsInOrder (shown (remove old.held id) (outcome_of answer) old set)
   gone_order = search (arith, ordered, to_let_go, same_honesty, removed)

@@ -1,21 +1,16 @@
 -- A set that holds the files of documents, for which there is room, gives no desk only for lack of memory.
 use Rattle.std.proofs.Common.{◌≡◌, ℕ, suc, ◌≤◌, List, [], ◌∷◌, length, Option, Some, refl, sym, ap, subst, ◌∙◌, arith}
-use Rattle.std.specs.Prelude.{IsTrue, option_map}
-use Rattle.std.specs.Ordering.{nat_cmp}
-use Rattle.std.specs.Cmp.{nat_cmp_total}
+use Rattle.std.specs.{Prelude.IsTrue, Prelude.option_map, Ordering.nat_cmp, Cmp.nat_cmp_total, Map.keys_of}
 use Rattle.std.specs.List.Sorted.{IsStrictlySortedBy}
-use Rattle.std.specs.Map.{keys_of}
 use Rattle.std.specs.FinMap.{entries, len, find, get-entries, get-from_entries, len-entries, same_map, nat_cmp-IsAntisymmetric}
 use Rattle.dm_store.specs.Saved.{LoadsFine, LoadsOpen, SavedSet, Contents}
 use Rattle.dm_store.proofs.SortedMaps.{as_map, len_is}
 use Rattle.dm_assembly_desk.specs.Documents.{Pages, IsEntry, file, HasFileFault, Documents, HoldsFiles, IsCapacity}
-use Rattle.dm_assembly_desk.specs.Desk.{FirstFault, HasDeskFault}
-use Rattle.dm_assembly_desk.specs.declared.file.FileFault.{FileFault}
+use Rattle.dm_assembly_desk.specs.{Desk.FirstFault, Desk.HasDeskFault, declared.file.FileFault.FileFault}
 use Rattle.dm_assembly_desk.specs.declared.file.FileFault.TheVariants.{NotPages, Version, Damaged}
 use Rattle.dm_assembly_desk.specs.declared.fault.DeskFault.{DeskFault}
 use Rattle.dm_assembly_desk.specs.declared.fault.DeskFault.TheVariants as opens
-use Rattle.dm_assembly_desk.proofs.FileLaws.{file_marked, file_not_other}
-use Rattle.dm_assembly_desk.proofs.Loading.{same_key, keys_rise}
+use Rattle.dm_assembly_desk.proofs.{FileLaws.file_marked, FileLaws.file_not_other, Loading.same_key, Loading.keys_rise}
 
 -- ---- as many keys as documents
 

@@ -1,31 +1,18 @@
 -- The faults of desks: their names, as they are printed, and where they come from. That of a label is the label's own.
 use Rattle.std.specs.Prelude.{ℕ, List, codes, ◌≡◌, true, Option, Some, None, Result, IsTrue, ◌&&◌, not, length, Ok, Err, is_some, is_none, nat_le, ◌==◌, if◌then◌else◌, ◌-◌, replicate, slice_set, ◌⊎◌, ◌<◌, ◌≤◌, false, IsSomeAnd, ◌≢◌, ◌∷◌, ◌++◌, slice_get, [], take, filter, option_map}
-use Rattle.dm_append_label.specs.Labels.{PageView}
-use Rattle.dm_append_label.specs.Opening.{label_fault_name, LabelOpens}
-use Rattle.dm_assembly_desk.specs.declared.fault.DeskFault.{DeskFault}
-use Rattle.dm_assembly_desk.specs.declared.fault.ScanFault.{ScanFault}
-use Rattle.dm_assembly_desk.specs.declared.fault.AskFault.{AskFault}
-use Rattle.dm_assembly_desk.specs.declared.fault.ForgetFault.{ForgetFault}
-use Rattle.dm_assembly_desk.specs.declared.fault.ExportFault.{ExportFault}
-use Rattle.dm_assembly_desk.specs.declared.fault.ImportFault.{ImportFault}
-use Rattle.dm_assembly_desk.specs.declared.fault.MoveFault.{MoveFault}
-use Rattle.dm_append_label.specs.declared.fault.LabelFault.{LabelFault}
+use Rattle.dm_append_label.specs.{Labels.PageView, Opening.label_fault_name, Opening.LabelOpens}
+use Rattle.dm_assembly_desk.specs.declared.fault.{DeskFault.DeskFault, ScanFault.ScanFault, AskFault.AskFault}
+use Rattle.dm_assembly_desk.specs.declared.fault.{ForgetFault.ForgetFault, ExportFault.ExportFault, MoveFault.MoveFault}
+use Rattle.dm_assembly_desk.specs.declared.{fault.ImportFault.ImportFault, file.FileFault.FileFault, reply.Kind.Kind}
+use Rattle.dm_append_label.specs.declared.{fault.LabelFault.LabelFault, opening.Opened.Opened}
 use Rattle.dm_store.specs.declared.store.StoreFault.{StoreFault}
-use Rattle.dm_assembly_desk.specs.declared.file.FileFault.{FileFault}
-use Rattle.dm_assembly_desk.specs.declared.adding.AddFault.{AddFault}
-use Rattle.std.specs.List.{list_all, flat_map}
-use Rattle.dm_store.specs.Saved.{SavePlan, HeldAfterFault, Outcome, Done, Faulted, Refused, Saves, SavedSet, RemovesKey, outcome_of, LoadsOpen, Saved, Follows, Replaces, Contents, SavesKey, MayLackMemory}
-use Rattle.dm_assembly_desk.specs.Documents.{Pages, document_of, missing_mask, file, Spells, HasNoFile, Documents, HoldsFiles, own_pages, DeskView, union_of, added_mask, may_join, IsFile, HasFileFault, IsEntry, entry, IsMarked, AreEntries, IsCapacity, summary}
-use Rattle.dm_assembly_desk.specs.declared.reply.Kind.{Kind}
+use Rattle.dm_assembly_desk.specs.declared.{adding.AddFault.AddFault, reply.Imported.Imported, reply.Accepted.Accepted}
+use Rattle.std.specs.{List.list_all, List.flat_map, Int.w16, Int.to_be_bytes, Option.option_or}
+use Rattle.dm_store.specs.Saved.{SavePlan, HeldAfterFault, Outcome, Done, Faulted, Refused, SavesIn, SavedSet, RemovesKey, outcome_of, LoadsOpen, Saved, PlanAllows, Replaces, Contents, SavesKey, MayLackMemory}
+use Rattle.dm_assembly_desk.specs.Documents.{Pages, document_of, missing_mask, file, SpellsFile, HasNoFile, Documents, HoldsFiles, own_pages, DeskView, union_of_pages, added_mask, may_join, IsFile, HasFileFault, IsEntry, entry, IsMarked, AreEntries, IsCapacity, summary}
 use Rattle.dm_assembly_desk.specs.declared.reply.Kind.TheVariants.{New, Again, Complete}
-use Rattle.dm_assembly_desk.specs.declared.reply.Imported.{Imported}
 use Rattle.dm_finder_frame.specs.Frame.{GridView}
-use Rattle.dm_append_label.specs.declared.opening.Opened.{Opened}
-use Rattle.dm_assembly_desk.specs.declared.reply.Accepted.{Accepted}
-use Rattle.std.specs.Int.{w16, to_be_bytes}
-use Rattle.std.specs.Option.{option_or}
-use Rattle.dm_assembly_desk.specs.declared.reply.Held.{Held}
-use Rattle.dm_assembly_desk.specs.declared.limits.TheConstants.{MOST_JOINT_FILE_BYTES}
+use Rattle.dm_assembly_desk.specs.declared.{reply.Held.Held, limits.TheConstants.MOST_JOINT_FILE_BYTES}
 use Rattle.dm_assembly_desk.specs.declared.fault.ScanFault.TheVariants as scanning
 use Rattle.dm_assembly_desk.specs.declared.fault.ImportFault.TheVariants as importing
 use Rattle.dm_append_label.specs.declared.fault.LabelFault.TheVariants as labels
@@ -142,7 +129,7 @@ pub data Verdict (R : Type 0) : Type 0 where
 
 -- the set before and after the save of what is to be held of one document: its file, or that there is none
 abbrev pub SavesDocument : SavedSet → ℕ → Option Pages → Outcome → SavedSet → Type 0
-SavesDocument old id (Some pages) outcome new = Saves old (map.insert old.content id (file id pages)) outcome new
+SavesDocument old id (Some pages) outcome new = SavesIn old (map.insert old.content id (file id pages)) outcome new
 SavesDocument old id None outcome new =
     (answer : Result (Unit {0}) StoreFault) × (outcome ≡ outcome_of answer) × RemovesKey old id answer new
 
@@ -160,7 +147,7 @@ IsKept plan Faulted old held kept = HeldAfterFault plan old held kept
 IsKept plan Refused old held kept = kept ≡ old
 
 -- the save of one document ended so, after which these documents are to be held; an honest set keeps files of documents
-pub record Ends (id : ℕ) (held : Documents) (outcome : Outcome) (old new : DeskView) : Type 0 where
+pub record SaveEnds (id : ℕ) (held : Documents) (outcome : Outcome) (old new : DeskView) : Type 0 where
   pub shows : new ≡ shown held outcome old new.saved
   pub saved : SavesDocument old.saved id (map.get held id) outcome new.saved
   pub keeps : IsTrue old.saved.is_honest → (kept : Documents)
@@ -176,16 +163,16 @@ answer_by done memory save Refused = memory
 
 -- A verdict on one document is carried out. `memory` and `save` are answered where its save is refused for lack of
 -- memory, or meets a device fault.
-abbrev pub Carries : {R : Type 0} → R → R → ℕ → Verdict R → DeskView → R → DeskView → Type 0
-Carries memory save id (Stays answer) old result new = (result ≡ answer) × (new ≡ old)
-Carries memory save id (Becomes held answer) old result new =
-    (outcome : Outcome) × (result ≡ answer_by answer memory save outcome) × Ends id held outcome old new
+abbrev pub DeskCarriesOut : {R : Type 0} → R → R → ℕ → Verdict R → DeskView → R → DeskView → Type 0
+DeskCarriesOut memory save id (Stays answer) old result new = (result ≡ answer) × (new ≡ old)
+DeskCarriesOut memory save id (Becomes held answer) old result new =
+    (outcome : Outcome) × (result ≡ answer_by answer memory save outcome) × SaveEnds id held outcome old new
 
 -- ---- the verdict, by what is held
 
 -- the pages of the document once these are held too
 abbrev pub pages_with : Documents → ℕ → Pages → Pages
-pages_with held id pages = union_of (own_pages held id) pages
+pages_with held id pages = union_of_pages (own_pages held id) pages
 
 -- what is held then
 abbrev pub with_pages : Documents → ℕ → Pages → Documents
@@ -237,7 +224,7 @@ add_verdict capacity held id pages = verdict_by held id pages (add_kind capacity
 -- the pages of a document at a desk that has not failed
 abbrev pub Adds : ℕ → Pages → DeskView → Result Imported AddFault → DeskView → Type 0
 Adds id pages old result new =
-    Carries (Err adds.Memory) (Err adds.Save) id (add_verdict old.capacity old.held id pages) old result new
+    DeskCarriesOut (Err adds.Memory) (Err adds.Save) id (add_verdict old.capacity old.held id pages) old result new
 
 -- the pages of a page's document, of which it alone is given
 abbrev pub lone : PageView → Pages
@@ -277,17 +264,17 @@ Imports id pages old result new =
     (added : Result Imported AddFault) × (result ≡ import_of added) × Adds id pages old added new
 
 -- what bytes are: the file of these pages, or none for this reason
-abbrev pub IsReadAs : List ℕ → Result (ℕ × Pages) FileFault → Type 0
-IsReadAs bytes (Ok e) = Spells e.0 bytes e.1
-IsReadAs bytes (Err fault) = HasNoFile bytes fault
+abbrev pub IsFileReadAs : List ℕ → Result (ℕ × Pages) FileFault → Type 0
+IsFileReadAs bytes (Ok e) = SpellsFile e.0 bytes e.1
+IsFileReadAs bytes (Err fault) = HasNoFile bytes fault
 
 -- Bytes at a desk that has not failed: `read` says what they are, and the reply is that to any file that they spell, or
 -- to any reason for which they are none.
 pub record ImportsBytes (bytes : List ℕ) (old : DeskView) (result : Result Imported ImportFault)
     (new : DeskView) : Type 0 where
   pub read : Result (ℕ × Pages) FileFault
-  pub is_read : IsReadAs bytes read
-  pub spelled : (id : ℕ) (pages : Pages) → Spells id bytes pages → Imports id pages old result new
+  pub is_read : IsFileReadAs bytes read
+  pub spelled : (id : ℕ) (pages : Pages) → SpellsFile id bytes pages → Imports id pages old result new
   pub faulty : (fault : FileFault) → HasNoFile bytes fault → (result ≡ Err (import_fault fault)) × (new ≡ old)
 
 -- what a desk does to forget a document
@@ -298,14 +285,14 @@ forget_verdict held id =
 -- a forget at a desk that has not failed
 abbrev pub Forgets : ℕ → DeskView → Result (Unit {0}) ForgetFault → DeskView → Type 0
 Forgets id old result new =
-    Carries (Err forgets.Memory) (Err forgets.Save) id (forget_verdict old.held id) old result new
+    DeskCarriesOut (Err forgets.Memory) (Err forgets.Save) id (forget_verdict old.held id) old result new
 
 -- What is given is what the verdict says; memory for bytes may be lacking, and then `memory` is answered. `list` gives
 -- the bytes in what is given.
-abbrev pub Gives : {X F : Type 0} → (X → List ℕ) → F → Result (List ℕ) F → Result X F → Type 0
-Gives list memory (Ok bytes) (Ok given) = list given ≡ bytes
-Gives list memory (Ok bytes) (Err fault) = fault ≡ memory
-Gives list memory (Err fault) result = result ≡ Err fault
+abbrev pub GivesByVerdict : {X F : Type 0} → (X → List ℕ) → F → Result (List ℕ) F → Result X F → Type 0
+GivesByVerdict list memory (Ok bytes) (Ok given) = list given ≡ bytes
+GivesByVerdict list memory (Ok bytes) (Err fault) = fault ≡ memory
+GivesByVerdict list memory (Err fault) result = result ≡ Err fault
 
 -- the document, by what is held of it
 abbrev pub ask_verdict : Option Pages → Result (List ℕ) AskFault
@@ -314,7 +301,7 @@ ask_verdict (Some pages) =
     if list_all is_some pages then Ok (document_of pages) else Err (asks.Incomplete (missing_mask pages))
 
 abbrev pub Asks : {X : Type 0} → (X → List ℕ) → Option Pages → Result X AskFault → Type 0
-Asks list found result = Gives list asks.Memory (ask_verdict found) result
+Asks list found result = GivesByVerdict list asks.Memory (ask_verdict found) result
 
 -- the file of just the pages that are held
 abbrev pub export_verdict : ℕ → Option Pages → Result (List ℕ) ExportFault
@@ -322,14 +309,14 @@ export_verdict id None = Err exports.NotHeld
 export_verdict id (Some pages) = Ok (file id pages)
 
 abbrev pub Exports : {X : Type 0} → (X → List ℕ) → ℕ → Option Pages → Result X ExportFault → Type 0
-Exports list id found result = Gives list exports.Memory (export_verdict id found) result
+Exports list id found result = GivesByVerdict list exports.Memory (export_verdict id found) result
 
 -- ---- opening
 
 -- What is in the files of a desk: as it is opened, as it is looked at, and as a joint file is moved.
 
 -- a running desk over the unchanged set, which holds what an honest set has the files of
-pub record Opens (saved : SavedSet) (capacity : ℕ) (desk : DeskView) : Type 0 where
+pub record DeskOpens (saved : SavedSet) (capacity : ℕ) (desk : DeskView) : Type 0 where
   pub room : IsCapacity capacity
   pub same : desk.saved ≡ saved
   pub running : desk.is_failed ≡ false
@@ -388,7 +375,7 @@ SeesKey saved key (Err opens.Memory) = IsTrue saved.may_lack_memory
 SeesKey saved key (Err opens.Capacity) = ⊥
 SeesKey saved key (Err opens.TooMany) = ⊥
 
--- the first of these documents whose identification has this number or a greater one, if there is one
+-- the first of these documents whose ID has this number or a greater one, if there is one
 abbrev pub IsFirstFrom : Documents → ℕ → Option Held → Type 0
 IsFirstFrom held from None = (id : ℕ) → from ≤ id → map.get held id ≡ None
 IsFirstFrom held from (Some first) =
@@ -402,7 +389,7 @@ IsFirstFrom held from (Some first) =
 abbrev pub entries_of : List (ℕ × Pages) → List ℕ
 entries_of es = flat_map (λ e. entry e.0 e.1) es
 
--- "DMPG", the version 1, how many documents there are, and their entries by rising identification
+-- "DMPG", the version 1, how many documents there are, and their entries by rising ID
 unfoldable pub joint_file : Documents → List ℕ
 joint_file held = 68 ∷ 77 ∷ 80 ∷ 71 ∷ 1 ∷ to_be_bytes w16 (map.len held) ++ entries_of (map.entries held)
 
@@ -432,7 +419,7 @@ HasJointFileFault bytes moves.Memory = ⊥
 
 -- ---- what is moved
 
--- the documents of which the set has no file, by rising identification
+-- the documents of which the set has no file, by rising ID
 abbrev pub lacked_by : Contents → Documents → List (ℕ × Pages)
 lacked_by content held = filter (λ e. is_none (map.get content e.0)) (map.entries held)
 
@@ -461,12 +448,12 @@ EndsEarly old set (Err fault) = IsTrue old.is_honest → IsSomeAnd old.content (
 
 -- The old store holds these documents, and the saves of the first k that the set lacked are done. These were not to
 -- fail, and leave each plan.
-pub record Reaches (old : Saved) (set : SavedSet) (held : Documents) (k : ℕ) (now : SavedSet) : Type 0 where
+pub record MoveReaches (old : Saved) (set : SavedSet) (held : Documents) (k : ℕ) (now : SavedSet) : Type 0 where
   pub joint : IsTrue old.is_honest → HoldsJointFile old.content held
   pub some : 0 < map.len held
   pub content : IsTrue set.is_honest → now.content ≡ moved set.content held k
   pub same : now ≡ record set { content = now.content }
-  pub planned : 0 < k → Follows set.save_plan Done set.save_plan
+  pub planned : 0 < k → PlanAllows set.save_plan Done set.save_plan
 
 -- the answer by the last save, before which that many keys were written
 abbrev pub move_answer : ℕ → Result (Unit {0}) StoreFault → Result ℕ MoveFault
@@ -479,10 +466,10 @@ pub data Moves (old : Saved) (set : SavedSet) (result : Result ℕ MoveFault) (o
     : Type 0 where
   early : EndsEarly old set result → old_after ≡ old → set_after ≡ set → Moves old set result old_after set_after
   at_key : (held : Documents) (k : ℕ) (now : SavedSet) (next : ℕ × Pages) (fault : StoreFault)
-      → Reaches old set held k now → (IsTrue set.is_honest → slice_get (lacked_by set.content held) k ≡ Some next)
+      → MoveReaches old set held k now → (IsTrue set.is_honest → slice_get (lacked_by set.content held) k ≡ Some next)
       → SavesKey now next.0 (file next.0 next.1) (Err fault) set_after → old_after ≡ old
       → result ≡ Err (move_fault_of fault) → Moves old set result old_after set_after
-  at_last : (held : Documents) (k : ℕ) (answer : Result (Unit {0}) StoreFault) → Reaches old set held k set_after
+  at_last : (held : Documents) (k : ℕ) (answer : Result (Unit {0}) StoreFault) → MoveReaches old set held k set_after
       → (IsTrue set.is_honest → k ≡ length (lacked_by set.content held))
       → Replaces old (joint_file map.empty) answer old_after → MayLackMemory old answer → result ≡ move_answer k answer
       → Moves old set result old_after set_after

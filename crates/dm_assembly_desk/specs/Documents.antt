@@ -1,18 +1,12 @@
 -- What a desk holds: the pages of one document, the file that they are saved in, and all documents.
 use Rattle.std.specs.Prelude.{ℕ, zero, suc, ◌+◌, ◌*◌, ◌/◌, ◌%◌, ◌==◌, Bool, false, List, [], ◌∷◌, Option, Some, None, is_some, is_none, if◌then◌else◌, slice_index_or, true, ◌&&◌, length, ◌≡◌, ◌≢◌, ◌<◌, ◌≤◌, ◌++◌, take, slice_get, IfSome, IsSomeAnd, option_map, unwrap_or, IsTrue, map as each}
-use Rattle.std.specs.List.{flat_map, AllByRecursion}
-use Rattle.std.specs.Option.{option_copied, option_or}
-use Rattle.std.specs.Borrow.{Bor}
-use Rattle.std.specs.Str.{bytes_eq}
-use Rattle.std.specs.Int.{w16, to_be_bytes}
-use Rattle.std.specs.Ordering.{nat_cmp}
+use Rattle.std.specs.{List.flat_map, List.AllByRecursion, Option.option_copied, Option.option_or, Borrow.Bor}
+use Rattle.std.specs.{Str.bytes_eq, Int.w16, Int.to_be_bytes, Ordering.nat_cmp}
 use Rattle.std.specs.FinMap as map
-use Rattle.dm_append_label.specs.Labels.{id_words}
-use Rattle.dm_append_label.specs.declared.opening.TheConstants.{MOST_PAGE_BYTES}
-use Rattle.dm_assembly_desk.specs.declared.file.FileFault.{FileFault}
+use Rattle.dm_append_label.specs.{Labels.id_words, declared.opening.TheConstants.MOST_PAGE_BYTES}
+use Rattle.dm_assembly_desk.specs.declared.{file.FileFault.FileFault, limits.TheConstants.MOST_CAPACITY}
 use Rattle.dm_assembly_desk.specs.declared.file.FileFault.TheVariants.{NotPages, Version, Damaged}
 use Rattle.dm_store.specs.Saved.{Contents, SavedSet}
-use Rattle.dm_assembly_desk.specs.declared.limits.TheConstants.{MOST_CAPACITY}
 use Rattle.dm_assembly_desk.specs.declared.reply.Held.{Held}
 
 -- Page m of a document stands at place m - 1, with its bytes where it is held. There are as many places as pages.
@@ -60,10 +54,10 @@ abbrev pub lent_bytes : Option (Bor (List ℕ)) → Option (List ℕ)
 lent_bytes lent = option_copied lent
 
 -- each page that is held, and of those that are not the page that is given
-abbrev pub union_of : Pages → Pages → Pages
-union_of [] given = given
-union_of (p ∷ ps) [] = p ∷ ps
-union_of (p ∷ ps) (q ∷ qs) = option_or p q ∷ union_of ps qs
+abbrev pub union_of_pages : Pages → Pages → Pages
+union_of_pages [] given = given
+union_of_pages (p ∷ ps) [] = p ∷ ps
+union_of_pages (p ∷ ps) (q ∷ qs) = option_or p q ∷ union_of_pages ps qs
 
 -- the mask that names each page that is given and not held
 abbrev pub added_mask : Pages → Pages → ℕ
@@ -105,7 +99,7 @@ page_in_file (Some bytes) = with_length bytes
 abbrev pub pages_in_file : Pages → List ℕ
 pages_in_file pages = flat_map page_in_file pages
 
--- the two words of the identification, how many pages the document has, the mask of those that are held, and these
+-- the two codewords of the ID, how many pages the document has, the mask of those that are held, and these
 abbrev pub entry : ℕ → Pages → List ℕ
 entry id pages = id_words id ++ length pages ∷ to_be_bytes w16 (mask pages) ++ pages_in_file pages
 
@@ -113,7 +107,7 @@ entry id pages = id_words id ++ length pages ∷ to_be_bytes w16 (mask pages) ++
 abbrev pub IsShort : Option (List ℕ) → Type 0
 IsShort p = IfSome p (λ bytes. length bytes ≤ MOST_PAGE_BYTES)
 
--- what has an entry: an identification, and 2 to 16 pages, of which one is held at least
+-- what has an entry: an ID, and 2 to 16 pages, of which one is held at least
 pub record IsEntry (id : ℕ) (pages : Pages) : Type 0 where
   pub id_fits : id < 64516
   pub least : 2 ≤ length pages
@@ -127,14 +121,14 @@ pub record IsEntry (id : ℕ) (pages : Pages) : Type 0 where
 unfoldable pub file : ℕ → Pages → List ℕ
 file id pages = 68 ∷ 77 ∷ 80 ∷ 71 ∷ 2 ∷ entry id pages
 
--- the bytes are the file of these pages of the document of this identification
-pub record Spells (id : ℕ) (bytes : List ℕ) (pages : Pages) : Type 0 where
+-- the bytes are the file of these pages of the document of this ID
+pub record SpellsFile (id : ℕ) (bytes : List ℕ) (pages : Pages) : Type 0 where
   pub sound : IsEntry id pages
   pub spelled : bytes ≡ file id pages
 
--- the bytes are a file of the document of this identification
+-- the bytes are a file of the document of this ID
 abbrev pub IsFile : ℕ → List ℕ → Type 0
-IsFile id bytes = (pages : Pages) × Spells id bytes pages
+IsFile id bytes = (pages : Pages) × SpellsFile id bytes pages
 
 -- ---- other bytes
 
@@ -146,7 +140,7 @@ IsMarked bytes = take 4 bytes ≡ 68 ∷ 77 ∷ 80 ∷ 71 ∷ []
 abbrev pub IsOfOtherVersion : List ℕ → Type 0
 IsOfOtherVersion bytes = IsSomeAnd (slice_get bytes 4) (λ version. version ≢ 2)
 
--- why the bytes are no file of the document of this identification
+-- why the bytes are no file of the document of this ID
 abbrev pub HasFileFault : ℕ → List ℕ → FileFault → Type 0
 HasFileFault id bytes NotPages = ¬ IsMarked bytes
 HasFileFault id bytes Version = IsMarked bytes × IsOfOtherVersion bytes
@@ -158,9 +152,9 @@ HasNoFile bytes NotPages = ¬ IsMarked bytes
 HasNoFile bytes Version = IsMarked bytes × IsOfOtherVersion bytes
 HasNoFile bytes Damaged = IsMarked bytes × (¬ IsOfOtherVersion bytes) × ((id : ℕ) → ¬ IsFile id bytes)
 
--- ---- What a desk holds, a finite map from identifications to the pages of their documents, and the set that keeps it.
+-- ---- What a desk holds, a finite map from IDs to the pages of their documents, and the set that keeps it.
 
--- the pages of each document of which one is held, by the number of its identification
+-- the pages of each document of which one is held, by the number of its ID
 abbrev pub Documents : Type 0
 Documents = map.FinMap nat_cmp Pages
 
@@ -184,7 +178,7 @@ KeepsPages old new = (id m : ℕ) (bytes : List ℕ) → page_at old id m ≡ So
 abbrev pub AreEntries : Documents → Type 0
 AreEntries held = (id : ℕ) (pages : Pages) → map.get held id ≡ Some pages → IsEntry id pages
 
--- the set holds the file of each document under the number of its identification, and nothing else
+-- the set holds the file of each document under the number of its ID, and nothing else
 pub record HoldsFiles (content : Contents) (held : Documents) : Type 0 where
   pub entries : AreEntries held
   pub files : (id : ℕ) → map.get content id ≡ option_map (file id) (map.get held id)
@@ -203,7 +197,7 @@ pub record IsCapacity (capacity : ℕ) : Type 0 where
 
 -- Each document has an entry, no more are held than there is room for, and unless a save failed an honest set holds
 -- their files and nothing else.
-pub record IsInOrder (desk : DeskView) : Type 0 where
+pub record DeskIsInOrder (desk : DeskView) : Type 0 where
   pub room : IsCapacity desk.capacity
   pub few : map.len desk.held ≤ desk.capacity
   pub entries : AreEntries desk.held
@@ -213,6 +207,6 @@ pub record IsInOrder (desk : DeskView) : Type 0 where
 abbrev pub summary : ℕ × Pages → Held
 summary e = record { id = e.0; n = length e.1; mask = mask e.1 }
 
--- one of each document, by rising identification
+-- one of each document, by rising ID
 abbrev pub summaries : Documents → List Held
 summaries held = each summary (map.entries held)

@@ -13,7 +13,7 @@ use std::alloc::Allocator;
 
 impl<S: StoreSet, A: Allocator + Copy> Desk<S, A> {
     ghost use Rattle.dm_assembly_desk.specs.Desk.{Accepts, AcceptsGrid};
-    ghost use Rattle.dm_assembly_desk.specs.Documents.{KeepsPages, IsInOrder};
+    ghost use Rattle.dm_assembly_desk.specs.Documents.{KeepsPages, DeskIsInOrder};
 
     /// Opens a scanned label, from any grid, and holds and saves its page where it was not held.
     ///
@@ -24,8 +24,8 @@ impl<S: StoreSet, A: Allocator + Copy> Desk<S, A> {
         ensures failed { self.old.is_failed ≡ true → (result ≡ Err ScanFault.Failed) × (self.new ≡ self.old) }
         ensures scanned { self.old.is_failed ≡ false → AcceptsGrid A grid.now self.old result self.new }
         ensures kept { KeepsPages self.old.held self.new.held }
-        ensures before { IsInOrder self.old }
-        ensures after { IsInOrder self.new }
+        ensures before { DeskIsInOrder self.old }
+        ensures after { DeskIsInOrder self.new }
     {
         if self.is_failed {
             return Err(ScanFault::Failed);
@@ -41,7 +41,7 @@ impl<S: StoreSet, A: Allocator + Copy> Desk<S, A> {
         requires running { self.old.is_failed ≡ false }
         requires short { length page.now.bytes ≤ MOST_PAGE_BYTES }
         ensures accepts { Accepts page.now self.old result self.new }
-        ensures after { IsInOrder self.new }
+        ensures after { DeskIsInOrder self.new }
     {
         let id = page.id();
         let m = page.m();

@@ -6,7 +6,7 @@ ghost use Rattle.std.specs.Prelude.{◌≡◌, ◌≤◌, ◌<◌, false, None, 
 ghost use Rattle.std.specs.FinMap as map;
 ghost use Rattle.std.specs.Option.{option_copied};
 ghost use Rattle.dm_store.specs.Saved.{outcome_of, SavesKey};
-ghost use Rattle.dm_assembly_desk.specs.Documents.{lent_bytes, file, IsEntry, union_of};
+ghost use Rattle.dm_assembly_desk.specs.Documents.{lent_bytes, file, IsEntry, union_of_pages};
 ghost use Rattle.dm_assembly_desk.specs.Desk.{kind_of, JudgedAs, keep_fault};
 
 use crate::desk::Desk;
@@ -45,8 +45,8 @@ impl From<StoreFault> for AddFault {
 }
 
 impl<S: StoreSet, A: Allocator + Copy> Desk<S, A> {
-    ghost use Rattle.dm_assembly_desk.specs.Desk.{Adds, Ends};
-    ghost use Rattle.dm_assembly_desk.specs.Documents.{IsInOrder};
+    ghost use Rattle.dm_assembly_desk.specs.Desk.{Adds, SaveEnds};
+    ghost use Rattle.dm_assembly_desk.specs.Documents.{DeskIsInOrder};
 
     /// Answers the pages of a document, and holds and saves at once those that were not held. Where that fails, what
     /// was held is held.
@@ -54,7 +54,7 @@ impl<S: StoreSet, A: Allocator + Copy> Desk<S, A> {
         requires running { self.old.is_failed ≡ false }
         requires entry { IsEntry id (each lent_bytes pages.now) }
         ensures adds { Adds id (each lent_bytes pages.now) self.old result self.new }
-        ensures after { IsInOrder self.new }
+        ensures after { DeskIsInOrder self.new }
     {
         let added = judge(&self.documents, self.capacity, id, pages)?;
         let Some(file_id) = FileId::of_number(id) else {
@@ -85,8 +85,8 @@ impl<S: StoreSet, A: Allocator + Copy> Desk<S, A> {
         requires running { self.old.is_failed ≡ false }
         requires entry { IsEntry id document }
         requires room { map.get self.old.held id ≡ None → map.len self.old.held < self.old.capacity }
-        ensures ends { Ends id (map.insert self.old.held id document) (outcome_of result) self.old self.new }
-        ensures after { IsInOrder self.new }
+        ensures ends { SaveEnds id (map.insert self.old.held id document) (outcome_of result) self.old self.new }
+        ensures after { DeskIsInOrder self.new }
     {
         match keep(self.alloc, &mut self.set, &mut self.documents, id, document) {
             Ok(()) => Ok(()),
@@ -119,7 +119,8 @@ fn merged_copy<A: Allocator + Copy>(
     requires least { 2 ≤ length pages.now }
     requires room { length pages.now ≤ 16 }
     requires short { length (unwrap_or (option_copied held) []) ≤ length pages.now }
-    ensures { IfOk result (λ d. d ≡ union_of (unwrap_or (option_copied held.entry) []) (each lent_bytes pages.now)) }
+    ensures { IfOk result
+        (λ d. d ≡ union_of_pages (unwrap_or (option_copied held.entry) []) (each lent_bytes pages.now)) }
 {
     let all = merge(held, pages);
     Document::copy_of(alloc, all.as_slice())

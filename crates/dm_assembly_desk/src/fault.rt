@@ -17,7 +17,7 @@ pub enum DeskFault {
     NotPages,
     /// What is saved under a key is of a version that is not known.
     Version,
-    /// What is saved under a key is no file of pages, or that of another identification.
+    /// What is saved under a key is no file of pages, or that of another ID.
     Damaged,
     /// There are more keys than the desk has room for documents.
     TooMany,

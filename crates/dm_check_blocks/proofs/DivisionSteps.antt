@@ -1,20 +1,15 @@
 -- The multiples of a generator polynomial and a step of the division by them. A factor is the sum of its low and its
 -- high four bits, so the two rows of a step add up to the factor's multiple. A root of the generator polynomial is a
--- root of each multiple: what a step adds has no value there, beside the word that it takes off.
+-- root of each multiple: what a step adds has no value there, beside the codeword that it takes off.
 use Rattle.std.proofs.Common.{◌≡◌, ℕ, zero, suc, ◌+◌, ◌-◌, ◌*◌, ◌/◌, ◌%◌, ◌<◌, ◌≤◌, true, eqb, eqb-true, add-one, refl, sym, ◌∙◌, ap, subst, arith, List, [], ◌∷◌, ◌++◌, length, length-append, length-take, length-drop, get_or, take, drop, replicate, ⊎_elim}
-use Rattle.std.proofs.lemmas.Bool.{cases_lt}
+use Rattle.std.proofs.{lemmas.Bool.cases_lt, Math.ListN.get_or-append, lemmas.Nat.xor_comm, lemmas.Nat.xor_lt}
 use Rattle.std.proofs.lemmas.List.{get_or-append_right, get_or-drop, get_or-take, length-replicate, get_or-replicate, take_all}
 use Rattle.std.proofs.lemmas.List.Elements.{All-get_or, All-from_get_or, All-append, All-take, All-drop}
-use Rattle.std.proofs.Math.ListN.{get_or-append}
 use Rattle.std.proofs.Math.Seq.{take-add, drop-append_seam, drop-cons}
 use borrow.Rule.Slice.PartMut.{put_mid}
-use Rattle.std.specs.List.{All, slice_range}
-use Rattle.std.specs.Int.Bits.{bit_xor, xor_zero_r}
-use Rattle.std.proofs.lemmas.Nat.{xor_comm, xor_lt}
-use Rattle.dm_gf256.specs.Field.{plain, reduced, product, power, value, IsBlockWord}
-use Rattle.dm_gf256.proofs.TablesByComputing.{all_below}
-use Rattle.dm_gf256.proofs.Linear.{product-xor_l}
-use Rattle.dm_gf256.proofs.LoopSteps.{double_low}
+use Rattle.std.specs.{List.All, List.slice_range, Int.Bits.bit_xor, Int.Bits.xor_zero_r}
+use Rattle.dm_gf256.specs.Field.{plain, reduced, product, power, value, IsSoundBlock}
+use Rattle.dm_gf256.proofs.{TablesByComputing.all_below, Linear.product-xor_l, LoopSteps.double_low}
 use Rattle.dm_gf256.proofs.Ring.{all_below-at, product_assoc, product_byte, product-zero_r, one-product, power_byte, power-add}
 use Rattle.dm_gf256.proofs.Divide.{value-add_scaled, value-append, xor_solve, add_scaled-by_places}
 use Rattle.dm_check_blocks.specs.inner.Remainders.{row_at, IsDivided}
@@ -95,8 +90,8 @@ shifted_value g n x h l z =
     ∙ ap (λ t. product t (power x (length zs))) root ∙ ap (λ t. product (power x c) (power x t)) long
     ∙ sym (power-add x c (n - c) h) ∙ ap (power x) whole
 
--- One step: the word f is taken off, and f times the row is added to the words after it. At a root of the generator
--- polynomial the value is kept.
+-- One step: the codeword f is taken off, and f times the row is added to the codewords after it. At a root of the
+-- generator polynomial the value is kept.
 pub row_step : (f : ℕ) (rest ys row : List ℕ) (c n x : ℕ) → length ys ≡ 80 → length row ≡ 80 → c ≤ 80 → c ≤ n →
     n ≤ length rest → 80 ≤ length rest → x < 256 → value (1 ∷ take c row) x ≡ 0 →
     ((k : ℕ) → c ≤ k → get_or row k 0 ≡ 0) →
@@ -134,7 +129,8 @@ row_step f rest ys row c n x ly lr few some fits room h root zeros sums =
     ∙ xor_comm (value (take n rest) x) (product f (power x n))
     ∙ ap (λ t. bit_xor (product f (power x t)) (value (take n rest) x)) (sym taken)
 
--- The window after a step: its words from the next one on have the value that the old ones had with the word at `at`.
+-- The window after a step: its codewords from the next one on have the value that the old ones had with the codeword at
+-- `at`.
 pub written_value : (old ys : List ℕ) (at end x : ℕ) → at + 1 ≤ end → end ≤ length old → at + 81 ≤ length old →
     value (take (end - (at + 1)) (ys ++ drop 80 (drop (at + 1) old))) x
     ≡ value (get_or old at 0 ∷ take (end - (at + 1)) (drop (at + 1) old)) x →
@@ -175,7 +171,7 @@ written_bytes old ys a n p q =
     (All-append (λ word. word < 256) ys (drop n (drop a old)) q
     (All-drop (λ word. word < 256) n (drop a old) (All-drop (λ word. word < 256) a old p)))
 
--- words and as many zeros as there are check words have the value of the words, shifted
+-- codewords and as many zeros as there are error correction codewords have the value of the codewords, shifted
 zeros_follow : (w : List ℕ) (d c x : ℕ) → x < 256 → d + c ≤ length w → ((i : ℕ) → d ≤ i → get_or w i 0 ≡ 0) →
     value (slice_range w 0 (d + c)) x ≡ product (value (take d w) x) (power x c)
 zeros_follow w d c x h l z =
@@ -189,9 +185,9 @@ zeros_follow w d c x h l z =
     ∙ ap (bit_xor (product (value (take d w) x) (power x (length zs)))) none ∙ xor_zero_r _
     ∙ ap (λ t. product (value (take d w) x) (power x t)) long
 
--- a message and its remainder after the division make a block word
+-- a message and its remainder after the division make a sound block
 pub divided_message : (checks count : ℕ) (old new : List ℕ) → IsDivided checks count old new → length old ≡ 336 →
     count + checks ≤ 336 → ((i : ℕ) → count ≤ i → get_or old i 0 ≡ 0) →
-    IsBlockWord checks (take count old ++ slice_range new count (count + checks))
+    IsSoundBlock checks (take count old ++ slice_range new count (count + checks))
 divided_message checks count old new e l fits zeros k p q =
     grind (arith, length-drop, length-take, power_byte, take_all, whole, zeros_follow)

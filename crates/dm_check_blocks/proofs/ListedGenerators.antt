@@ -3,9 +3,8 @@
 use Rattle.std.proofs.Common.{◌≡◌, ℕ, zero, suc, ◌<◌, ◌≤◌, refl, ◌∙◌, ap, arith, List, [], ◌∷◌, ◌++◌, length, ⊎_elim}
 use Rattle.std.proofs.lemmas.Bool.{cases_lt}
 use Rattle.std.specs.Int.Bits.{bit_xor, xor_self}
-use Rattle.dm_gf256.specs.Field.{product, power, plain, reduced, value, add_scaled, IsBlockWord}
-use Rattle.dm_gf256.proofs.Ring.{product-zero_l, product-zero_r}
-use Rattle.dm_gf256.proofs.Divide.{value-times_root}
+use Rattle.dm_gf256.specs.Field.{product, power, plain, reduced, value, add_scaled, IsSoundBlock}
+use Rattle.dm_gf256.proofs.{Ring.product-zero_l, Ring.product-zero_r, Divide.value-times_root}
 use Rattle.dm_check_blocks.specs.inner.Remainders.{IsGenerator}
 use Rattle.dm_check_blocks.specs.declared.listed.TheConstants.{GENERATOR_5, GENERATOR_7, GENERATOR_10, GENERATOR_12, GENERATOR_14, GENERATOR_18, GENERATOR_20, GENERATOR_24, GENERATOR_28, GENERATOR_36, GENERATOR_42, GENERATOR_48, GENERATOR_56, GENERATOR_62, GENERATOR_68}
 
@@ -19,7 +18,7 @@ with_roots zero = []
 with_roots (suc c) = with_root (power 2 (suc c)) (with_roots c)
 
 -- it has these roots
-all_roots : (c : ℕ) → IsBlockWord c (1 ∷ with_roots c)
+all_roots : (c : ℕ) → IsSoundBlock c (1 ∷ with_roots c)
 unfolding with_roots with_root
 all_roots zero k p q = absurd (omega arith)
 all_roots (suc c) k p q =

@@ -1,13 +1,10 @@
 -- The remainder of a message by the generator polynomial, by its value at a root.
 use Rattle.std.proofs.Common.{◌≡◌, ℕ, zero, suc, ◌+◌, ◌-◌, ◌<◌, ◌≤◌, refl, sym, ◌∙◌, ap, arith, List, [], ◌∷◌, ◌++◌, length, get_or, set, take, drop}
-use Rattle.std.specs.Int.Bits.{bit_xor}
+use Rattle.std.specs.Int.Bits.{bit_xor, xor_self}
 use Rattle.dm_gf256.specs.Field.{product, power, value, add_scaled}
-use Rattle.std.specs.Int.Bits.{xor_self}
 use Rattle.std.proofs.lemmas.List.{take_more, take_all}
-use Rattle.dm_gf256.proofs.Linear.{product-xor_l}
-use Rattle.dm_gf256.proofs.Ring.{product_assoc, product_comm, product-zero_l}
-use Rattle.dm_gf256.proofs.LoopSteps.{value-push}
-use Rattle.dm_gf256.proofs.Divide.{value-divide_step, value-append}
+use Rattle.dm_gf256.proofs.{Linear.product-xor_l, Ring.product_assoc, Ring.product_comm, Ring.product-zero_l}
+use Rattle.dm_gf256.proofs.{LoopSteps.value-push, Divide.value-divide_step, Divide.value-append}
 
 -- to set the last place of a list
 set-last : (rs : List ℕ) (r v n : ℕ) → n ≡ length rs → set (rs ++ r ∷ []) n v ≡ rs ++ v ∷ []
@@ -31,7 +28,7 @@ zeros_value (c ∷ cs) x h =
     ap (λ t. bit_xor (product t (power x (length cs))) (value cs x)) (h 0 (omega arith))
     ∙ ap (λ t. bit_xor t (value cs x)) (product-zero_l _) ∙ zeros_value cs x (λ k l. h (suc k) (omega arith))
 
--- one word u more of the message
+-- one codeword u more of the message
 pub next_word : (message : List ℕ) (i x n s t : ℕ) → i < length message → get_or message i 0 < 256 →
     s ≡ product (value (take i message) x) (power x n) →
     t ≡ bit_xor (product x s) (product (get_or message i 0) (power x n)) →

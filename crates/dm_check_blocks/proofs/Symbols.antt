@@ -1,9 +1,9 @@
--- The one symbol that begins with given data words.
+-- The one symbol that begins with given data codewords.
 use Rattle.std.proofs.Common.{◌≡◌, ℕ, ◌<◌, ◌≤◌, sym, ◌∙◌, ap, subst, arith, List, ◌++◌, length, length-take, length-drop, get_or, take, drop}
 use Rattle.std.specs.List.{All}
 use Rattle.std.proofs.lemmas.List.{ext_get_or, get_or-take, take_at, take-append-drop}
 use Rattle.std.proofs.lemmas.List.Elements.{All-from_get_or, recursion_from_All}
-use Rattle.dm_gf256.specs.Field.{IsBlockWord}
+use Rattle.dm_gf256.specs.Field.{IsSoundBlock}
 use Rattle.dm_gf256.proofs.Vanish.{Bytes}
 use Rattle.dm_size.specs.declared.size.Size.{Size}
 use Rattle.dm_size.specs.Sizes.{data_words, all_words, blocks, block_checks, block_length, block_data}
@@ -12,11 +12,11 @@ use Rattle.dm_size.proofs.Sound.{sound}
 use Rattle.dm_check_blocks.proofs.OneCompletion.{one_completion}
 use Rattle.dm_check_blocks.proofs.Interleaving.{position-lt, position_in_data, length-block_of, get_or-block_of, same_from_blocks}
 
--- what `complete` gives: words that begin with the message, each block completed
+-- what `complete` gives: codewords that begin with the message, each block completed
 pub completes : (s : Size) (message words : List ℕ) → length message ≡ data_words s → length words ≡ all_words s →
     All (λ word. word < 256) words →
     ((p : ℕ) → p < data_words s → get_or words p 0 ≡ get_or message p 0) →
-    ((b : ℕ) → b < blocks s → IsBlockWord (block_checks s) (block_of s b words)) → Completes s message words
+    ((b : ℕ) → b < blocks s → IsSoundBlock (block_checks s) (block_of s b words)) → Completes s message words
 completes s message words l m bytes same done = record {
   symbol = record { count = m; bytes = bytes; block_words = done };
   begins =
@@ -32,7 +32,7 @@ completes s message words l m bytes same done = record {
 pub completes_taken : (s : Size) (message words rest : List ℕ) (n : ℕ) → length message ≡ data_words s →
     length words ≡ all_words s → length words ≡ n → All (λ word. word < 256) words →
     ((p : ℕ) → p < data_words s → get_or words p 0 ≡ get_or message p 0) →
-    ((b : ℕ) → b < blocks s → IsBlockWord (block_checks s) (block_of s b words)) →
+    ((b : ℕ) → b < blocks s → IsSoundBlock (block_checks s) (block_of s b words)) →
     Completes s message (take n (words ++ rest))
 completes_taken s message words rest n l m e bytes same done = grind (arith, completes, take_at)
 
@@ -44,7 +44,7 @@ bytes_from_all xs h = recursion_from_All (λ x. x < 256) xs (All-from_get_or (λ
 block_bytes : (s : Size) (b : ℕ) (words : List ℕ) → b < blocks s → IsSymbol s words → Bytes (block_of s b words)
 block_bytes s b words l symbol = grind (arith, bytes_from_all, get_or-block_of, length-block_of, position-lt)
 
--- a data word of a block is one of the message
+-- a data codeword of a block is one of the message
 data_at : (s : Size) (b : ℕ) (message words : List ℕ) (i : ℕ) → b < blocks s → i < block_data s →
     Completes s message words → get_or (block_of s b words) i 0 ≡ get_or message (position s b i) 0
 data_at s b message words i l h c =
@@ -53,7 +53,7 @@ data_at s b message words i l h c =
     sym (get_or-take (data_words s) words (position s b i) 0 (position_in_data s b i l h)) ∙
     ap (λ t. get_or t (position s b i) 0) (c.begins)
 
--- two completions of one message have the same data words in each block
+-- two completions of one message have the same data codewords in each block
 front : (s : Size) (b : ℕ) (message xs ys : List ℕ) → b < blocks s → Completes s message xs → Completes s message ys →
     take (block_data s) (block_of s b xs) ≡ take (block_data s) (block_of s b ys)
 front s b message xs ys l c e =
@@ -80,9 +80,9 @@ block_same s b message xs ys l c e =
     let wx : m ++ p ≡ x = take-append-drop d x in
     let wy : m ++ q ≡ y = ap (λ t. t ++ q) (front s b message xs ys l c e) ∙ take-append-drop d y in
     let B : List ℕ → Type 0 = λ t. Bytes t in
-    let word : (zs t : List ℕ) → t ≡ block_of s b zs → IsSymbol s zs → IsBlockWord (length p) t =
-    λ zs t h symbol. subst (λ n. IsBlockWord n t) (sym lp)
-    (subst (λ v. IsBlockWord (block_checks s) v) (sym h) (symbol.block_words b l)) in
+    let word : (zs t : List ℕ) → t ≡ block_of s b zs → IsSymbol s zs → IsSoundBlock (length p) t =
+    λ zs t h symbol. subst (λ n. IsSoundBlock n t) (sym lp)
+    (subst (λ v. IsSoundBlock (block_checks s) v) (sym h) (symbol.block_words b l)) in
     let bound = (sound s).longest_block in
     sym wx
     ∙ one_completion m p q (lp ∙ sym lq) (let h : length (m ++ p) ≤ 255 = rw wx (omega arith) in

@@ -1,15 +1,15 @@
-//! The check words of one block: the remainder of its data words by the generator polynomial.
+//! The error correction codewords of one block: the remainder of its data codewords by the generator polynomial.
 
 ghost use Rattle.std.specs.Prelude.{◌≡◌, ◌<◌, ◌≤◌, ◌+◌, ℕ, List, length, ◌++◌};
 ghost use Rattle.std.specs.List.{All};
-ghost use Rattle.dm_gf256.specs.Field.{IsBlockWord};
+ghost use Rattle.dm_gf256.specs.Field.{IsSoundBlock};
 ghost use Rattle.dm_check_blocks.specs.inner.Remainders.{IsGenerator, AddsWord};
 
 use crate::generator::MOST_CHECKS;
 use crate::multiples::{Multiples, WINDOW_WORDS, generator_row};
 use dm_gf256::add_multiple;
 
-// Divides one word more of the message: `checks` is the remainder so far, and `generator` the generator
+// Divides one codeword more of the message: `checks` is the remainder so far, and `generator` the generator
 // polynomial without its leading 1.
 fn step(checks: &mut [u8], generator: &[u8], word: u8)
     requires some { 0 < length checks.old }
@@ -23,12 +23,13 @@ fn step(checks: &mut [u8], generator: &[u8], word: u8)
     add_multiple(checks, generator, factor);
 }
 
-// Fills in the check words of one block word by word, by its generator polynomial without its leading 1.
+// Fills in the error correction codewords of one block codeword by codeword, by its generator polynomial without its
+// leading 1.
 fn fill_word_by_word(message: &[u8], checks: &mut [u8], generator: &[u8])
     requires some { 1 ≤ length checks.old }
     requires same { length checks.old ≡ length generator.now }
     requires roots { IsGenerator generator.now }
-    ensures { IsBlockWord (length checks.old) (message.now ++ checks.new) }
+    ensures { IsSoundBlock (length checks.old) (message.now ++ checks.new) }
 {
     checks.fill(0);
     for word in message {
@@ -36,15 +37,15 @@ fn fill_word_by_word(message: &[u8], checks: &mut [u8], generator: &[u8])
     }
 }
 
-// The fewest data words for which the multiples of the generator polynomial are worth their making.
+// The fewest data codewords for which the multiples of the generator polynomial are worth their making.
 const FEWEST_BY_ROWS: usize = 19;
 
-// Fills in the check words of one block by the multiples of its generator polynomial.
+// Fills in the error correction codewords of one block by the multiples of its generator polynomial.
 fn fill_by_rows(message: &[u8], checks: &mut [u8])
     requires some { 1 ≤ length message.now }
     requires most { length checks.old ≤ MOST_CHECKS }
     requires fits { length message.now + length checks.old ≤ 255 }
-    ensures { IsBlockWord (length checks.old) (message.now ++ checks.new) }
+    ensures { IsSoundBlock (length checks.old) (message.now ++ checks.new) }
 {
     let count = message.len();
     let mut window = [0; WINDOW_WORDS];
@@ -54,16 +55,16 @@ fn fill_by_rows(message: &[u8], checks: &mut [u8])
     checks.copy_from_slice(&windows[0][count..count + checks.len()]);
 }
 
-/// Fills in the check words of one block. There are 1 to 68 of them, and at most 255 words together with the
-/// message, the block's data words, of which the first is the coefficient of the highest power (ISO/IEC 16022:2006,
-/// Annex E).
+/// Fills in the error correction codewords of one block. There are 1 to 68 of them, and at most 255 codewords together
+/// with the message, the block's data codewords, of which the first is the coefficient of the highest power (ISO/IEC
+/// 16022:2006, Annex E).
 pub fn checks_of(message: &[u8], checks: &mut [u8])
     requires some { 1 ≤ length checks.old }
     requires most { length checks.old ≤ MOST_CHECKS }
     requires fits { length message.now + length checks.old ≤ 255 }
-    ensures completed { IsBlockWord (length checks.old) (message.now ++ checks.new) }
+    ensures completed { IsSoundBlock (length checks.old) (message.now ++ checks.new) }
     ensures only { (others : List ℕ) → length others ≡ length checks.old → All (λ word. word < 256) others
-        → IsBlockWord (length checks.old) (message.now ++ others) → others ≡ checks.new }
+        → IsSoundBlock (length checks.old) (message.now ++ others) → others ≡ checks.new }
 {
     if message.len() < FEWEST_BY_ROWS {
         let row = generator_row(checks.len());

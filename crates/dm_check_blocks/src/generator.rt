@@ -5,14 +5,14 @@ ghost use Rattle.dm_gf256.specs.Field.{power, value};
 
 use dm_gf256::{Gf, add_multiple};
 
-/// The most check words of one block: those of side 48.
+/// The most error correction codewords of one block: those of side 48.
 pub const MOST_CHECKS: usize = 68;
 
 /// The coefficients of the longest generator polynomial, one more than it has roots.
 pub(crate) const GENERATOR_WORDS: usize = 69;
 
-/// The coefficients of the generator polynomial for `count` check words, (x + 2^1)(x + 2^2) .. (x + 2^count),
-/// the highest power first, whose coefficient is 1; zeros follow them.
+/// The coefficients of the generator polynomial for `count` error correction codewords, (x + 2^1)(x + 2^2) .. (x +
+/// 2^count), the highest power first, whose coefficient is 1; zeros follow them.
 pub(crate) fn coefficients_of(count: usize) -> [u8; GENERATOR_WORDS]
     requires { count ≤ MOST_CHECKS }
     ensures size { length result ≡ GENERATOR_WORDS }

@@ -1,9 +1,10 @@
-//! The check words that complete a Data Matrix ECC 200 symbol: ISO/IEC 16022:2006, 5.7, Annexes A and E.
-//! [`checks_of`] fills in the check words of one block, and [`complete`] gives all words of a symbol, its blocks
-//! interleaved as [`block_word`] says; [`complete_blocks`] writes the check words of all blocks in place.
+//! The error correction codewords that complete a Data Matrix ECC 200 symbol: ISO/IEC 16022:2006, 5.7, Annexes A and E.
+//! [`checks_of`] fills in the error correction codewords of one block, and [`complete`] gives all codewords of a
+//! symbol, its blocks interleaved as [`block_word`] says; [`complete_blocks`] writes the error correction codewords of
+//! all blocks in place.
 //!
-//! Proved: the blocks of what `complete` gives are block words, and no other list that begins with the message has
-//! block words; the same of `checks_of`.
+//! Proved: the blocks of what `complete` gives are sound blocks, and no other list that begins with the message has
+//! sound blocks; the same of `checks_of`.
 #![tactic(auto)]
 
 mod checks;

@@ -1,5 +1,5 @@
-//! The generator polynomials for the numbers of check words that the sizes have, as the standard prints them: the
-//! coefficients after that of the highest power, which is 1 (ISO/IEC 16022:2006, Annex E).
+//! The generator polynomials for the numbers of error correction codewords that the sizes have, as the standard prints
+//! them: the coefficients after that of the highest power, which is 1 (ISO/IEC 16022:2006, Annex E).
 
 ghost use Rattle.std.specs.Prelude.{◌≡◌, length, IfSome};
 ghost use Rattle.dm_check_blocks.specs.inner.Remainders.{IsGenerator};
@@ -89,8 +89,8 @@ static GENERATOR_68: [u8; 68] = [
     234, 180, 248, 136, 213, 127, 73, 36, 154, 244, 147, 33, 89, 56, 159, 149, 251, 89, 173, 228, 220,
 ];
 
-/// The coefficients after the first of the generator polynomial for that many check words, if a size has that many in a
-/// block.
+/// The coefficients after the first of the generator polynomial for that many error correction codewords, if a size has
+/// that many in a block.
 #[tactic(auto, using(crate::proofs::ListedGenerators::listed_generators))]
 pub(crate) fn listed(count: usize) -> Option<&'static [u8]>
     ensures { IfSome result (λ generator. (length generator.now ≡ count) × IsGenerator generator.now) }

@@ -1,8 +1,8 @@
-//! Division by a generator polynomial, a row of words at once.
+//! Division by a generator polynomial, a row of codewords at once.
 //!
-//! A step of the division takes the multiple of the generator polynomial off that makes the first word zero. The
-//! factor, a word, is the sum of its low and of its high four bits, so its multiple is the sum of two rows of a table:
-//! sixteen rows of multiples by the low bits, and sixteen by the high ones.
+//! A step of the division takes the multiple of the generator polynomial off that makes the first codeword zero. The
+//! factor, a codeword, is the sum of its low and of its high four bits, so its multiple is the sum of two rows of a
+//! table: sixteen rows of multiples by the low bits, and sixteen by the high ones.
 
 ghost use Rattle.std.specs.Prelude.{◌≡◌, ◌<◌, ◌≤◌, ◌+◌, ℕ, length, slice_index, take};
 ghost use Rattle.std.specs.Int.Bits.{bit_xor};
@@ -14,13 +14,13 @@ ghost use Rattle.dm_check_blocks.specs.inner.Remainders.{row_at, IsDivided, IsGe
 use crate::generator::{MOST_CHECKS, coefficients_of};
 use crate::listed::listed;
 
-// The words of a row: room for the most check words, and a whole number of registers of 16.
+// The codewords of a row: room for the most error correction codewords, and a whole number of registers of 16.
 const ROW_WORDS: usize = 80;
 
 // One multiple of a generator polynomial, without its highest power, and zeros.
 type Row = [u8; ROW_WORDS];
 
-/// The words of a [`Window`]: a block has at most 255, and a row reaches at most 81 words past one of them.
+/// The codewords of a [`Window`]: a block has at most 255, and a row reaches at most 81 codewords past one of them.
 pub(crate) const WINDOW_WORDS: usize = 336;
 
 /// A block that is divided in place, and room after it.
@@ -55,7 +55,7 @@ fn sum(left: &Row, right: &Row) -> Row
     row
 }
 
-// Adds two rows to as many words.
+// Adds two rows to as many codewords.
 fn add_rows(words: &mut [u8], low: &Row, high: &Row)
     requires { length words.old ≡ ROW_WORDS }
     ensures { (k : ℕ) → k < ROW_WORDS → slice_index words.new k
@@ -84,7 +84,7 @@ fn multiples_of(row: &Row) -> [Row; 16]
     rows
 }
 
-/// The generator polynomial for that many check words as a row.
+/// The generator polynomial for that many error correction codewords as a row.
 pub(crate) fn generator_row(checks: usize) -> Row
     requires { checks ≤ MOST_CHECKS }
     ensures size { length result ≡ ROW_WORDS }
@@ -105,7 +105,7 @@ pub(crate) fn generator_row(checks: usize) -> Row
 /// The multiples of a generator polynomial, by which blocks are divided.
 #[derive(Drop)]
 pub(crate) struct Multiples {
-    /// The number of check words, the generator polynomial's degree.
+    /// The number of error correction codewords, the generator polynomial's degree.
     checks: usize,
     low: [Row; 16],
     high: [Row; 16],
@@ -119,7 +119,7 @@ pub(crate) struct Multiples {
 }
 
 impl Multiples {
-    /// The multiples of the generator polynomial for that many check words.
+    /// The multiples of the generator polynomial for that many error correction codewords.
     pub(crate) fn of_generator(checks: usize) -> Multiples
         requires { checks ≤ MOST_CHECKS }
         ensures { result.checks ≡ checks }
@@ -129,7 +129,8 @@ impl Multiples {
         Multiples { checks, low, high }
     }
 
-    // One step of the division: takes the multiple of the generator polynomial off that makes the word at `at` zero.
+    // One step of the division: takes the multiple of the generator polynomial off that makes the codeword at `at`
+    // zero.
     fn step(&self, window: &mut Window, at: usize)
         requires { at < 256 }
         ensures { IsStep self.now.checks at window.old window.new }
@@ -151,8 +152,9 @@ impl Multiples {
         }
     }
 
-    /// Divides the block that each window begins with, `count` words and `checks` check words, by the generator
-    /// polynomial. The remainder stands where the check words stood; the words before it are used up.
+    /// Divides the block that each window begins with, `count` codewords and `checks` error correction codewords, by
+    /// the generator polynomial. The remainder stands where the error correction codewords stood; the codewords before
+    /// it are used up.
     ///
     /// The windows take turns step by step, since each step reads what the one before it wrote beside.
     pub(crate) fn divide(&self, windows: &mut [Window], count: usize)

@@ -1,8 +1,8 @@
-//! The words of a whole symbol: its blocks, interleaved.
+//! The codewords of a whole symbol: its blocks, interleaved.
 
 ghost use Rattle.std.specs.Prelude.{◌≡◌, ◌<◌, ◌+◌, ℕ, List, IfOk, length, slice_index, take};
 ghost use Rattle.std.specs.List.{All};
-ghost use Rattle.dm_gf256.specs.Field.{IsBlockWord};
+ghost use Rattle.dm_gf256.specs.Field.{IsSoundBlock};
 ghost use Rattle.dm_size.specs.Sizes.{data_words, all_words, blocks, block_data, block_checks, block_length};
 ghost use Rattle.dm_check_blocks.specs.Blocks.{position, block_of, Completes};
 ghost use Rattle.dm_check_blocks.specs.inner.Remainders.{row_at, KeepsOtherWords, HoldsData, HoldsChecks};
@@ -15,8 +15,8 @@ use std::alloc::{AllocError, Allocator};
 // The most blocks of a symbol, those of side 132.
 const MOST_BLOCKS: usize = 8;
 
-/// Where a word of a block stands in its symbol. Blocks, words of a block and words of the symbol count from 0, and a
-/// block's data words come before its check words (ISO/IEC 16022:2006, Annex A).
+/// Where a codeword of a block stands in its symbol. Blocks, codewords of a block and codewords of the symbol count
+/// from 0, and a block's data codewords come before its error correction codewords (ISO/IEC 16022:2006, Annex A).
 pub fn block_word(size: Size, block: usize, word: usize) -> usize
     requires block { block < blocks size }
     requires word { word < block_length size }
@@ -26,7 +26,7 @@ pub fn block_word(size: Size, block: usize, word: usize) -> usize
     word * size.blocks() + block
 }
 
-// The data words of one block, and zeros after them.
+// The data codewords of one block, and zeros after them.
 fn data_of_block(size: Size, block: usize, words: &[u8]) -> Window
     requires block { block < blocks size }
     requires count { length words.now ≡ all_words size }
@@ -39,7 +39,7 @@ fn data_of_block(size: Size, block: usize, words: &[u8]) -> Window
     data
 }
 
-// Reads the data words of each block into its window.
+// Reads the data codewords of each block into its window.
 fn read_blocks(size: Size, words: &[u8], windows: &mut [Window])
     requires count { length words.now ≡ all_words size }
     requires windows { length windows.old ≡ blocks size }
@@ -50,7 +50,7 @@ fn read_blocks(size: Size, words: &[u8], windows: &mut [Window])
     }
 }
 
-// Writes the check words of one block to their places.
+// Writes the error correction codewords of one block to their places.
 fn write_checks(size: Size, block: usize, words: &mut [u8], checks: &[u8])
     requires block { block < blocks size }
     requires count { length words.old ≡ all_words size }
@@ -65,7 +65,7 @@ fn write_checks(size: Size, block: usize, words: &mut [u8], checks: &[u8])
     }
 }
 
-// Writes the check words of each block from its window.
+// Writes the error correction codewords of each block from its window.
 fn write_blocks(size: Size, words: &mut [u8], windows: &[Window])
     requires count { length words.old ≡ all_words size }
     requires windows { length windows.now ≡ blocks size }
@@ -82,7 +82,7 @@ fn write_blocks(size: Size, words: &mut [u8], windows: &[Window])
 // Completes the blocks in turns, step by step of the division.
 fn complete_in_turns(size: Size, words: &mut [u8])
     requires count { length words.old ≡ all_words size }
-    ensures completed { (b : ℕ) → b < blocks size → IsBlockWord (block_checks size) (block_of size b words.new) }
+    ensures completed { (b : ℕ) → b < blocks size → IsSoundBlock (block_checks size) (block_of size b words.new) }
     ensures message { (p : ℕ) → p < data_words size → slice_index words.new p ≡ slice_index words.old p }
     ensures bytes { All (λ word. word < 256) words.new }
 {
@@ -93,13 +93,13 @@ fn complete_in_turns(size: Size, words: &mut [u8])
     write_blocks(size, words, windows);
 }
 
-/// Completes every block of the words of a symbol, which begin with the message: each gets the check words of its data
-/// words, in place (ISO/IEC 16022:2006, 5.7 and Annexes A and E).
+/// Completes every block of the codewords of a symbol, which begin with the message: each gets the error correction
+/// codewords of its data codewords, in place (ISO/IEC 16022:2006, 5.7 and Annexes A and E).
 pub fn complete_blocks(size: Size, message: &[u8], words: &mut [u8])
     requires count { length words.old ≡ all_words size }
     requires data { length message.now ≡ data_words size }
     requires begins { take (data_words size) words.old ≡ message.now }
-    ensures completed { (b : ℕ) → b < blocks size → IsBlockWord (block_checks size) (block_of size b words.new) }
+    ensures completed { (b : ℕ) → b < blocks size → IsSoundBlock (block_checks size) (block_of size b words.new) }
     ensures message { (p : ℕ) → p < data_words size → slice_index words.new p ≡ slice_index words.old p }
     ensures bytes { All (λ word. word < 256) words.new }
 {
@@ -110,9 +110,10 @@ pub fn complete_blocks(size: Size, message: &[u8], words: &mut [u8])
     }
 }
 
-/// All words of the symbol whose data words are the message, as many as the size has: the message, and after it the
-/// check words of the blocks, interleaved (ISO/IEC 16022:2006, 5.7 and Annex A). No other list begins with the message
-/// and consists of block words. At side 10 the message `142 164 186` gives `142 164 186 114 25 5 88 102`.
+/// All codewords of the symbol whose data codewords are the message, as many as the size has: the message, and after it
+/// the error correction codewords of the blocks, interleaved (ISO/IEC 16022:2006, 5.7 and Annex A). No other list
+/// begins with the message and consists of sound blocks. At side 10 the message `142 164 186` gives `142 164 186 114 25
+/// 5 88 102`.
 ///
 /// # Errors
 /// Where the allocator refuses its memory.

@@ -2,7 +2,7 @@
 
 ghost use Rattle.std.specs.Prelude.{◌≡◌, ◌<◌, ◌≤◌, ◌-◌, ◌↔◌, length, take, IsTrue};
 ghost use Rattle.std.specs.List.{All};
-ghost use Rattle.dm_gf256.specs.Field.{differ, IsBlockWord};
+ghost use Rattle.dm_gf256.specs.Field.{differ, IsSoundBlock};
 ghost use Rattle.dm_corrector.specs.Symbols.{EndsCorrection};
 ghost use Rattle.dm_corrector.specs.inner.Polynomials.{IsRemainder};
 
@@ -16,9 +16,9 @@ use dm_check_blocks::{MOST_CHECKS, checks_of};
 use dm_gf256::add_multiple;
 use thiserror::Error;
 
-/// No block word is within the limit of wrong words.
+/// No sound block is within the limit of wrong codewords.
 #[derive(Clone, Copy, Debug, PartialEq, Eq, Error)]
-#[error("no block word is near enough to the block")]
+#[error("no sound block is near enough to the block")]
 pub struct Uncorrectable;
 
 /// The number of places where two words of one length differ.
@@ -37,13 +37,13 @@ pub(crate) fn differing(left: &[u8], right: &[u8]) -> usize
     places
 }
 
-// Whether a block is a block word: whether its check words are those of its data words.
+// Whether a block is a sound block: whether its error correction codewords are those of its data codewords.
 fn is_block_word(block: &[u8], checks: usize) -> bool
     requires some { 1 ≤ checks }
     requires most { checks ≤ MOST_CHECKS }
     requires longer { checks < length block.now }
     requires fits { length block.now ≤ MOST_WORDS }
-    ensures { IsTrue result ↔ IsBlockWord checks block.now }
+    ensures { IsTrue result ↔ IsSoundBlock checks block.now }
 {
     let (message, last) = block.split_at(block.len() - checks);
     let mut room = [0; MOST_CHECKS];
@@ -85,15 +85,15 @@ fn correct_wrong<L: Locate>(
     }
 }
 
-// Writes the remainder of a block by the generator polynomial, given the block word that its data words have: the sum
-// of the check words of both.
+// Writes the remainder of a block by the generator polynomial, given the sound block that its data codewords have: the
+// sum of the error correction codewords of both.
 fn write_remainder(block: &[u8], word: &[u8], remainder: &mut [u8])
     requires most { length remainder.old ≤ MOST_CHECKS }
     requires longer { length remainder.old < length block.now }
     requires size { length word.now ≡ length block.now }
     requires data { take (length block.now - length remainder.old) word.now
         ≡ take (length block.now - length remainder.old) block.now }
-    requires completed { IsBlockWord (length remainder.old) word.now }
+    requires completed { IsSoundBlock (length remainder.old) word.now }
     ensures remainder { IsRemainder (length remainder.old) block.now remainder.new }
     ensures bytes { All (λ word. word < 256) block.now }
 {
@@ -104,8 +104,8 @@ fn write_remainder(block: &[u8], word: &[u8], remainder: &mut [u8])
     add_multiple(remainder, wanted, 1);
 }
 
-/// Corrects one block, given the block word that its data words have, by the error locator polynomial that `locate`
-/// finds.
+/// Corrects one block, given the sound block that its data codewords have, by the error locator polynomial that
+/// `locate` finds.
 pub(crate) fn correct_completed<L: Locate>(
     locate: &L,
     block: &mut [u8],
@@ -118,7 +118,7 @@ pub(crate) fn correct_completed<L: Locate>(
     requires fits { length block.old ≤ MOST_WORDS }
     requires size { length word.now ≡ length block.old }
     requires data { take (length block.old - checks) word.now ≡ take (length block.old - checks) block.old }
-    requires completed { IsBlockWord checks word.now }
+    requires completed { IsSoundBlock checks word.now }
     ensures { EndsCorrection checks block.old result block.new }
 {
     let mut room = [0; MOST_CHECKS];
@@ -131,12 +131,13 @@ pub(crate) fn correct_completed<L: Locate>(
     }
 }
 
-/// Corrects one block of 2 to 255 words, the last `checks` of which are check words, by the error locator polynomial
-/// that `locate` finds. At most `checks / 2` words are put right: Ok gives their number, and the block is then the one
-/// block word that differs from what it was in at most `checks / 2` places (ISO/IEC 16022:2006, Annex E).
+/// Corrects one block of 2 to 255 codewords, the last `checks` of which are error correction codewords, by the error
+/// locator polynomial that `locate` finds. At most `checks / 2` codewords are put right: Ok gives their number, and the
+/// block is then the one sound block that differs from what it was in at most `checks / 2` places (ISO/IEC 16022:2006,
+/// Annex E).
 ///
 /// # Errors
-/// Where there is no such block word; the block is then unchanged.
+/// Where there is no such sound block; the block is then unchanged.
 pub fn correct_with<L: Locate>(
     locate: &L,
     block: &mut [u8],
@@ -156,11 +157,12 @@ pub fn correct_with<L: Locate>(
     correct_completed(locate, block, word, checks)
 }
 
-/// Corrects one block of 2 to 255 words, the last `checks` of which are check words, by Berlekamp and Massey's method:
-/// as `correct_with` does. Ok gives the number of words that were put right, at most `checks / 2`.
+/// Corrects one block of 2 to 255 codewords, the last `checks` of which are error correction codewords, by Berlekamp
+/// and Massey's method: as `correct_with` does. Ok gives the number of codewords that were put right, at most `checks /
+/// 2`.
 ///
 /// # Errors
-/// Where no block word differs from the block in at most `checks / 2` places; the block is then unchanged.
+/// Where no sound block differs from the block in at most `checks / 2` places; the block is then unchanged.
 pub fn correct(block: &mut [u8], checks: usize) -> Result<u8, Uncorrectable>
     requires some { 1 ≤ checks }
     requires most { checks ≤ MOST_CHECKS }

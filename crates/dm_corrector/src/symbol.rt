@@ -1,7 +1,7 @@
 //! Correction of a whole symbol, block by block.
 
 ghost use Rattle.std.specs.Prelude.{◌≡◌, ◌≢◌, ◌<◌, ℕ, List, length, take, IfOk, IfErr, OnOk, OnErr};
-ghost use Rattle.dm_gf256.specs.Field.{differ, IsBlockWord};
+ghost use Rattle.dm_gf256.specs.Field.{differ, IsSoundBlock};
 ghost use Rattle.dm_size.specs.Sizes.{all_words, blocks, block_checks, block_data, block_length};
 ghost use Rattle.dm_check_blocks.specs.Blocks.{block_of, IsSymbol};
 ghost use Rattle.dm_corrector.specs.Symbols.{Corrects, CorrectsSymbol, IsFirstFaulty};
@@ -13,12 +13,12 @@ use dm_check_blocks::complete_blocks;
 use dm_size::Size;
 use thiserror::Error;
 
-// The most words of a symbol: those of side 132.
+// The most codewords of a symbol: those of side 132.
 const MOST_SYMBOL_WORDS: usize = 1800;
 
 /// The first block of a symbol that cannot be corrected.
 #[derive(Clone, Copy, Debug, PartialEq, Eq, Error)]
-#[error("block {block} has too many wrong words")]
+#[error("block {block} has too many wrong codewords")]
 pub struct BlockFault {
     /// The block's number, from 0.
     pub block: usize,
@@ -64,8 +64,8 @@ fn scatter(size: Size, number: usize, words: &mut [u8], block: &[u8])
     }
 }
 
-// Corrects one block of a symbol, given the same words with all blocks completed. The words of the blocks are
-// interleaved: word k of block b is word k * blocks + b of the symbol.
+// Corrects one block of a symbol, given the same codewords with all blocks completed. The codewords of the blocks are
+// interleaved: codeword k of block b is codeword k * blocks + b of the symbol.
 fn correct_block(
     size: Size,
     words: &mut [u8],
@@ -77,7 +77,7 @@ fn correct_block(
     requires block { number < blocks size }
     requires data { take (block_data size) (block_of size number completed.now)
         ≡ take (block_data size) (block_of size number words.old) }
-    requires completed { IsBlockWord (block_checks size) (block_of size number completed.now) }
+    requires completed { IsSoundBlock (block_checks size) (block_of size number completed.now) }
     ensures near { OnOk result
         (Corrects (block_checks size) (block_of size number words.old) (block_of size number words.new)) }
     ensures none { OnErr result
@@ -96,12 +96,12 @@ fn correct_block(
     Ok(())
 }
 
-/// Corrects all blocks of a symbol, up to `Size::limit` wrong words in each. Ok gives the number of words that changed
-/// in all; the words are then the one symbol whose blocks are within the limit of what they were (ISO/IEC 16022:2006,
-/// 5.7 and Annex E).
+/// Corrects all blocks of a symbol, up to `Size::limit` wrong codewords in each. Ok gives the number of codewords that
+/// changed in all; the codewords are then the one symbol whose blocks are within the limit of what they were (ISO/IEC
+/// 16022:2006, 5.7 and Annex E).
 ///
 /// # Errors
-/// The first block to which no block word is near enough; all words are then unchanged.
+/// The first block to which no sound block is near enough; all codewords are then unchanged.
 pub fn correct_symbol(size: Size, words: &mut [u8]) -> Result<u16, BlockFault>
     requires { length words.old ≡ all_words size }
     ensures near { OnOk result (CorrectsSymbol size words.old words.new) }

@@ -1,9 +1,8 @@
 -- The outcomes of one step, by cases.
 use Rattle.std.proofs.Common.{◌≡◌, ℕ, ◌+◌, ◌*◌, ◌<◌, ◌≤◌, ◌⊎◌, [], ◌∷◌, Ok, Err, arith}
-use Rattle.dm_encodation.specs.declared.letters.Letters.{Letters}
+use Rattle.dm_encodation.specs.{declared.letters.Letters.Letters, Grammar.latch, Grammar.IsUnsupported}
 use Rattle.dm_encodation.specs.declared.mode.Mode.TheVariants.{Ascii, Upper, Run, Length, Padded}
 use Rattle.dm_encodation.specs.declared.fault.DecodeFault.TheVariants.{Unsupported, Reserved}
-use Rattle.dm_encodation.specs.Grammar.{latch, IsUnsupported}
 use Rattle.dm_encodation.specs.inner.Reading.{Stepped, no_pending, ascii_step}
 
 pub data AsciiStep : ℕ → ℕ → Stepped → Type 0 where

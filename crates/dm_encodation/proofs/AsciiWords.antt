@@ -1,12 +1,9 @@
 -- A text in ASCII: the piece at its front, and one byte more at its end.
-use Rattle.std.proofs.lemmas.Grind.{common_steps}
+use Rattle.std.proofs.lemmas.{Grind.common_steps, Bool.lt-ltb, Bool.le-ltb, List.append-nil}
 use Rattle.std.proofs.Common.{◌≡◌, ℕ, ◌+◌, ◌-◌, ◌*◌, ◌<◌, ◌≤◌, ◌≢◌, Bool, true, false, ◌&&◌, List, [], ◌∷◌, ◌++◌, length, get_or, drop, refl, sym, ap, ◌∙◌, arith, ◌⊎◌}
 use Rattle.std.specs.Char.{is_ascii_digit}
-use Rattle.std.proofs.lemmas.Bool.{lt-ltb, le-ltb}
-use Rattle.std.proofs.lemmas.List.{append-nil}
-use Rattle.dm_encodation.specs.Written.{ascii_byte, ascii}
+use Rattle.dm_encodation.specs.{Written.ascii_byte, Written.ascii, declared.counter.AsciiCounter.AsciiCounter}
 use Rattle.dm_encodation.specs.inner.Counting.{has_digits, has_lone_digit, CountsAscii}
-use Rattle.dm_encodation.specs.declared.counter.AsciiCounter.{AsciiCounter}
 
 pub ascii-digits : (bytes : List ℕ) → has_digits bytes ≡ true
     → ascii bytes ≡ (130 + (10 * (get_or bytes 0 0 - 48) + (get_or bytes 1 0 - 48))) ∷ ascii (drop 2 bytes)
@@ -34,7 +31,7 @@ ascii-nil bytes e = rw e refl
 pub ascii_done : (out bytes all : List ℕ) → bytes ≡ [] → out ++ ascii bytes ≡ all → out ≡ all
 ascii_done out bytes all e h = sym (append-nil out) ∙ ap (λ (x : List ℕ). out ++ x) (sym (ascii-nil bytes e)) ∙ h
 
--- a byte takes one word or two
+-- a byte takes one codeword or two
 pub some_words : (b : ℕ) → (1 ≤ length (ascii_byte b)) × (length (ascii_byte b) ≤ 2)
 some_words b = grind arith
 
@@ -55,7 +52,7 @@ length-ascii (b ∷ c ∷ bs) = grind (arith, length-ascii bs, length-ascii (c �
 both_or_not : (b : Bool) → (b ≡ true) ⊎ (b ≡ false)
 both_or_not b = grind arith
 
--- What one byte more does to a text: the last lone digit shares its word with it, or it stands alone.
+-- What one byte more does to a text: the last lone digit shares its codeword with it, or it stands alone.
 record Pushed (bytes : List ℕ) (c : ℕ) : Type 0 where
   shared : has_lone_digit bytes ≡ true → is_ascii_digit c ≡ true →
       (length (ascii (bytes ++ c ∷ [])) ≡ length (ascii bytes)) × (has_lone_digit (bytes ++ c ∷ []) ≡ false)
@@ -76,7 +73,7 @@ pub counts_none : (c : AsciiCounter) → c.words ≡ 0 → c.lone_digit ≡ fals
 unfolding ascii has_lone_digit
 counts_none c e f = record { words = e; lone = f }
 
--- one byte more shares the last lone digit's word
+-- one byte more shares the last lone digit's codeword
 pub counts_shared : (c d : AsciiCounter) (b : ℕ) → c.lone_digit ≡ true → is_ascii_digit b ≡ true → d.words ≡ c.words →
     d.lone_digit ≡ false
     → (bytes : List ℕ) → CountsAscii bytes c → CountsAscii (bytes ++ b ∷ []) d

@@ -1,15 +1,14 @@
--- A text in Base 256: its words one after another, how many they are, and that they are read.
+-- A text in Base 256: its codewords one after another, how many they are, and that they are read.
 use Rattle.std.proofs.Common.{◌≡◌, ℕ, ◌+◌, ◌-◌, ◌*◌, ◌/◌, ◌%◌, ◌<◌, ◌≤◌, ◌≢◌, true, false, cond, ◌⊎◌, eqb, leb, List, [], ◌∷◌, ◌++◌, length, refl, subst, append_assoc, arith, inl, inr}
 use Rattle.std.specs.List.{AllByRecursion}
 use Rattle.std.proofs.lemmas.Bool.{cases_lt, eqb-true, le-leb, lt-leb, ne_eqb}
 use Rattle.std.proofs.lemmas.List.{append-nil, length-append, nil_from_length}
-use Rattle.dm_encodation.specs.inner.Counting.{base_256_need}
+use Rattle.dm_encodation.specs.{inner.Counting.base_256_need, Grammar.IsLength, Grammar.Reads, Grammar.randomised}
 use Rattle.dm_encodation.specs.Grammar
-use Rattle.dm_encodation.specs.Grammar.{IsLength, Reads, randomised}
 use Rattle.dm_encodation.specs.Written.{length_words, base_256}
 use Rattle.dm_encodation.proofs.ReadsToReading.{length-randomised, randomised-append}
 
--- the length words of n bytes say n
+-- the length codewords of n bytes say n
 is_length : (n : ℕ) → 0 < n → n ≤ 1555 → IsLength (length_words n) n
 is_length n pos le =
     elim (cases_lt 249 n) [
@@ -20,7 +19,7 @@ is_length n pos le =
       | inr small ↦ let t : leb n 249 ≡ true = le-leb n 249 small in rw t (Grammar.IsLength.one pos (omega arith))
     ]
 
--- the words of a text in Base 256 read as its bytes
+-- the codewords of a text in Base 256 read as its bytes
 pub base_256_read : (p : ℕ) (bytes rest : List ℕ) → AllByRecursion (λ b. b < 256) bytes → length bytes ≤ 1555 →
     ((q : ℕ) → Reads q rest []) → Reads p (base_256 p bytes ++ rest) bytes
 unfolding base_256
@@ -32,7 +31,7 @@ base_256_read p (b ∷ bs) rest fits le more =
     (Grammar.Reads.joined words rest (b ∷ bs) []
     (Grammar.Segment.bytes (length_words n) (is_length n (omega arith) le) fits) (more (p + length words)))
 
--- the latch, the length words and the bytes, counted
+-- the latch, the length codewords and the bytes, counted
 length-length_words : (n : ℕ) → n ≤ 249 ⊎ (249 < n) → 1 + length (length_words n) + n ≡ cond (leb n 249) (n + 2) (n + 3)
 length-length_words n given = grind arith
 
@@ -40,7 +39,7 @@ length-length_words n given = grind arith
 small_or_not : (n : ℕ) → n ≤ 249 ⊎ (249 < n)
 small_or_not n = elim (cases_lt 249 n) [ inl lt ↦ inr lt | inr le ↦ inl le ]
 
--- the number of words in Base 256
+-- the number of codewords in Base 256
 pub length-base_256 : (p : ℕ) (bytes : List ℕ) → length (base_256 p bytes) ≡ base_256_need (length bytes)
 unfolding base_256
 length-base_256 p bytes = grind (arith, ne_eqb, length-length_words, small_or_not, length-randomised, length-append)
@@ -49,12 +48,12 @@ length-base_256 p bytes = grind (arith, ne_eqb, length-length_words, small_or_no
 pub empty_is : (bytes : List ℕ) → eqb (length bytes) 0 ≡ true → bytes ≡ []
 empty_is bytes e = nil_from_length bytes (eqb-true _ _ e)
 
--- an empty text has no words
+-- an empty text has no codewords
 pub base_256_nil : (p : ℕ) (bytes : List ℕ) → bytes ≡ [] → base_256 p bytes ≡ []
 unfolding base_256
 base_256_nil p bytes e = rw e refl
 
--- the words, one part after another
+-- the codewords, one part after another
 pub base_256_parts : (p : ℕ) (bytes out first second third : List ℕ) (q : ℕ) → length bytes ≢ 0 →
     first ≡ out ++ 231 ∷ [] → second ≡ first ++ randomised (p + 1) (length_words (length bytes))
     → q ≡ p + 1 + length (length_words (length bytes)) → third ≡ second ++ randomised q bytes →

@@ -1,29 +1,25 @@
--- What a counter of words says, and how large its numbers are.
+-- What a counter of codewords says, and how large its numbers are.
 use Rattle.std.proofs.Common.{◌≡◌, ℕ, ◌+◌, ◌*◌, ◌<◌, ◌≤◌, ◌^◌, List, [], length, drop, refl, arith}
 use Rattle.std.proofs.lemmas.Bool.{cases_lt, leb-false, lt-leb, ne_eqb, cond_both}
 use Rattle.std.proofs.lemmas.List.{length-take-le, length-drop}
 use Rattle.dm_encodation.specs.inner.Counting.{Counts, CountsRun, IsSmall, IsSmallRun, base_256_need, run_need}
-use Rattle.dm_encodation.specs.declared.counter.AsciiCounter.{AsciiCounter}
-use Rattle.dm_encodation.specs.declared.counter.RunCounter.{RunCounter}
-use Rattle.dm_encodation.specs.declared.counter.Counter.{Counter}
+use Rattle.dm_encodation.specs.declared.counter.{AsciiCounter.AsciiCounter, RunCounter.RunCounter, Counter.Counter}
 use Rattle.dm_encodation.specs.declared.counter.Counter.TheVariants as counters
-use Rattle.dm_encodation.specs.declared.letters.Letters.{Letters}
-use Rattle.dm_encodation.specs.declared.letters.Letters.TheVariants.{Capital, Small}
+use Rattle.dm_encodation.specs.declared.letters.Letters.{Letters, TheVariants.Capital, TheVariants.Small}
 use Rattle.dm_encodation.specs.declared.scheme.Scheme.{Scheme}
 use Rattle.dm_encodation.specs.declared.scheme.Scheme.TheVariants.{Ascii, C40, Text, Base256}
 use Rattle.dm_encodation.specs.Written.{ascii, base_256, run_length, run_and_rest, text, need_of}
-use Rattle.dm_encodation.proofs.AsciiWords.{length-ascii}
-use Rattle.dm_encodation.proofs.Base256Words.{length-base_256}
+use Rattle.dm_encodation.proofs.{AsciiWords.length-ascii, Base256Words.length-base_256}
 use Rattle.dm_encodation.proofs.RunWords.{run_length-nil, run_within, length-values, words_run, run_few}
 
--- ---- how many words a text needs
+-- ---- how many codewords a text needs
 
 -- the need in Base 256 by the number of bytes
 pub need-base_256 : (bytes : List ℕ) → need_of Base256 bytes ≡ base_256_need (length bytes)
 unfolding need_of text
 need-base_256 bytes = grind (arith, cond_both, length-base_256, leb-false, ne_eqb, lt-leb)
 
--- a text has as many words as it needs
+-- a text has as many codewords as it needs
 pub length-text : (scheme : Scheme) (p : ℕ) (bytes : List ℕ) → length (text scheme p bytes) ≡ need_of scheme bytes
 unfolding text need_of
 length-text scheme p bytes = grind (arith, length-base_256, need-base_256)
@@ -33,16 +29,16 @@ run-nil : (t : Letters) → length (run_and_rest t (run_length t []) []) ≡ 0
 unfolding run_and_rest ascii
 run-nil t = rw (run_length-nil t) refl
 
--- an empty text needs no word
+-- an empty text needs no codeword
 pub need-nil : (scheme : Scheme) → need_of scheme [] ≡ 0
 unfolding need_of text ascii base_256
 need-nil scheme = grind (arith, run-nil)
 
--- the need in Base 256 is as many words as bytes, and at most three more
+-- the need in Base 256 is as many codewords as bytes, and at most three more
 few : (n : ℕ) → (n ≤ base_256_need n) × (base_256_need n ≤ n + 3)
 few n = grind arith
 
--- A word stands for at most two bytes, and no text needs many more words than it has bytes.
+-- A codeword stands for at most two bytes, and no text needs many more codewords than it has bytes.
 pub need_near : (scheme : Scheme) (bytes : List ℕ) →
     (length bytes ≤ 2 * need_of scheme bytes) × (need_of scheme bytes ≤ 4 * length bytes + 4)
 unfolding need_of text
@@ -60,7 +56,7 @@ pub words-ascii : (c : AsciiCounter) (scheme : Scheme) (bytes : List ℕ) → Co
 unfolding need_of text
 words-ascii c scheme bytes counts = grind arith
 
--- a run's counter has the number of words
+-- a run's counter has the number of codewords
 counts_run : (t : Letters) (c : RunCounter) (bytes : List ℕ) → CountsRun t bytes c →
     run_need c.run c.after.words ≡ length (run_and_rest t (run_length t bytes) bytes)
 counts_run t c bytes counts = grind (arith, words_run, run_within)

@@ -1,9 +1,7 @@
--- A turn of a loop over the words, and its end.
+-- A turn of a loop over the codewords, and its end.
 use Rattle.std.proofs.Common.{◌≡◌, ℕ, ◌+◌, ◌<◌, ◌≤◌, List, ◌++◌, length, get_or, drop, Result, Ok, Err, sym, ap, ◌∙◌, arith}
 use Rattle.std.proofs.lemmas.List.{append-nil, drop_more, drop_all}
-use Rattle.dm_encodation.specs.declared.mode.Mode.{Mode}
-use Rattle.dm_encodation.specs.declared.mode.Mode.TheVariants.{Padded}
-use Rattle.dm_encodation.specs.declared.fault.DecodeFault.{DecodeFault}
+use Rattle.dm_encodation.specs.declared.{mode.Mode.Mode, mode.Mode.TheVariants.Padded, fault.DecodeFault.DecodeFault}
 use Rattle.dm_encodation.specs.inner.Reading.{prepend, step, finish, reading}
 use Rattle.dm_encodation.proofs.ReadsToReading.{reading_step, prepend-prepend, padded_read}
 
@@ -22,7 +20,7 @@ pub fails_at : (m : Mode) (at : ℕ) (words front : List ℕ) (f : DecodeFault) 
 unfolding reading
 fails_at m at words front f total lt e so_far = grind (arith, drop_more)
 
--- after the last word only the end is left
+-- after the last codeword only the end is left
 at_last : (m : Mode) (at : ℕ) (words : List ℕ) → length words ≤ at → at ≤ length words →
     reading m (at + 1) (drop at words) ≡ finish m (length words + 1)
 unfolding reading

@@ -1,22 +1,19 @@
--- A symbol filled with a text: how many words it has, and that they read as the text alone.
+-- A symbol filled with a text: how many codewords it has, and that they read as the text alone.
 use Rattle.std.proofs.Common.{◌≡◌, ℕ, ◌+◌, ◌-◌, ◌<◌, ◌≤◌, Bool, List, ◌++◌, length, take, drop, append_assoc, arith}
 use Rattle.std.specs.List.{AllByRecursion}
-use Rattle.std.proofs.lemmas.Bool.{and_parts, leb-true, cond_both}
-use Rattle.std.proofs.lemmas.List.{length-append, drop_at}
+use Rattle.std.proofs.lemmas.{Bool.and_parts, Bool.leb-true, Bool.cond_both, List.length-append, List.drop_at}
 use Rattle.std.proofs.Math.Seq.{take-append_seam}
-use Rattle.dm_encodation.specs.declared.scheme.Scheme.{Scheme}
-use Rattle.dm_encodation.specs.Grammar.{Reads, ReadsOnly}
+use Rattle.dm_encodation.specs.{declared.scheme.Scheme.Scheme, Grammar.Reads, Grammar.ReadsOnly}
 use Rattle.dm_encodation.specs.Written.{text, need_of, ends_in_run, words_after_text, filled}
-use Rattle.dm_encodation.proofs.Base256Words.{base_256_read}
-use Rattle.dm_encodation.proofs.Counters.{length-text, short_base_256}
+use Rattle.dm_encodation.proofs.{Base256Words.base_256_read, Counters.length-text, Counters.short_base_256}
 use Rattle.dm_encodation.proofs.Reread.{ascii_read, pads_read, reads_only, length-pads}
 use Rattle.dm_encodation.proofs.RunRead.{run_read_back}
 
--- the words after a text are as many as asked for
+-- the codewords after a text are as many as asked for
 length-words_after_text : (in_run : Bool) (p n : ℕ) → length (words_after_text in_run p n) ≡ n
 length-words_after_text in_run p n = grind (arith, cond_both, leb-true, and_parts, length-pads)
 
--- a filled symbol has all its data words
+-- a filled symbol has all its data codewords
 pub length-filled : (scheme : Scheme) (head bytes : List ℕ) (n : ℕ) → length head + need_of scheme bytes ≤ n →
     length (filled scheme head bytes n) ≡ n
 unfolding filled
@@ -28,7 +25,7 @@ pub take-filled : (scheme : Scheme) (head bytes : List ℕ) (n : ℕ) →
 unfolding filled
 take-filled scheme head bytes n = grind (arith, append_assoc, take-append_seam)
 
--- the words, one part after another
+-- the codewords, one part after another
 pub filled_parts : (scheme : Scheme) (head bytes first second : List ℕ) (in_run : Bool) (p q n : ℕ) →
     first ≡ head ++ text scheme p bytes → p ≡ length head + 1 →
     second ≡ first ++ words_after_text in_run (q + 1) (n - q) → q ≡ length first → in_run ≡ ends_in_run scheme bytes
@@ -47,7 +44,7 @@ unfolding text need_of
 text_read scheme p q n bytes fits short =
     grind (arith, ascii_read, pads_read, run_read_back, base_256_read, short_base_256)
 
--- The words of a filled symbol after its head read as the text alone.
+-- The codewords of a filled symbol after its head read as the text alone.
 pub filled_read : (scheme : Scheme) (head bytes : List ℕ) (n : ℕ) → AllByRecursion (λ b. b < 256) bytes →
     need_of scheme bytes ≤ 1304
     → ReadsOnly (length head + 1) (drop (length head) (filled scheme head bytes n)) bytes

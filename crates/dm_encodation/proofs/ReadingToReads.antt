@@ -1,23 +1,18 @@
--- What is read word by word, the grammar reads.
-use Rattle.std.proofs.lemmas.Grind.{common_steps}
+-- What is read codeword by codeword, the grammar reads.
+use Rattle.std.proofs.lemmas.{Grind.common_steps, List.append-nil, List.length-append, List.Concat.flat_map-append}
 use Rattle.std.proofs.Common.{◌≡◌, ℕ, suc, ◌+◌, ◌-◌, ◌*◌, ◌/◌, ◌%◌, ◌<◌, ◌≤◌, ◌≢◌, ◌⊎◌, inl, inr, Bool, true, false, cond, eqb, leb, ltb, List, [], ◌∷◌, ◌++◌, length, Result, Ok, Err, refl, sym, ap, subst, ◌∙◌, append_assoc, arith}
 use Rattle.std.specs.List.{flat_map, AllByRecursion}
 use Rattle.std.proofs.lemmas.Bool.{eqb-true, eqb-false, leb-true, ltb-true, ltb-false, cases_lt}
-use Rattle.std.proofs.lemmas.List.{append-nil, length-append}
-use Rattle.std.proofs.lemmas.List.Concat.{flat_map-append}
-use Rattle.dm_encodation.specs.declared.letters.Letters.{Letters}
-use Rattle.dm_encodation.specs.declared.mode.Pending.{Pending}
-use Rattle.dm_encodation.specs.declared.mode.Mode.{Mode}
+use Rattle.dm_encodation.specs.declared.{letters.Letters.Letters, mode.Pending.Pending, mode.Mode.Mode}
 use Rattle.dm_encodation.specs.declared.mode.Mode.TheVariants.{Ascii, Upper, Run, Half, Length, LongLength, Bytes, Rest, Padded}
 use Rattle.dm_encodation.specs.declared.fault.DecodeFault.TheVariants.{Reserved}
 use Rattle.dm_encodation.specs.Grammar.{Triple, IsTriple, triple_values, pair, state_255, randomised, latch, IsLength, Segment, Reads}
 use Rattle.dm_encodation.specs.Grammar
 use Rattle.dm_encodation.specs.inner.Reading.{◌>>=◌, prepend, Stepped, Valued, no_pending, upper_step, at_pair, pair_step, values_step, value_255, bytes_left, step, ended, finish, reading}
-use Rattle.dm_encodation.proofs.AsciiStepCases.{AsciiStep, ascii_view}
+use Rattle.dm_encodation.proofs.{AsciiStepCases.AsciiStep, AsciiStepCases.ascii_view, TakenValues.chars_from}
 use Rattle.dm_encodation.proofs.ReadsToReading.{bind_ok, ok_is, values_joined, randomised-append, length-randomised}
-use Rattle.dm_encodation.proofs.TakenValues.{chars_from}
 
--- Where a reader stands: the mode, where its segment began, the segment's words so far, and the bytes given since.
+-- Where a reader stands: the mode, where its segment began, the segment's codewords so far, and the bytes given since.
 pub data InMode : Mode → ℕ → List ℕ → List ℕ → Type 0 where
   ascii : {p : ℕ} → InMode Ascii p [] []
   upper : {p : ℕ} → InMode Upper p (235 ∷ []) []
@@ -35,7 +30,7 @@ pub data InMode : Mode → ℕ → List ℕ → List ℕ → Type 0 where
   rest : {p : ℕ} (bs : List ℕ) → AllByRecursion (λ b. b < 256) bs → InMode Rest p (231 ∷ randomised (p + 1) (0 ∷ bs)) bs
   padded : {p : ℕ} (any : List ℕ) → InMode Padded p (129 ∷ any) []
 
--- After one more word: the segment goes on, or it is whole.
+-- After one more codeword: the segment goes on, or it is whole.
 abbrev pub Advanced : ℕ → List ℕ → List ℕ → Mode → Type 0
 Advanced p words given m = InMode m p words given ⊎ ((m ≡ Ascii) × ((after : List ℕ) → Segment p words after given))
 
@@ -115,7 +110,7 @@ takes_pair t s p w x out lt e =
       out_is = c.2;
     }
 
--- ---- one more word
+-- ---- one more codeword
 
 from_ascii : {p w : ℕ} {out : Mode × List ℕ} (q : ℕ) → AsciiStep p w (Ok out) → Advanced q (w ∷ []) out.1 out.0
 from_ascii q (AsciiStep.character b lt e) = grind (arith, Grammar.Segment.character)
@@ -250,7 +245,7 @@ nothing_more : {q : ℕ} (front given : List ℕ) → Segment q front [] given �
 nothing_more {q = q} front given segment =
     grind (arith, Grammar.Reads.joined, Grammar.Reads.nothing, append-nil front, append-nil given)
 
--- a last word in ASCII
+-- a last codeword in ASCII
 single : {p a : ℕ} {r : Stepped} (q k : ℕ) (bs : List ℕ) → AsciiStep p a r →
     (r >>= λ n. prepend n.1 (ended n.0 k)) ≡ Ok bs → Reads q (a ∷ []) bs
 single q k bs (AsciiStep.nothing x) e = absurd cc
@@ -265,7 +260,7 @@ single {a = a} q k bs (AsciiStep.to_run t is) e =
 single q k bs (AsciiStep.to_bytes is) e = absurd cc
 single q k bs (AsciiStep.to_upper is) e = absurd cc
 
--- the end of the words
+-- the end of the codewords
 at_end : {m : Mode} {q : ℕ} {front given : List ℕ} (p : ℕ) (bs : List ℕ) → InMode m q front given → finish m p ≡ Ok bs →
     Reads q front (given ++ bs)
 unfolding finish

@@ -1,25 +1,19 @@
--- Where reading word by word fails, the words are stuck.
-use Rattle.std.proofs.lemmas.Grind.{common_steps}
+-- Where reading codeword by codeword fails, the codewords are stuck.
+use Rattle.std.proofs.lemmas.{Grind.common_steps, Bool.eqb-false, Bool.ltb-false, List.append-nil, List.length-append}
 use Rattle.std.proofs.Common.{◌≡◌, ℕ, suc, ◌+◌, ◌-◌, ◌*◌, ◌/◌, ◌%◌, ◌<◌, ◌≤◌, ◌⊎◌, inl, inr, eqb, ltb, List, [], ◌∷◌, ◌++◌, length, get_or, take, Result, Ok, Err, refl, sym, subst, append_assoc, arith}
 use Rattle.std.specs.List.{flat_map, AllByRecursion}
-use Rattle.std.proofs.lemmas.Bool.{eqb-false, ltb-false}
-use Rattle.std.proofs.lemmas.List.{append-nil, length-append}
-use Rattle.dm_encodation.specs.declared.letters.Letters.{Letters}
-use Rattle.dm_encodation.specs.declared.mode.Pending.{Pending}
-use Rattle.dm_encodation.specs.declared.mode.Mode.{Mode}
+use Rattle.dm_encodation.specs.declared.{letters.Letters.Letters, mode.Pending.Pending, mode.Mode.Mode}
 use Rattle.dm_encodation.specs.declared.mode.Mode.TheVariants.{Ascii, Length, LongLength}
-use Rattle.dm_encodation.specs.declared.mode.ValueFault.{ValueFault}
-use Rattle.dm_encodation.specs.declared.mode.ValueFault.TheVariants.{Fnc1, Missing}
+use Rattle.dm_encodation.specs.declared.mode.ValueFault.{ValueFault, TheVariants.Fnc1, TheVariants.Missing}
 use Rattle.dm_encodation.specs.declared.fault.DecodeFault.{DecodeFault}
 use Rattle.dm_encodation.specs.Grammar.{Triple, IsTriple, triple_values, pair, IsMeaningless, state_255, latch, Segment, BadPair, StuckHere, Stuck}
 use Rattle.dm_encodation.specs.Grammar
 use Rattle.dm_encodation.specs.inner.Reading.{◌>>=◌, prepend, Stepped, Valued, no_pending, value_step, ascii_step, upper_step, at_pair, pair_step, values_step, value_255, step, ended, finish, reading}
 use Rattle.dm_encodation.proofs.AsciiStepCases.{AsciiStep, ascii_view}
-use Rattle.dm_encodation.proofs.ReadsToReading.{chars_step, values_joined}
+use Rattle.dm_encodation.proofs.ReadsToReading.{chars_step, values_joined, randomised-append, length-randomised}
 use Rattle.dm_encodation.proofs.ReadingToReads.{chosen, values_below}
 use Rattle.dm_encodation.proofs.TakenValues.{chars_from, tail_of}
 use Rattle.dm_encodation.proofs.ReadingToReads.{InMode, advance, state_255-value_255, value_255-below}
-use Rattle.dm_encodation.proofs.ReadsToReading.{randomised-append, length-randomised}
 use Rattle.dm_encodation.proofs.StuckToReading.{fnc1_is, fnc1_from, values_fail, second_tail, second_set, append_below, ok_err, moved, moved_back}
 
 bind_err : {A B E : Type 0} (r : Result A E) (g : A → Result B E) (f : E) → (r >>= g) ≡ Err f →
@@ -166,7 +160,7 @@ bad_pair_from t s p triples a x given f lt fits taken e =
           ]
     ]
 
--- ---- one word that fails
+-- ---- one codeword that fails
 
 here_nothing : {p w : ℕ} {r : Stepped} (q : ℕ) (after : List ℕ) (f : DecodeFault) → p ≡ q → AsciiStep p w r →
     r ≡ Err f → StuckHere q (w ∷ after) f
@@ -209,7 +203,7 @@ step_fails w after f (InMode.bytes len bs is fits) lt e = absurd (ok_err _ _ e)
 step_fails w after f (InMode.rest bs fits) lt e = absurd (ok_err _ _ e)
 step_fails w after f (InMode.padded any) lt e = absurd (ok_err _ _ e)
 
--- ---- the end of the words
+-- ---- the end of the codewords
 
 abbrev ended_as : DecodeFault → Result (List ℕ) DecodeFault
 ended_as f = Err f

@@ -1,16 +1,11 @@
--- What the grammar reads is read word by word.
-use Rattle.std.proofs.lemmas.Grind.{common_steps}
+-- What the grammar reads is read codeword by codeword.
+use Rattle.std.proofs.lemmas.{Grind.common_steps, List.append-nil, List.length-append}
 use Rattle.std.proofs.Common.{◌≡◌, ℕ, zero, suc, ◌+◌, ◌-◌, ◌*◌, ◌/◌, ◌%◌, ◌<◌, Bool, true, false, cond, ◌&&◌, eqb, leb, ltb, List, [], ◌∷◌, ◌++◌, length, Result, Ok, refl, sym, ap, subst, ◌∙◌, append_assoc, arith}
 use Rattle.std.specs.List.{flat_map, AllByRecursion}
 use Rattle.std.proofs.lemmas.Bool.{ne_eqb, lt-ltb, le-ltb, agree_below, agree_below_at, and_parts, eqb-true}
-use Rattle.std.proofs.lemmas.List.{append-nil, length-append}
-use Rattle.dm_encodation.specs.declared.letters.Letters.{Letters}
-use Rattle.dm_encodation.specs.declared.mode.Set.{Set}
-use Rattle.dm_encodation.specs.declared.mode.Set.TheVariants.{Basic}
-use Rattle.dm_encodation.specs.declared.mode.Pending.{Pending}
-use Rattle.dm_encodation.specs.declared.mode.Mode.{Mode}
+use Rattle.dm_encodation.specs.declared.{letters.Letters.Letters, mode.Set.Set, mode.Set.TheVariants.Basic}
+use Rattle.dm_encodation.specs.declared.{mode.Pending.Pending, mode.Mode.Mode, fault.DecodeFault.DecodeFault}
 use Rattle.dm_encodation.specs.declared.mode.Mode.TheVariants.{Ascii, Upper, Run, Half, Length, LongLength, Bytes, Rest, Padded}
-use Rattle.dm_encodation.specs.declared.fault.DecodeFault.{DecodeFault}
 use Rattle.dm_encodation.specs.Grammar
 use Rattle.dm_encodation.specs.Grammar.{values_below_128, Unfinished, values_of, Triple, IsTriple, triple_values, pair, Chars, state_255, randomised, latch, IsLength, EndsOpen, Segment, Reads}
 use Rattle.dm_encodation.proofs.AsciiStepCases.{AsciiStep, ascii_view}
@@ -28,7 +23,7 @@ step_upper : (p b : ℕ) → b < 128 → upper_step p (b + 1) ≡ Ok (Ascii, (b 
 unfolding upper_step
 step_upper p b lt = grind arith
 
--- one word, then the rest
+-- one codeword, then the rest
 pub reading_step : (m : Mode) (p w : ℕ) (ws : List ℕ) (n : Mode) (bs : List ℕ) → step m p w ≡ Ok (n, bs) →
     reading m p (w ∷ ws) ≡ prepend bs (reading n (p + 1) ws)
 unfolding reading
@@ -41,7 +36,7 @@ pub prepend-prepend : (xs ys : List ℕ) (r : Result (List ℕ) DecodeFault) →
     prepend xs (prepend ys r) ≡ prepend (xs ++ ys) r
 prepend-prepend xs ys r = grind (arith, append_assoc)
 
--- a word that gives no bytes
+-- a codeword that gives no bytes
 pub reading_silent : (m : Mode) (p w : ℕ) (ws : List ℕ) (n : Mode) → step m p w ≡ Ok (n, []) →
     reading m p (w ∷ ws) ≡ reading n (p + 1) ws
 reading_silent m p w ws n e = reading_step m p w ws n [] e ∙ prepend-nil (reading n (p + 1) ws)
@@ -260,7 +255,7 @@ pub step_latch : (t : Letters) (p : ℕ) → step Ascii p (latch t) ≡ Ok (Run 
 unfolding step ascii_step
 step_latch t p = grind arith
 
--- a word read in ASCII leaves no half pair
+-- a codeword read in ASCII leaves no half pair
 never_half : (p k w : ℕ) (r : Stepped) → AsciiStep p w r →
     (r >>= λ n. prepend n.1 (ended n.0 k)) ≡ (r >>= λ n. prepend n.1 (finish n.0 k))
 unfolding finish

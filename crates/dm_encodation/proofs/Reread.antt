@@ -1,21 +1,15 @@
 -- What is written is read.
 use Rattle.std.proofs.Common.{◌≡◌, ℕ, zero, suc, ◌+◌, ◌-◌, ◌*◌, ◌<◌, ◌≤◌, inl, inr, true, ◌&&◌, List, [], ◌∷◌, ◌++◌, length, get_or, drop, Result, Ok, Err, refl, sym, ap, subst, append_assoc, arith}
-use Rattle.std.specs.List.{AllByRecursion}
-use Rattle.std.specs.Char.{is_ascii_digit}
+use Rattle.std.specs.{List.AllByRecursion, Char.is_ascii_digit}
 use Rattle.std.proofs.lemmas.Bool.{and_parts, leb-true, lt-ltb, le-ltb, cases_lt, cond_both}
 use Rattle.std.proofs.lemmas.List.{append-nil, get_or-drop}
-use Rattle.dm_encodation.specs.declared.mode.Mode.TheVariants.{Ascii}
+use Rattle.dm_encodation.specs.{declared.mode.Mode.TheVariants.Ascii, Written.ascii_byte, Written.ascii}
 use Rattle.dm_encodation.specs.Grammar.{pads, later_pads, state_253, Segment, Reads, Stuck, StuckHere, BadPair, StuckOnly, ReadsOnly, Triple}
-use Rattle.dm_encodation.specs.Written.{ascii_byte, ascii}
 use Rattle.dm_encodation.specs.Grammar
-use Rattle.dm_encodation.specs.inner.Reading.{reading}
-use Rattle.dm_encodation.specs.declared.letters.Letters.{Letters}
-use Rattle.dm_encodation.specs.declared.fault.DecodeFault.{DecodeFault}
-use Rattle.dm_encodation.specs.declared.fault.DecodeFault.TheVariants.{Memory}
-use Rattle.dm_encodation.proofs.ReadsToReading.{complete, ok_is}
-use Rattle.dm_encodation.proofs.ReadingToReads.{reads_from}
-use Rattle.dm_encodation.proofs.StuckToReading.{complete_stuck}
-use Rattle.dm_encodation.proofs.ReadingToStuck.{stuck_from}
+use Rattle.dm_encodation.specs.{inner.Reading.reading, declared.letters.Letters.Letters}
+use Rattle.dm_encodation.specs.declared.fault.DecodeFault.{DecodeFault, TheVariants.Memory}
+use Rattle.dm_encodation.proofs.{ReadsToReading.complete, ReadsToReading.ok_is, ReadingToReads.reads_from}
+use Rattle.dm_encodation.proofs.{StuckToReading.complete_stuck, ReadingToStuck.stuck_from}
 
 -- bytes, each by its place
 pub below_256 : (bytes : List ℕ) → ((i : ℕ) → get_or bytes i 0 < 256) → AllByRecursion (λ b. b < 256) bytes
@@ -46,7 +40,7 @@ no_memory_pair t p triples w x b = elim b [ ]
 no_memory_here : (p : ℕ) (words : List ℕ) → StuckHere p words Memory → ⊥
 no_memory_here p words (Grammar.StuckHere.bad_pair triples after fits chars ne bad) = no_memory_pair _ _ _ _ _ bad
 
--- Want of memory is no fault of the words.
+-- Want of memory is no fault of the codewords.
 pub no_memory : {p : ℕ} {words : List ℕ} → Stuck p words Memory → ⊥
 no_memory (Grammar.Stuck.here h) = no_memory_here _ _ h
 no_memory (Grammar.Stuck.later words after bytes segment rest) = no_memory rest

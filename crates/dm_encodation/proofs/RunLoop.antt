@@ -2,11 +2,8 @@
 use Rattle.std.proofs.Common.{arith, ◌≡◌, ℕ, ◌≤◌, List, [], ◌++◌, length, take}
 use Rattle.std.specs.List.{flat_map}
 use Rattle.std.proofs.lemmas.List.{append-nil, take_all}
-use Rattle.dm_encodation.specs.declared.letters.Letters.{Letters}
-use Rattle.dm_encodation.specs.declared.run.Held.{Held}
-use Rattle.dm_encodation.specs.Grammar.{values_of}
-use Rattle.dm_encodation.specs.Written.{pairs}
-use Rattle.dm_encodation.specs.inner.Counting.{held_values}
+use Rattle.dm_encodation.specs.{declared.letters.Letters.Letters, declared.run.Held.Held, Grammar.values_of}
+use Rattle.dm_encodation.specs.{Written.pairs, inner.Counting.held_values}
 
 -- values that wait are no pair
 pairs_held : (h : Held) → pairs (held_values h ++ []) ≡ []

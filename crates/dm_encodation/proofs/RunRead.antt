@@ -8,8 +8,7 @@ use Rattle.dm_encodation.specs.declared.letters.Letters.{Letters}
 use Rattle.dm_encodation.specs.Grammar
 use Rattle.dm_encodation.specs.Grammar.{Triple, IsTriple, triple_values, pair, Chars, values_below_128, values_of, pads, latch, EndsOpen, Segment, Reads}
 use Rattle.dm_encodation.specs.Written.{ascii, run_length, is_whole_run, pairs, words_after_run, run_and_rest, words_after_text}
-use Rattle.dm_encodation.proofs.Reread.{ascii_read, pads_read}
-use Rattle.dm_encodation.proofs.RunWords.{run_within, run_passes}
+use Rattle.dm_encodation.proofs.{Reread.ascii_read, Reread.pads_read, RunWords.run_within, RunWords.run_passes}
 use Rattle.dm_encodation.proofs.StuckToReading.{append_below}
 
 all_below : (t : Letters) → agree_below (λ b. list_all (λ v. ltb v 40) (values_of t b)) (λ _. true) 256 ≡ true
@@ -65,7 +64,7 @@ closed_run_read t p bytes more after fits threes_of reads =
     let read : Reads p (words ++ after) (bytes ++ more) = search (arith, Grammar.Reads.joined, Grammar.Segment.run) in
     grind (arith, append_assoc (flat_map pair r.triples) (254 ∷ []) after)
 
--- a run with at most one word after it, a pad
+-- a run with at most one codeword after it, a pad
 ends_open : (q n : ℕ) → n < 2 → EndsOpen (pads q n)
 ends_open q n lt = grind arith
 
@@ -127,7 +126,7 @@ rest_read t k bytes p q n (b ∷ bs) e fits within passes = grind (
   append_assoc,
 )
 
--- A text in C40 or Text, and the words that fill the room after it.
+-- A text in C40 or Text, and the codewords that fill the room after it.
 run_text_read : (t : Letters) (k : ℕ) (bytes : List ℕ) (p q n : ℕ) → AllByRecursion (λ b. b < 256) bytes →
     k ≤ length bytes → (0 < k → length (flat_map (values_of t) (take k bytes)) % 3 ≡ 0)
     → Reads p (run_and_rest t k bytes ++ words_after_text (ltb 0 k && eqb k (length bytes)) q n) bytes

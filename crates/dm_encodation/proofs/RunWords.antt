@@ -1,14 +1,12 @@
--- The run of a text in C40 or Text: how far it goes, byte by byte, and how many words it takes.
-use Rattle.std.proofs.lemmas.Grind.{common_steps}
+-- The run of a text in C40 or Text: how far it goes, byte by byte, and how many codewords it takes.
+use Rattle.std.proofs.lemmas.{Grind.common_steps, Bool.eqb-true, Bool.eq-eqb, Bool.ne_eqb, Bool.cond_both}
 use Rattle.std.proofs.Common.{◌≡◌, ◌≢◌, ℕ, zero, suc, ◌+◌, ◌*◌, ◌/◌, ◌%◌, ◌<◌, ◌≤◌, Bool, true, false, cond, eqb, List, [], ◌∷◌, ◌++◌, length, get_or, take, drop, refl, append_assoc, arith}
 use Rattle.std.specs.List.{flat_map}
-use Rattle.std.proofs.lemmas.Bool.{eqb-true, eq-eqb, ne_eqb, cond_both}
 use Rattle.std.proofs.lemmas.List.{append-nil, length-append, length_push, length-take-le, length-drop, take_more, take_all, drop_all, take-append-le, drop-append-le}
 use Rattle.std.proofs.lemmas.List.Concat.{flat_map-append}
 use Rattle.dm_encodation.specs.Grammar.{values_below_128, values_of, latch}
 use Rattle.dm_encodation.specs.inner.Counting.{CountsAscii, CountsRun, run_need}
-use Rattle.dm_encodation.specs.declared.counter.RunCounter.{RunCounter}
-use Rattle.dm_encodation.specs.declared.letters.Letters.{Letters}
+use Rattle.dm_encodation.specs.declared.{counter.RunCounter.RunCounter, letters.Letters.Letters}
 use Rattle.dm_encodation.specs.Written.{ascii, greatest, run_length, pairs, words_after_run, run_and_rest}
 use Rattle.dm_encodation.proofs.AsciiWords.{some_ascii, length-ascii}
 
@@ -111,7 +109,7 @@ pub counts_run_open : (t : Letters) (c d : RunCounter) (b : ℕ) → d.values �
 counts_run_open t c d b values open_triple run more bytes counts =
     grind (arith, values_more, run_length-open, take-append-le, run_within, drop-append-le)
 
--- ---- how many words
+-- ---- how many codewords
 
 pub length-pairs : (vs : List ℕ) → length (pairs vs) ≡ length vs / 3 * 2
 length-pairs [] = refl
@@ -174,7 +172,7 @@ pub whole_same : (t : Letters) (bytes : List ℕ) (i n : ℕ) → i < length byt
     run_length t (take i bytes) ≡ run_length t (take (i + 1) bytes)
 whole_same t bytes i n lt n-is open_triple = let more = take_more bytes i 0 lt in grind (arith, run_length-open)
 
--- ---- the words, one part after another
+-- ---- the codewords, one part after another
 
 pub run_none : (t : Letters) (k : ℕ) (bytes : List ℕ) → k ≡ 0 → run_and_rest t k bytes ≡ ascii bytes
 unfolding run_and_rest

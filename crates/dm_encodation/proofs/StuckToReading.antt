@@ -1,24 +1,18 @@
--- Where the words are stuck, reading word by word fails so, and the other way round.
-use Rattle.std.proofs.lemmas.Grind.{common_steps}
+-- Where the codewords are stuck, reading codeword by codeword fails so, and the other way round.
+use Rattle.std.proofs.lemmas.{Grind.common_steps, Bool.ne_eqb, Bool.le-ltb}
 use Rattle.std.proofs.Common.{◌≡◌, ℕ, zero, suc, ◌+◌, ◌-◌, ◌<◌, ◌≤◌, ◌⊎◌, inl, inr, Bool, true, false, eqb, List, [], ◌∷◌, ◌++◌, length, get_or, take, Ok, Err, refl, sym, ap, subst, ◌∙◌, append_assoc, arith}
 use Rattle.std.specs.List.{flat_map, AllByRecursion}
-use Rattle.std.proofs.lemmas.Bool.{ne_eqb, le-ltb}
-use Rattle.dm_encodation.specs.declared.letters.Letters.{Letters}
-use Rattle.dm_encodation.specs.declared.mode.Set.{Set}
+use Rattle.dm_encodation.specs.declared.{letters.Letters.Letters, mode.Set.Set, mode.Pending.Pending, mode.Mode.Mode}
 use Rattle.dm_encodation.specs.declared.mode.Set.TheVariants.{Basic, First, Second, Third}
-use Rattle.dm_encodation.specs.declared.mode.Pending.{Pending}
-use Rattle.dm_encodation.specs.declared.mode.Mode.{Mode}
 use Rattle.dm_encodation.specs.declared.mode.Mode.TheVariants.{Ascii, Run, Half, Length, LongLength}
-use Rattle.dm_encodation.specs.declared.mode.ValueFault.{ValueFault}
-use Rattle.dm_encodation.specs.declared.mode.ValueFault.TheVariants.{Fnc1, Missing}
+use Rattle.dm_encodation.specs.declared.mode.ValueFault.{ValueFault, TheVariants.Fnc1, TheVariants.Missing}
 use Rattle.dm_encodation.specs.declared.fault.DecodeFault.{DecodeFault}
 use Rattle.dm_encodation.specs.declared.fault.DecodeFault.TheVariants.{Unsupported, Reserved, Cut}
 use Rattle.dm_encodation.specs.Grammar
 use Rattle.dm_encodation.specs.Grammar.{Unfinished, Triple, IsTriple, triple_values, pair, IsMeaningless, state_255, randomised, latch, IsUnsupported, BadPair, StuckHere, Stuck}
 use Rattle.dm_encodation.specs.inner.Reading.{◌>>=◌, prepend, Stepped, Valued, no_pending, value_step, ascii_step, upper_step, at_pair, pair_step, values_step, bytes_left, step, finish, reading}
-use Rattle.dm_encodation.proofs.AsciiStepCases.{AsciiStep, ascii_view}
+use Rattle.dm_encodation.proofs.{AsciiStepCases.AsciiStep, AsciiStepCases.ascii_view, ReadingToReads.values_below}
 use Rattle.dm_encodation.proofs.ReadsToReading.{bind_ok, ok_is, reading_silent, complete_segment, length_read, run_read, chars_step, characters_read, pair_is, step_latch, value_255-state_255, values_joined, splits}
-use Rattle.dm_encodation.proofs.ReadingToReads.{values_below}
 use Rattle.dm_encodation.proofs.TakenValues.{chars_from, tail_of, tail_at}
 
 reading_fault : (m : Mode) (p w : ℕ) (ws : List ℕ) (f : DecodeFault) → step m p w ≡ Err f → reading m p (w ∷ ws) ≡ Err f

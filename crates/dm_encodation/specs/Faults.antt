@@ -1,8 +1,7 @@
 -- The names of the faults, as a refusal prints them: each is the name of its variant.
 use Rattle.std.specs.Prelude.{ℕ, List, codes}
-use Rattle.dm_encodation.specs.declared.fault.EncodeFault.{EncodeFault}
+use Rattle.dm_encodation.specs.declared.fault.{EncodeFault.EncodeFault, DecodeFault.DecodeFault}
 use Rattle.dm_encodation.specs.declared.fault.EncodeFault.TheVariants as encode_faults
-use Rattle.dm_encodation.specs.declared.fault.DecodeFault.{DecodeFault}
 use Rattle.dm_encodation.specs.declared.fault.DecodeFault.TheVariants as decode_faults
 
 abbrev pub encode_fault_name : EncodeFault → List ℕ

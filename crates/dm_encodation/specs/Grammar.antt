@@ -1,8 +1,7 @@
--- What a symbol's data words read as, and their characters and pads (ISO/IEC 16022:2006, 5.2 and Annex B).
+-- What a symbol's data codewords read as, and their characters and pads (ISO/IEC 16022:2006, 5.2 and Annex B).
 use Rattle.std.specs.Prelude.{◌≡◌, ℕ, ◌+◌, ◌-◌, ◌*◌, ◌/◌, ◌%◌, ◌<◌, ◌⊎◌, List, [], ◌∷◌, ◌++◌, nat_lt, if◌then◌else◌, zero, suc, nat_le, ◌≢◌, ◌≤◌, length, take, get_or}
 use Rattle.std.specs.List.{flat_map, AllByRecursion}
-use Rattle.dm_encodation.specs.declared.letters.Letters.{Letters}
-use Rattle.dm_encodation.specs.declared.letters.Letters.TheVariants.{Capital, Small}
+use Rattle.dm_encodation.specs.declared.letters.Letters.{Letters, TheVariants.Capital, TheVariants.Small}
 use Rattle.dm_encodation.specs.declared.fault.DecodeFault.{DecodeFault}
 use Rattle.dm_encodation.specs.declared.fault.DecodeFault.TheVariants.{Unsupported, Reserved, Cut}
 
@@ -56,7 +55,7 @@ pub record IsMeaningless (t : Letters) (values : List ℕ) (v : ℕ) : Type 0 wh
 abbrev pub IsFnc1 : {t : Letters} {values : List ℕ} {v : ℕ} → IsMeaningless t values v → Type 0
 IsFnc1 {v = v} m = (v ≡ 27) × ((m.before.tail ≡ 1 ∷ []) ⊎ (m.before.tail ≡ 1 ∷ 30 ∷ 1 ∷ []))
 
--- Three values of a run: they make a number, and that makes two words, a pair.
+-- Three values of a run: they make a number, and that makes two codewords, a pair.
 pub record Triple : Type 0 where
   pub first : ℕ
   pub second : ℕ
@@ -70,12 +69,12 @@ IsTriple t = (t.first < 40) × (t.second < 40) × (t.third < 40)
 abbrev pub triple_values : Triple → List ℕ
 triple_values t = t.first ∷ t.second ∷ t.third ∷ []
 
--- the two words of three values
+-- the two codewords of three values
 abbrev pub pair : Triple → List ℕ
 pair t = let v = 1600 * t.first + 40 * t.second + t.third + 1 in (v / 256) ∷ (v % 256) ∷ []
 
 -- ---- Words that depend on where they stand: pads (the 253-state algorithm) and Base 256 (the 255-state algorithm) of
--- ISO/IEC 16022:2006, Annex B. A position counts the symbol's data words from 1.
+-- ISO/IEC 16022:2006, Annex B. A position counts the symbol's data codewords from 1.
 
 -- the 255-state algorithm: how a value of Base 256 stands at position p
 unfoldable pub state_255 : ℕ → ℕ → ℕ
@@ -100,27 +99,27 @@ abbrev pub pads : ℕ → ℕ → List ℕ
 pads p zero = []
 pads p (suc n) = 129 ∷ later_pads (p + 1) n
 
--- ---- What a symbol's data words read as, from ASCII on, and where they are stuck (ISO/IEC 16022:2006, 5.2). How a run
--- of C40 or Text ends, and what a pending shift does there, is this project's own rule.
+-- ---- What a symbol's data codewords read as, from ASCII on, and where they are stuck (ISO/IEC 16022:2006, 5.2). How a
+-- run of C40 or Text ends, and what a pending shift does there, is this project's own rule.
 
--- the word that begins a run
+-- the codeword that begins a run
 abbrev pub latch : Letters → ℕ
 latch Capital = 230
 latch Small = 239
 
--- These are the length words of n bytes, before they are randomised.
+-- These are the length codewords of n bytes, before they are randomised.
 pub data IsLength : List ℕ → ℕ → Type 0 where
   one : {n : ℕ} → 0 < n → n < 250 → IsLength (n ∷ []) n
   two : {v w : ℕ} → 250 ≤ v → v < 256 → w < 250 → IsLength (v ∷ w ∷ []) (250 * (v - 249) + w)
 
--- what may follow a run that 254 doesn't end: no word, or one word that isn't 254
+-- what may follow a run that 254 doesn't end: no codeword, or one codeword that isn't 254
 abbrev pub EndsOpen : List ℕ → Type 0
 EndsOpen [] = Unit {0}
 EndsOpen (w ∷ []) = w ≢ 254
 EndsOpen (_ ∷ _ ∷ _) = ⊥
 
--- Segment p words after bytes: these words, the first at position p, are one segment that says these bytes, where
--- the words `after` follow them to the end.
+-- Segment p words after bytes: these codewords, the first at position p, are one segment that says these bytes, where
+-- the codewords `after` follow them to the end.
 pub data Segment : ℕ → List ℕ → List ℕ → List ℕ → Type 0 where
   character : {p b : ℕ} {after : List ℕ} → b < 128 → Segment p ((b + 1) ∷ []) after (b ∷ [])
   digits : {p m n : ℕ} {after : List ℕ} → m < 10 → n < 10
@@ -136,7 +135,7 @@ pub data Segment : ℕ → List ℕ → List ℕ → List ℕ → Type 0 where
       → Segment p (231 ∷ randomised (p + 1) (len ++ bs)) after bs
   rest : {p : ℕ} {bs : List ℕ} → AllByRecursion (λ b. b < 256) bs → Segment p (231 ∷ randomised (p + 1) (0 ∷ bs)) [] bs
 
--- Reads p words bytes: from position p on the words are segments and the end of the text, and these are their bytes.
+-- Reads p words bytes: from position p on the codewords are segments and the end of the text, which are these bytes.
 pub data Reads : ℕ → List ℕ → List ℕ → Type 0 where
   nothing : {p : ℕ} → Reads p [] []
   padded : {p : ℕ} {any : List ℕ} → Reads p (129 ∷ any) []
@@ -147,8 +146,8 @@ pub data Reads : ℕ → List ℕ → List ℕ → Type 0 where
 abbrev pub IsUnsupported : ℕ → Type 0
 IsUnsupported w = ((232 ≤ w) × (w ≤ 234)) ⊎ ((236 ≤ w) × (w ≤ 238)) ⊎ (w ≡ 240) ⊎ (w ≡ 241)
 
--- The words w x are the next pair of a run after these triples, and the value at this place of the pair is the first of
--- the run that has no meaning.
+-- The codewords w x are the next pair of a run after these triples, and the value at this place of the pair is the
+-- first of the run that has no meaning.
 pub record NextMeaningless (t : Letters) (triples : List Triple) (w x : ℕ) : Type 0 where
   pub next : Triple
   pub place : ℕ
@@ -158,7 +157,7 @@ pub record NextMeaningless (t : Letters) (triples : List Triple) (w x : ℕ) : T
   pub meaningless : IsMeaningless t (flat_map triple_values triples ++ take place (triple_values next))
       (get_or (triple_values next) place 0)
 
--- After these triples of a run, the words w x aren't another pair of it.
+-- After these triples of a run, the codewords w x aren't another pair of it.
 pub data BadPair (t : Letters) : ℕ → List Triple → ℕ → ℕ → DecodeFault → Type 0 where
   no_value : {p w x : ℕ} {triples : List Triple} → (256 * w + x ≡ 0) ⊎ (64000 < 256 * w + x)
       → BadPair t p triples w x (Reserved p w)
@@ -167,7 +166,7 @@ pub data BadPair (t : Letters) : ℕ → List Triple → ℕ → ℕ → DecodeF
   meaningless : {p w x : ℕ} {triples : List Triple} (n : NextMeaningless t triples w x) → (IsFnc1 n.meaningless → ⊥)
       → BadPair t p triples w x (Reserved p w)
 
--- StuckHere p words fault: a segment should begin at position p, but these words stand there to the end.
+-- StuckHere p words fault: a segment should begin at position p, but these codewords stand there to the end.
 pub data StuckHere : ℕ → List ℕ → DecodeFault → Type 0 where
   unsupported : {p w : ℕ} {after : List ℕ} → IsUnsupported w → StuckHere p (w ∷ after) (Unsupported p w)
   reserved : {p w : ℕ} {after : List ℕ} → (w ≡ 0) ⊎ (242 ≤ w) → StuckHere p (w ∷ after) (Reserved p w)
@@ -185,19 +184,19 @@ pub data StuckHere : ℕ → List ℕ → DecodeFault → Type 0 where
       → BadPair t (p + 1 + length (flat_map pair triples)) triples w x fault
       → StuckHere p (latch t ∷ (flat_map pair triples ++ w ∷ x ∷ after)) fault
 
--- Stuck p words fault: whole segments stand from position p on, and then the words are stuck with this fault.
+-- Stuck p words fault: whole segments stand from position p on, and then the codewords are stuck with this fault.
 pub data Stuck : ℕ → List ℕ → DecodeFault → Type 0 where
   here : {p : ℕ} {words : List ℕ} {fault : DecodeFault} → StuckHere p words fault → Stuck p words fault
   later : {p : ℕ} {fault : DecodeFault} (words after bytes : List ℕ) → Segment p words after bytes
       → Stuck (p + length words) after fault → Stuck p (words ++ after) fault
 
--- From position p on the words read as these bytes, as no others, and are stuck nowhere.
+-- From position p on the codewords read as these bytes, as no others, and are stuck nowhere.
 pub record ReadsOnly (p : ℕ) (words bytes : List ℕ) : Type 0 where
   pub reads : Reads p words bytes
   pub only : (others : List ℕ) → Reads p words others → others ≡ bytes
   pub unstuck : (fault : DecodeFault) → Stuck p words fault → ⊥
 
--- From position p on the words are stuck with this fault alone, and read as nothing.
+-- From position p on the codewords are stuck with this fault alone, and read as nothing.
 pub record StuckOnly (p : ℕ) (words : List ℕ) (fault : DecodeFault) : Type 0 where
   pub stuck : Stuck p words fault
   pub only : (others : DecodeFault) → Stuck p words others → others ≡ fault

@@ -1,4 +1,4 @@
-//! The words of a text in ASCII encodation.
+//! The codewords of a text in ASCII encodation.
 
 ghost use Rattle.std.specs.Prelude.{◌≡◌, ◌<◌, ◌++◌, [], length, MatchOption, IfSome, OnOk};
 ghost use Rattle.dm_encodation.specs.inner.Counting.{piece_words, has_digits, IsPiece};
@@ -43,7 +43,7 @@ fn first_piece(bytes: &[u8]) -> Option<(Piece, &[u8])>
     }
 }
 
-// Writes the words of a piece.
+// Writes the codewords of a piece.
 fn push_piece<A: Allocator>(out: &mut Vec<u8, A>, piece: Piece) -> Result<(), AllocError>
     requires { IsPiece piece }
     ensures { OnOk result (out.new.items ≡ out.old.items ++ piece_words piece) }
@@ -59,7 +59,7 @@ fn push_piece<A: Allocator>(out: &mut Vec<u8, A>, piece: Piece) -> Result<(), Al
     Ok(())
 }
 
-/// Writes the words of a text after what was written before.
+/// Writes the codewords of a text after what was written before.
 pub(crate) fn push_ascii<A: Allocator>(out: &mut Vec<u8, A>, bytes: &[u8]) -> Result<(), AllocError>
     ensures { OnOk result (out.new.items ≡ out.old.items ++ ascii bytes.now) }
 {

@@ -1,4 +1,4 @@
-//! The words of a text in Base 256 encodation.
+//! The codewords of a text in Base 256 encodation.
 
 ghost use Rattle.std.specs.Prelude.{◌≡◌, ◌+◌, ◌<◌, ◌≤◌, ◌^◌, ◌++◌, length, OnOk, vec_len};
 ghost use Rattle.dm_encodation.specs.Grammar.{state_255, randomised};
@@ -34,7 +34,7 @@ fn push_values<A: Allocator>(out: &mut Vec<u8, A>, values: &[u8]) -> Result<(), 
     Ok(())
 }
 
-// Writes the length of a text, the first word at the position after what was written.
+// Writes the length of a text, the first codeword at the position after what was written.
 fn push_length<A: Allocator>(out: &mut Vec<u8, A>, count: usize) -> Result<(), AllocError>
     requires place { vec_len out.old < 2 ^ 30 }
     requires short { count ≤ 1555 }
@@ -49,7 +49,7 @@ fn push_length<A: Allocator>(out: &mut Vec<u8, A>, count: usize) -> Result<(), A
     }
 }
 
-/// Writes the words of a text after what was written before.
+/// Writes the codewords of a text after what was written before.
 pub(crate) fn push_base_256<A: Allocator>(
     out: &mut Vec<u8, A>,
     bytes: &[u8],

@@ -1,4 +1,4 @@
-//! The number of words that a text takes, counted byte by byte.
+//! The number of codewords that a text takes, counted byte by byte.
 
 ghost use Rattle.std.specs.Prelude.{◌≡◌, ℕ, ◌<◌, ◌≤◌, ◌^◌, ◌++◌, ◌∷◌, [], List, length};
 ghost use Rattle.dm_encodation.specs.inner.Counting.{Counts, CountsAscii, CountsRun, IsSmall, IsSmallRun, base_256_need, run_need};
@@ -10,15 +10,15 @@ use crate::characters::values_in;
 use crate::letters::Letters;
 use crate::scheme::Scheme;
 
-/// The words of a text in ASCII.
+/// The codewords of a text in ASCII.
 #[derive(Clone, Copy)]
 pub(crate) struct AsciiCounter {
     words: u128,
-    /// The last byte is a digit that stands alone, so that one more digit would share its word.
+    /// The last byte is a digit that stands alone, so that one more digit would share its codeword.
     lone_digit: bool,
 }
 
-// The words of a byte that stands alone in ASCII.
+// The codewords of a byte that stands alone in ASCII.
 fn words_of_byte(byte: u8) -> u128
     ensures exact { result ≡ length (ascii_byte byte) }
     ensures few { result ≤ 2 }
@@ -58,7 +58,7 @@ impl AsciiCounter {
     }
 }
 
-/// The words of a text in C40 or Text.
+/// The codewords of a text in C40 or Text.
 #[derive(Clone, Copy)]
 pub(crate) struct RunCounter {
     /// The number of values of all bytes.
@@ -103,7 +103,7 @@ impl RunCounter {
         }
     }
 
-    // The number of words that the bytes take.
+    // The number of codewords that the bytes take.
     #[inline(always)]
     fn words(self) -> u128
         requires { IsSmallRun self }
@@ -121,7 +121,7 @@ impl RunCounter {
     }
 }
 
-// The number of words that this many bytes take in Base 256.
+// The number of codewords that this many bytes take in Base 256.
 fn base_256_words(count: u128) -> u128
     requires { count < 2 ^ 100 }
     ensures { result ≡ base_256_need count }
@@ -133,7 +133,7 @@ fn base_256_words(count: u128) -> u128
     }
 }
 
-/// The words of a text in a scheme.
+/// The codewords of a text in a scheme.
 #[derive(Clone, Copy)]
 pub(crate) enum Counter {
     Ascii(AsciiCounter),
@@ -169,7 +169,7 @@ impl Counter {
         }
     }
 
-    /// The number of words that the bytes take.
+    /// The number of codewords that the bytes take.
     #[inline(always)]
     pub(crate) fn words(self) -> u128
         requires { IsSmall self }

@@ -1,4 +1,4 @@
-//! The number of words that a text takes, and how much of a text fits a room.
+//! The number of codewords that a text takes, and how much of a text fits a room.
 
 ghost use Rattle.std.specs.Prelude.{◌≡◌, ◌≤◌, ◌^◌, length};
 ghost use Rattle.dm_encodation.specs.Written.{need_of, IsGreatestPrefix};
@@ -6,7 +6,7 @@ ghost use Rattle.dm_encodation.specs.Written.{need_of, IsGreatestPrefix};
 use crate::counter::Counter;
 use crate::scheme::Scheme;
 
-/// The number of words that a text of any length takes, counted byte by byte.
+/// The number of codewords that a text of any length takes, counted byte by byte.
 pub(crate) fn word_count(scheme: Scheme, bytes: &[u8]) -> u128
     ensures { result ≡ need_of scheme bytes.now }
 {
@@ -17,7 +17,7 @@ pub(crate) fn word_count(scheme: Scheme, bytes: &[u8]) -> u128
     counter.words()
 }
 
-/// The number of data words that the bytes take in a scheme, before any pad (ISO/IEC 16022:2006,
+/// The number of data codewords that the bytes take in a scheme, before any pad (ISO/IEC 16022:2006,
 /// 5.2, and this project's own rule where the standard leaves a choice). The bytes are at most 2^30.
 pub fn need(scheme: Scheme, bytes: &[u8]) -> usize
     requires { length bytes.now ≤ 2 ^ 30 }
@@ -41,9 +41,9 @@ fn greatest_prefix(scheme: Scheme, bytes: &[u8], room: usize) -> usize
     greatest
 }
 
-/// The greatest number of bytes at the front of a text that together take at most `room` words. A
-/// shorter front may take more words than a longer one, so longer fronts may fit again where one
-/// does not. None of more than two bytes a word does.
+/// The greatest number of bytes at the front of a text that together take at most `room` codewords. A
+/// shorter front may take more codewords than a longer one, so longer fronts may fit again where one
+/// does not. None of more than two bytes a codeword does.
 pub fn fit(scheme: Scheme, bytes: &[u8], room: usize) -> usize
     ensures { IsGreatestPrefix scheme room bytes.now result }
 {

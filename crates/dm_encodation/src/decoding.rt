@@ -1,4 +1,4 @@
-//! The text of a symbol's data words.
+//! The text of a symbol's data codewords.
 
 ghost use Rattle.std.specs.Prelude.{◌≡◌, ◌≢◌, ◌+◌, ◌-◌, ◌*◌, ◌≤◌, ◌++◌, ℕ, List, length, drop, true, IfOk, IfErr};
 ghost use Rattle.std.specs.Prelude.{IsErrOf};
@@ -12,7 +12,7 @@ use crate::mode::Mode;
 use crate::reader::{Decoded, finish, step};
 use std::alloc::Allocator;
 
-// Writes the bytes that a word gives, if all before them are written. Gives whether they are.
+// Writes the bytes that a codeword gives, if all before them are written. Gives whether they are.
 #[inline(always)]
 fn push_output<A: Allocator>(out: &mut Vec<u8, A>, output: Decoded, is_whole: bool) -> bool
     ensures { result ≡ true → (is_whole ≡ true) × (out.new.items ≡ out.old.items ++ bytes_of output) }
@@ -28,8 +28,8 @@ fn push_output<A: Allocator>(out: &mut Vec<u8, A>, output: Decoded, is_whole: bo
     }
 }
 
-// Writes the bytes of the words after what was written before, and gives whether there was memory for all of them.
-// Where it is refused, the words are still looked through.
+// Writes the bytes of the codewords after what was written before, and gives whether there was memory for all of them.
+// Where it is refused, the codewords are still looked through.
 fn read_words<A: Allocator>(
     out: &mut Vec<u8, A>,
     words: &[u8],
@@ -52,12 +52,12 @@ fn read_words<A: Allocator>(
     Ok(push_output(out, output, is_whole))
 }
 
-/// The bytes that the data words from index `from` on read as (ISO/IEC 16022:2006, 5.2; how a run
-/// of C40 or Text ends is this project's own rule). The words begin in ASCII, and their end is the
+/// The bytes that the data codewords from index `from` on read as (ISO/IEC 16022:2006, 5.2; how a run
+/// of C40 or Text ends is this project's own rule). The codewords begin in ASCII, and their end is the
 /// symbol's end.
 ///
 /// # Errors
-/// The first fault from the left. `Memory` comes only where the words have no fault, since all of
+/// The first fault from the left. `Memory` comes only where the codewords have no fault, since all of
 /// them are looked through even if memory is refused.
 pub fn decode<A: Allocator + Copy>(
     alloc: A,

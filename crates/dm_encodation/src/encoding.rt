@@ -1,4 +1,4 @@
-//! A symbol's data words.
+//! A symbol's data codewords.
 
 ghost use Rattle.std.specs.Prelude.{◌≡◌, ◌+◌, ◌-◌, ◌<◌, ◌≤◌, ◌^◌, ◌++◌, ◌↔◌, length, take, drop, IfOk, OnOk, IsErrOf, vec_len};
 ghost use Rattle.dm_size.specs.Sizes.{data_words};
@@ -17,8 +17,8 @@ use crate::scheme::Scheme;
 use dm_size::Size;
 use std::alloc::{AllocError, Allocator};
 
-// Writes the words of a text, the first at the position after what was written. Gives whether the
-// text ends in a run, so that the words after it would be read in the run's encodation.
+// Writes the codewords of a text, the first at the position after what was written. Gives whether the
+// text ends in a run, so that the codewords after it would be read in the run's encodation.
 fn push_text<A: Allocator>(
     out: &mut Vec<u8, A>,
     scheme: Scheme,
@@ -44,7 +44,7 @@ fn push_text<A: Allocator>(
     }
 }
 
-// The data words of a symbol that has room for the head and the text.
+// The data codewords of a symbol that has room for the head and the text.
 fn fill<A: Allocator + Copy>(
     alloc: A,
     scheme: Scheme,
@@ -63,16 +63,16 @@ fn fill<A: Allocator + Copy>(
     Ok(out)
 }
 
-/// The data words of a symbol: the head, which is no longer than they are, the words of the text, and
+/// The data codewords of a symbol: the head, which is no longer than they are, the codewords of the text, and
 /// pads (ISO/IEC 16022:2006, 5.2, and this project's own rule where the standard leaves a choice). They
-/// are exactly as many as the size has data words, and read from the head's end as the bytes and as
-/// nothing else. A text of no bytes has no words, and pads alone follow the head.
+/// are exactly as many as the size has data codewords, and read from the head's end as the bytes and as
+/// nothing else. A text of no bytes has no codewords, and pads alone follow the head.
 ///
 /// In ASCII and with no head `123456` gives `142 164 186` at side 10, and `142 164 186 129 115` at side
-/// 12, where two words are left for pads.
+/// 12, where two codewords are left for pads.
 ///
 /// # Errors
-/// `TooLong` exactly where the text needs more words than the head leaves, found before any memory is
+/// `TooLong` exactly where the text needs more codewords than the head leaves, found before any memory is
 /// asked for; `Memory` where the allocator refuses.
 pub fn encode<A: Allocator + Copy>(
     alloc: A,

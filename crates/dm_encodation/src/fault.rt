@@ -1,4 +1,4 @@
-//! Why a text isn't written, and why words aren't read.
+//! Why a text isn't written, and why codewords aren't read.
 
 use std::alloc::AllocError;
 use thiserror::Error;
@@ -6,10 +6,10 @@ use thiserror::Error;
 /// Why a text isn't written.
 #[derive(Clone, Copy, Debug, PartialEq, Eq, Error)]
 pub enum EncodeFault {
-    /// The text needs more words than the head leaves of the symbol's data words.
-    #[error("the text needs more words than the symbol has left")]
+    /// The text needs more codewords than the head leaves of the symbol's data codewords.
+    #[error("the text needs more codewords than the symbol has left")]
     TooLong,
-    /// The allocator refused memory for the words.
+    /// The allocator refused memory for the codewords.
     #[error("out of memory")]
     Memory,
 }
@@ -29,22 +29,22 @@ impl EncodeFault {
     }
 }
 
-/// Why words aren't read. The positions `at` count from 1 at the first of all words; `word` is the
-/// word that stands there.
+/// Why codewords aren't read. The positions `at` count from 1 at the first of all codewords; `word` is the
+/// codeword that stands there.
 #[derive(Clone, Copy, Debug, PartialEq, Eq, Error)]
 pub enum DecodeFault {
-    /// A word or a value that has a meaning in the standard which is not read here: FNC1,
+    /// A codeword or a value that has a meaning in the standard which is not read here: FNC1,
     /// Structured Append, Reader Programming, Macro, ANSI X12, EDIFACT or ECI.
-    #[error("word {word} at position {at} is a feature of the standard that is not read")]
+    #[error("codeword {word} at position {at} is a feature of the standard that is not read")]
     Unsupported { at: usize, word: u8 },
-    /// A word or a pair that has no meaning where it stands.
-    #[error("word {word} at position {at} has no meaning there")]
+    /// A codeword or a pair that has no meaning where it stands.
+    #[error("codeword {word} at position {at} has no meaning there")]
     Reserved { at: usize, word: u8 },
-    /// The words end in the middle of a character, a pair or a counted run of bytes that began at
+    /// The codewords end in the middle of a character, a pair or a counted run of bytes that began at
     /// `at`.
     #[error("what begins at position {at} is cut off")]
     Cut { at: usize },
-    /// The allocator refused memory for the bytes; the words themselves have no fault.
+    /// The allocator refused memory for the bytes; the codewords themselves have no fault.
     #[error("out of memory")]
     Memory,
 }

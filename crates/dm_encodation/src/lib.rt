@@ -1,19 +1,19 @@
 //! The encodations of Data Matrix ECC 200 (ISO/IEC 16022:2006, 5.2 and Annex B): from bytes to
-//! the data words of a symbol, and back.
+//! the data codewords of a symbol, and back.
 //!
-//! [`need`] and [`fit`] say how many words a text takes and how much of it fits a room, and
+//! [`need`] and [`fit`] say how many codewords a text takes and how much of it fits a room, and
 //! [`encode`] writes it after a head and fills the symbol with pads. Where the standard leaves a
-//! choice, which words are written is this project's own rule. [`decode`] reads the words of ASCII,
+//! choice, which codewords are written is this project's own rule. [`decode`] reads the codewords of ASCII,
 //! C40, Text and Base 256, and says of all other words where and why they are refused.
 //!
-//! Proved: `encode` writes exactly the words of the definition, and they read as the bytes that
+//! Proved: `encode` writes exactly the codewords of the definition, and they read as the bytes that
 //! went in and as nothing else; `need`, `fit` and the refusal `TooLong` are exact; `decode` gives
-//! the one reading of the words, or the one fault at which they are stuck, and `Memory` only where
+//! the one reading of the codewords, or the one fault at which they are stuck, and `Memory` only where
 //! they have no fault. `need` and `fit` take no memory.
 //!
-//! The way down: `counter` counts the words of a text byte by byte (`counting` runs it), `encoding`
+//! The way down: `counter` counts the codewords of a text byte by byte (`counting` runs it), `encoding`
 //! writes the text by `ascii`, `run` (C40 and Text, by the values of `characters`) or `base256`, and
-//! `pads` fills the rest. The way back: `decoding` runs `reader`, which takes one word after another
+//! `pads` fills the rest. The way back: `decoding` runs `reader`, which takes one codeword after another
 //! in a `mode`; `values` reads the pairs of a run.
 #![tactic(auto)]
 

@@ -1,4 +1,4 @@
-//! The state of the reader between two words.
+//! The state of the reader between two codewords.
 
 use crate::letters::Letters;
 
@@ -24,7 +24,7 @@ pub(crate) const NO_PENDING: Pending = Pending {
     set: Set::Basic,
 };
 
-/// What the next word is to the reader.
+/// What the next codeword is to the reader.
 #[derive(Clone, Copy)]
 pub(crate) enum Mode {
     Ascii,
@@ -32,11 +32,11 @@ pub(crate) enum Mode {
     Upper,
     /// In a run, before a pair.
     Run(Letters, Pending),
-    /// In a run, after the first word of what may be a pair.
+    /// In a run, after the first codeword of what may be a pair.
     Half(Letters, Pending, u8),
     /// After 231, the latch to Base 256.
     Length,
-    /// After the first of two length words, of this value.
+    /// After the first of two length codewords, of this value.
     LongLength(u8),
     /// In Base 256: this many bytes are left, and 231 stood at this position.
     Bytes(usize, usize),

@@ -20,7 +20,7 @@ fn later_pad(position: usize) -> u8
     }
 }
 
-// Fills the symbol up to `capacity` words with pads.
+// Fills the symbol up to `capacity` codewords with pads.
 fn push_pads<A: Allocator>(out: &mut Vec<u8, A>, capacity: usize) -> Result<(), AllocError>
     requires { capacity < 2 ^ 16 }
     ensures { OnOk result (out.new.items
@@ -36,8 +36,8 @@ fn push_pads<A: Allocator>(out: &mut Vec<u8, A>, capacity: usize) -> Result<(), 
     Ok(())
 }
 
-/// Fills the symbol after the text up to `capacity` words. Where the text ends in a run and more than
-/// one word is free, 254 ends the run first.
+/// Fills the symbol after the text up to `capacity` codewords. Where the text ends in a run and more than
+/// one codeword is free, 254 ends the run first.
 pub(crate) fn fill_up<A: Allocator>(
     out: &mut Vec<u8, A>,
     in_run: bool,

@@ -1,4 +1,4 @@
-//! Reading word by word.
+//! Reading codeword by codeword.
 
 ghost use Rattle.std.specs.Prelude.{◌≡◌, ℕ, ◌+◌, ◌<◌, ◌≤◌, IfOk, Ok};
 ghost use Rattle.dm_encodation.specs.inner.Reading;
@@ -10,7 +10,7 @@ use crate::letters::Letters;
 use crate::mode::{Mode, NO_PENDING};
 use crate::values::pair_step;
 
-/// The bytes that one word gives.
+/// The bytes that one codeword gives.
 #[derive(Clone, Copy)]
 pub(crate) enum Decoded {
     Nothing,
@@ -19,7 +19,7 @@ pub(crate) enum Decoded {
     Three(u8, u8, u8),
 }
 
-// A word in ASCII.
+// A codeword in ASCII.
 #[tactic(auto, unfolding(crate::specs::inner::Reading::ascii_step))]
 fn ascii_step(position: usize, word: u8) -> Result<(Mode, Decoded), DecodeFault>
     ensures step { seen result ≡ Reading.ascii_step position word }
@@ -45,7 +45,7 @@ fn ascii_step(position: usize, word: u8) -> Result<(Mode, Decoded), DecodeFault>
     }
 }
 
-// The word after Upper Shift.
+// The codeword after Upper Shift.
 #[tactic(auto, unfolding(crate::specs::inner::Reading::upper_step))]
 fn upper_step(position: usize, word: u8) -> Result<(Mode, Decoded), DecodeFault>
     ensures step { seen result ≡ Reading.upper_step position word }
@@ -57,8 +57,8 @@ fn upper_step(position: usize, word: u8) -> Result<(Mode, Decoded), DecodeFault>
     }
 }
 
-// A word taken out of the 255-state algorithm. It is kept apart from `step`: drawn into a loop over all words, its
-// shift would be worked out for each of them, in every mode.
+// A codeword taken out of the 255-state algorithm. It is kept apart from `step`: drawn into a loop over all codewords,
+// its shift would be worked out for each of them, in every mode.
 #[inline(never)]
 #[tactic(auto, unfolding(crate::specs::inner::Reading::value_255))]
 fn value_255(position: usize, word: u8) -> u8
@@ -84,7 +84,7 @@ fn bytes_left(count: usize, at: usize) -> Mode
     }
 }
 
-// The first word of a length.
+// The first codeword of a length.
 #[tactic(auto, unfolding(crate::specs::inner::Reading::step))]
 fn length_step(position: usize, word: u8) -> (Mode, Decoded)
     requires { 1 < position }
@@ -102,7 +102,7 @@ fn length_step(position: usize, word: u8) -> (Mode, Decoded)
     (next, Decoded::Nothing)
 }
 
-// The second word of a length whose first is 250 or more.
+// The second codeword of a length whose first is 250 or more.
 #[tactic(auto, unfolding(crate::specs::inner::Reading::step))]
 fn long_length_step(first: u8, position: usize, word: u8) -> Result<(Mode, Decoded), DecodeFault>
     requires place { 2 < position }
@@ -118,7 +118,7 @@ fn long_length_step(first: u8, position: usize, word: u8) -> Result<(Mode, Decod
     Ok((bytes_left(count, position - 2), Decoded::Nothing))
 }
 
-/// What one word does in a mode: the next mode, and the bytes that it gives.
+/// What one codeword does in a mode: the next mode, and the bytes that it gives.
 #[inline(always)]
 #[tactic(auto, unfolding(crate::specs::inner::Reading::step))]
 pub(crate) fn step(mode: Mode, position: usize, word: u8) -> Result<(Mode, Decoded), DecodeFault>
@@ -155,7 +155,7 @@ pub(crate) fn step(mode: Mode, position: usize, word: u8) -> Result<(Mode, Decod
     }
 }
 
-// The end of the words, where the mode isn't `Half`.
+// The end of the codewords, where the mode isn't `Half`.
 fn ended(mode: Mode, position: usize) -> Result<(), DecodeFault>
     requires { IsMode mode position }
     ensures { seen_unit result ≡ Reading.ended mode position }
@@ -168,7 +168,7 @@ fn ended(mode: Mode, position: usize) -> Result<(), DecodeFault>
     }
 }
 
-/// The end of the words: the bytes that come only here, those of a word that a run left over, read in
+/// The end of the codewords: the bytes that come only here, those of a codeword that a run left over, read in
 /// ASCII.
 #[tactic(auto, unfolding(crate::specs::inner::Reading::finish))]
 pub(crate) fn finish(mode: Mode, position: usize) -> Result<Decoded, DecodeFault>

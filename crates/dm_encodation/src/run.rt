@@ -1,9 +1,9 @@
-//! The words of a text in C40 or Text encodation: a run of pairs, and what the run leaves in ASCII.
+//! The codewords of a text in C40 or Text encodation: a run of pairs, and what the run leaves in ASCII.
 
 ghost use Rattle.std.specs.Prelude.{◌≡◌, ◌<◌, ◌≤◌, ◌++◌, ◌∷◌, [], length, OnOk, IfOk};
 ghost use Rattle.std.specs.List.{flat_map};
 ghost use Rattle.dm_encodation.specs.Grammar.{values_of, values_below_128, latch};
-ghost use Rattle.dm_encodation.specs.inner.Counting.{AreValues, Writes};
+ghost use Rattle.dm_encodation.specs.inner.Counting.{AreValues, WritesValues};
 ghost use Rattle.dm_encodation.specs.Written.{pairs, run_length, run_and_rest, is_whole_run};
 
 use crate::ascii::push_ascii;
@@ -19,12 +19,12 @@ enum Held {
     Two(u8, u8),
 }
 
-// Takes one more value; three of them are two words.
+// Takes one more value; three of them are two codewords.
 fn push_value<A: Allocator>(out: &mut Vec<u8, A>, held: Held, value: u8) -> Result<Held, AllocError>
     requires value { value < 40 }
     requires held { AreValues held }
     ensures values { IfOk result AreValues }
-    ensures wrote { IfOk result (λ h. Writes out.old.items held (value ∷ []) out.new.items h) }
+    ensures wrote { IfOk result (λ h. WritesValues out.old.items held (value ∷ []) out.new.items h) }
 {
     match held {
         Held::Nothing => Ok(Held::One(value)),
@@ -49,7 +49,7 @@ fn push_low<A: Allocator>(
     requires held { AreValues held }
     ensures values { IfOk result AreValues }
     ensures wrote { IfOk result
-        (λ h. Writes out.old.items held (values_below_128 letters byte) out.new.items h) }
+        (λ h. WritesValues out.old.items held (values_below_128 letters byte) out.new.items h) }
 {
     let (shift, value) = spelled(letters, byte);
     let shifted = match shift {
@@ -70,7 +70,7 @@ fn push_byte<A: Allocator>(
     requires { AreValues held }
     ensures values { IfOk result AreValues }
     ensures wrote { IfOk result
-        (λ h. Writes out.old.items held (values_of letters byte) out.new.items h) }
+        (λ h. WritesValues out.old.items held (values_of letters byte) out.new.items h) }
 {
     if byte < 128 {
         return push_low(out, letters, held, byte);
@@ -112,7 +112,7 @@ fn run_bytes(letters: Letters, bytes: &[u8]) -> usize
     whole
 }
 
-// The word that latches to the encodation.
+// The codeword that latches to the encodation.
 fn latch_word(letters: Letters) -> u8
     ensures { result ≡ latch letters }
 {
@@ -122,7 +122,7 @@ fn latch_word(letters: Letters) -> u8
     }
 }
 
-/// Writes the words of a text after what was written before. Gives whether the text is a run and
+/// Writes the codewords of a text after what was written before. Gives whether the text is a run and
 /// nothing else.
 pub(crate) fn push_run<A: Allocator>(
     out: &mut Vec<u8, A>,

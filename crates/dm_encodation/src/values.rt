@@ -1,4 +1,4 @@
-//! Reading the values of C40 and Text, and the pairs of words that hold three of them.
+//! Reading the values of C40 and Text, and the pairs of codewords that hold three of them.
 
 ghost use Rattle.std.specs.Prelude.{◌≡◌, ◌+◌, ◌<◌, ◌++◌, ◌∷◌, [], IfOk, IfSome};
 ghost use Rattle.dm_encodation.specs.inner.Reading;
@@ -65,7 +65,7 @@ fn value_step(
     }
 }
 
-// The fault of a pair that begins with this word.
+// The fault of a pair that begins with this codeword.
 fn pair_fault(fault: ValueFault, position: usize, word: u8) -> DecodeFault
     ensures { result ≡ fault_of fault position word }
 {

@@ -1,21 +1,15 @@
 -- What a verdict on pages that are to be added comes to, by what is held.
 use Rattle.std.proofs.Common.{◌≡◌, ◌≢◌, ◌⊎◌, ◌≤◌, ℕ, zero, suc, ◌&&◌, leb, true, false, Option, Some, None, Result, Ok, Err, List, [], ◌∷◌, length, IsSome, refl, ap, sym, ◌∙◌, arith, eq-eqb}
-use Rattle.std.specs.Prelude.{is_none, is_some}
-use Rattle.std.specs.FinMap.{get, len}
+use Rattle.std.specs.{Prelude.is_none, Prelude.is_some, FinMap.get, FinMap.len}
 use Rattle.dm_append_label.specs.Labels.{PageView}
 use Rattle.dm_assembly_desk.specs.Desk.{lone, add_kind, add_verdict, reply_of, with_pages, Verdict, Stays, Becomes}
 use Rattle.dm_assembly_desk.specs.Documents.{Documents, own_pages, page_at, added_mask, may_join, Pages, mask, names, page}
-use Rattle.dm_assembly_desk.specs.declared.adding.AddFault.{AddFault}
+use Rattle.dm_assembly_desk.specs.declared.{adding.AddFault.AddFault, reply.Kind.Kind, reply.Kind.TheVariants.Again}
 use Rattle.dm_assembly_desk.specs.declared.adding.AddFault.TheVariants as adds
 use Rattle.dm_assembly_desk.specs.declared.reply.Imported as imported_type
-use Rattle.dm_assembly_desk.specs.declared.reply.Kind.{Kind}
-use Rattle.dm_assembly_desk.specs.declared.reply.Kind.TheVariants.{Again}
-use Rattle.dm_assembly_desk.proofs.AddFacts.{names_added}
-use Rattle.dm_assembly_desk.proofs.AddLaws.{kind_says}
+use Rattle.dm_assembly_desk.proofs.{AddFacts.names_added, AddLaws.kind_says, Masks.names_mask, Masks.none_named}
 use Rattle.dm_assembly_desk.proofs.LonePages.{length-blank, length-set_at, lone_else}
-use Rattle.dm_assembly_desk.proofs.Masks.{names_mask, none_named}
-use Rattle.dm_event_history.proofs.Deciding.{same_or_other}
-use Rattle.dm_event_history.proofs.MergedPages.{Differs, differs}
+use Rattle.dm_event_history.proofs.{Deciding.same_or_other, MergedPages.Differs, MergedPages.differs}
 
 -- ---- a verdict, by the kind of its answer
 

@@ -3,18 +3,13 @@ use Rattle.std.proofs.Common.{arith, ◌≡◌, inl, inr, ℕ, Some, true, Resul
 use Rattle.dm_finder_frame.specs.Frame.{flipped}
 use Rattle.dm_size.specs.declared.size.Size.{Size}
 use Rattle.dm_encodation.specs.declared.scheme.Scheme.{Scheme}
-use Rattle.dm_print_ledger.specs.declared.range.Range.{Range}
-use Rattle.dm_print_ledger.specs.Ledger.{LedgerView, TicketView}
+use Rattle.dm_print_ledger.specs.{declared.range.Range.Range, Ledger.LedgerView, Ledger.TicketView}
 use Rattle.dm_assembly_desk.specs.Documents.{Documents}
-use Rattle.dm_event_history.specs.declared.event.Event.{Event}
+use Rattle.dm_event_history.specs.declared.{event.Event.Event, reply.Reply.Reply, stop.Stop.Stop}
 use Rattle.dm_event_history.specs.declared.event.Event.TheVariants.{Print, Scan, RestartPrinter, RestartDesk, Ask, Forget, Give, Take, Export, Import}
-use Rattle.dm_event_history.specs.declared.reply.Reply.{Reply}
-use Rattle.dm_event_history.proofs.Gotten.{in_either, set_at}
-use Rattle.dm_append_label.specs.declared.opening.Opened.{Opened}
-use Rattle.dm_append_label.specs.declared.fault.LabelFault.{LabelFault}
-use Rattle.dm_event_history.specs.declared.stop.Stop.{Stop}
-use Rattle.dm_event_history.specs.Steps.{may_save, Acts, DeskGoes, IsNamed, PrinterGoes, Step, Calls, Course, Ending, Looks, MayLackFirst, ends, GiveComes, PrintComes, TakeComes, ExportTells, MayBe, ScanComes, scan_course, scan_faults}
-use Rattle.dm_event_history.proofs.Deciding.{decided, true_false}
+use Rattle.dm_event_history.proofs.{Gotten.in_either, Gotten.set_at, Deciding.decided, Deciding.true_false}
+use Rattle.dm_append_label.specs.declared.{opening.Opened.Opened, fault.LabelFault.LabelFault}
+use Rattle.dm_event_history.specs.Steps.{may_save, Acts, DeskGoes, IsNamedThere, PrinterGoes, Step, Calls, Course, Ending, Looks, MayLackFirst, ends, GiveComes, PrintComes, TakeComes, ExportTells, MayBe, ScanComes, scan_course, scan_faults}
 use Rattle.dm_event_history.proofs.Having.{CourseHas, calls_have, may_lack_has}
 use Rattle.dm_event_history.specs.Relay.{Actor, HasAll, Running, Desk, Goods, Label, Relay}
 use Rattle.dm_event_history.specs.Relay as relays
@@ -125,7 +120,7 @@ acts_send old new (RestartDesk desk) reply all acts =
 
 -- a fair event of what is there does no harm where all is clean
 harmless : {A : Type 0} (old : Relay) (event : Event A) (desk : ℕ) → AreAllClean old → IsFairEvent old event →
-    IsNamed old event → IsHarmless old event desk
+    IsNamedThere old event → IsHarmless old event desk
 harmless old (Scan desk number flips stop) own all fair named = λ same. fair named
 harmless old (Import desk number stop) own all fair named = λ same export there. all.exports number export there
 harmless old event own all fair named = tt

@@ -1,12 +1,11 @@
 -- Calls that are answered: the printer or the desk runs, and it comes to what is answered.
 use Rattle.std.proofs.Common.{arith, ◌≡◌, ◌≢◌, Some, sym, ap, ◌∙◌}
 use Rattle.dm_store.specs.declared.fuse.Kept.TheVariants.{Old, New}
-use Rattle.dm_event_history.specs.declared.reply.Reply.{Reply}
+use Rattle.dm_event_history.specs.declared.{reply.Reply.Reply, stop.Stop.Stop}
 use Rattle.dm_event_history.specs.declared.reply.Reply.TheVariants as replies
-use Rattle.dm_event_history.specs.declared.stop.Stop.{Stop}
 use Rattle.dm_event_history.specs.declared.stop.Stop.TheVariants as stops
 use Rattle.dm_event_history.specs.declared.stop.Stop.TheVariants.{InSave, SaveFault, AfterLabels}
-use Rattle.dm_event_history.specs.Relay.{Actor, Running, Failed, Down, shown_of, Goods}
+use Rattle.dm_event_history.specs.Relay.{Actor, Running, Failed, Down, content_shown, Goods}
 use Rattle.dm_event_history.specs.Steps.{Answers, Calls, Course, Ending, Faults, LacksMemory, Looks, MayLackFirst, Reaches, Saves, ends}
 
 -- the reply is one that a call comes to, and none of a call that is stopped, down or failed or lacks memory
@@ -66,7 +65,7 @@ is_made {A} {C} Acts actor end reply other lack is = grind arith
 pub record IsLooked {A C : Type 0} (Tells : C → Reply A → Goods → Type 0) (actor : Actor C) (end : Ending A C)
     : Type 0 where
   pub held : C
-  pub shown : shown_of actor ≡ Some held
+  pub shown : content_shown actor ≡ Some held
   pub tells : Tells held end.reply end.goods
 
 pub is_looked : {A C : Type 0} (Tells : C → Reply A → Goods → Type 0) (actor : Actor C) (end : Ending A C) →

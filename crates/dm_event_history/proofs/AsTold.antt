@@ -1,21 +1,14 @@
 -- The printers and desks of a run are down, and have failed, as its replies tell.
 use Rattle.std.proofs.Common.{arith, ◌≡◌, ◌+◌, inl, inr, ℕ, zero, suc, Bool, true, false, Some, List, [], ◌∷◌, slice_get, sym, ap, subst, ◌∙◌, eq-eqb}
-use Rattle.dm_print_ledger.specs.declared.range.Range.{Range}
-use Rattle.dm_print_ledger.specs.Verdicts.{opening}
-use Rattle.dm_print_ledger.specs.Ledger.{LedgerView}
+use Rattle.dm_print_ledger.specs.{declared.range.Range.Range, Verdicts.opening, Ledger.LedgerView}
 use Rattle.dm_assembly_desk.specs.Documents.{Documents}
-use Rattle.dm_event_history.specs.declared.event.Event.{Event}
-use Rattle.dm_event_history.specs.declared.reply.Reply.{Reply}
+use Rattle.dm_event_history.specs.declared.{event.Event.Event, reply.Reply.Reply, stop.Stop.Stop}
 use Rattle.dm_event_history.specs.declared.reply.Reply.TheVariants as replies
-use Rattle.dm_event_history.specs.declared.stop.Stop.{Stop}
 use Rattle.dm_event_history.specs.Steps.{DeskAt, Named, PrinterAt, actor_of, is_same, Acts, DeskGoes, PrinterGoes, Step, Moment, Answers, Calls, Course, Ending, Faults, Looks, MayLackFirst, Reaches, Restarts, ends}
 use Rattle.dm_event_history.specs.Relay.{Actor, Running, Failed, Goods, Relay, fresh_from}
 use Rattle.dm_event_history.specs.Told.{AreAsTold, EachRunIsAsTold, IsAsTold, down_after, failed_after, is_down, is_failed}
-use Rattle.dm_event_history.proofs.Deciding.{other_number}
-use Rattle.dm_event_history.proofs.Beginning.{empty_there}
-use Rattle.dm_event_history.proofs.Reaching.{reaches}
+use Rattle.dm_event_history.proofs.{Deciding.other_number, Beginning.empty_there, Reaching.reaches, Gotten.set_at}
 use Rattle.dm_event_history.proofs.ByKind.{ArePlain, IsPlainAnswer, IsPlainCourse, by_kind}
-use Rattle.dm_event_history.proofs.Gotten.{set_at}
 
 -- ---- how a call ends
 

@@ -4,19 +4,16 @@ use Rattle.std.proofs.lemmas.Option.{slice_get_within}
 use Rattle.dm_size.specs.declared.size.Size.{Size}
 use Rattle.dm_encodation.specs.declared.scheme.Scheme.{Scheme}
 use Rattle.dm_store.specs.declared.fuse.Kept.TheVariants.{Old, New}
-use Rattle.dm_print_ledger.specs.declared.range.Range.{Range}
-use Rattle.dm_print_ledger.specs.Ledger.{is_free, LedgerView, TicketView}
+use Rattle.dm_print_ledger.specs.{declared.range.Range.Range, Ledger.is_free, Ledger.LedgerView, Ledger.TicketView}
 use Rattle.dm_print_ledger.specs.Verdicts.{least, single, ticket_of}
-use Rattle.dm_event_history.specs.declared.stop.Stop.{Stop}
+use Rattle.dm_event_history.specs.declared.{stop.Stop.Stop, reply.Reply.Reply}
 use Rattle.dm_event_history.specs.declared.stop.Stop.TheVariants as stops
 use Rattle.dm_event_history.specs.declared.stop.Stop.TheVariants.{InSave, SaveFault, AfterLabels}
-use Rattle.dm_event_history.specs.declared.reply.Reply.{Reply}
-use Rattle.dm_event_history.proofs.Deciding.{decided}
-use Rattle.dm_event_history.proofs.Gotten.{get_more, set_at}
+use Rattle.dm_event_history.proofs.{Deciding.decided, Gotten.get_more, Gotten.set_at}
 use Rattle.dm_event_history.proofs.LedgerFacts.{LosesNumbers, give_loses, made_print}
-use Rattle.dm_event_history.specs.Relay.{Actor, Running, Failed, Down, stored_of, Goods, Label, Relay, Used, nothing, with_printer}
+use Rattle.dm_event_history.specs.Relay.{Actor, Running, Failed, Down, stored_of, Goods, Label, Relay, Used, no_goods, with_printer}
 use Rattle.dm_event_history.specs.Steps.{Answers, Calls, Course, Ending, Faults, LacksMemory, MayLackFirst, Reaches, Restarts, Saves, cut_off, ends, GiveComes, PrintComes}
-use Rattle.dm_event_history.specs.Headline.{IsInOrder, gone, is_taken, one_if, places}
+use Rattle.dm_event_history.specs.Headline.{RelayIsInOrder, gone, is_taken, one_if, places}
 use Rattle.dm_event_history.proofs.Numbers.{all_in, free_set, gone_lost, gone_more, lost_takes_none, on_more, on_new, on_same, taken_same}
 use Rattle.dm_event_history.proofs.Reaching.{reached, reaches}
 
@@ -30,7 +27,7 @@ pub record IsBalanced (held next : LedgerView) (goods : Goods) : Type 0 where
   pub number : next.number ≡ held.number
   pub givers : next.givers ≡ held.givers
 
-pub still : (held : LedgerView) → IsBalanced held held nothing
+pub still : (held : LedgerView) → IsBalanced held held no_goods
 still held = record { kept = λ n. omega arith; none_taken = λ k. refl; number = refl; givers = refl }
 
 -- the same, where the call is cut off
@@ -109,19 +106,19 @@ give_balanced before receiver range held LacksMemory comes = tt
 -- ---- a step of a printer that is balanced
 
 -- tickets that did not leave were not taken
-pub later_untaken : (relay : Relay) → IsInOrder relay → (k : ℕ) → length relay.tickets ≤ k →
+pub later_untaken : (relay : Relay) → RelayIsInOrder relay → (k : ℕ) → length relay.tickets ≤ k →
     is_taken relay.moves k ≡ false
 later_untaken relay order k late = grind (arith, decided, slice_get_within)
 
-pub balanced_places : (old : Relay) (printer : ℕ) (actor next : Actor LedgerView) (goods : Goods) → IsInOrder old →
+pub balanced_places : (old : Relay) (printer : ℕ) (actor next : Actor LedgerView) (goods : Goods) → RelayIsInOrder old →
     slice_get old.printers printer ≡ Some actor → IsBalanced (stored_of actor) (stored_of next) goods → (number : ℕ) →
     places (with_printer old printer next goods) number ≡ places old number
 balanced_places old printer actor next goods order was b number =
     grind (arith, free_set, gone_more, later_untaken, on_more, on_new, on_same, taken_same)
 
-pub balanced_order : (old : Relay) (printer : ℕ) (actor next : Actor LedgerView) (goods : Goods) → IsInOrder old →
+pub balanced_order : (old : Relay) (printer : ℕ) (actor next : Actor LedgerView) (goods : Goods) → RelayIsInOrder old →
     slice_get old.printers printer ≡ Some actor → IsBalanced (stored_of actor) (stored_of next) goods →
-    IsInOrder (with_printer old printer next goods)
+    RelayIsInOrder (with_printer old printer next goods)
 balanced_order old printer actor next goods order was b = record {
   numbers = grind (arith, set_at);
   noted = λ k taken.

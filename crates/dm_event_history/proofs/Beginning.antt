@@ -1,17 +1,12 @@
 -- A relay that begins is sound and clean.
 use Rattle.std.proofs.Common.{◌≡◌, ◌+◌, ◌≤◌, inl, inr, ℕ, zero, suc, Bool, true, false, ◌||◌, Option, Some, None, List, [], ◌∷◌, map, slice_get, refl, IsSome, ap, ◌∙◌, arith}
-use Rattle.std.specs.Prelude.{unwrap_or}
+use Rattle.std.specs.{Prelude.unwrap_or, FinMap.get-empty, Ordering.nat_cmp}
 use Rattle.std.specs.FinMap as finite
-use Rattle.std.specs.FinMap.{get-empty}
-use Rattle.std.specs.Ordering.{nat_cmp}
-use Rattle.dm_print_ledger.specs.declared.range.Range.{Range}
-use Rattle.dm_print_ledger.specs.Ledger.{is_in, LedgerView}
+use Rattle.dm_print_ledger.specs.{declared.range.Range.Range, Ledger.is_in, Ledger.LedgerView}
 use Rattle.dm_assembly_desk.specs.Documents.{Pages, page, Documents, page_at}
-use Rattle.dm_event_history.specs.Headline.{AreDisjoint, IsApart, ArePrinted, HaveLeft, AreAllClean, IsSound, free_at, one_if, opened}
-use Rattle.dm_event_history.proofs.Deciding.{decided}
-use Rattle.dm_event_history.proofs.Opened.{apart_of}
+use Rattle.dm_event_history.specs.Headline.{AreDisjoint, IsApart, ArePrinted, HaveLeft, AreAllClean, RelayIsSound, free_at, one_if, opened}
+use Rattle.dm_event_history.proofs.{Deciding.decided, Opened.apart_of, Told.page_none}
 use Rattle.dm_event_history.specs.Relay.{Actor, Running, stored_of, Desk, Label, empty_desk, fresh_from, start}
-use Rattle.dm_event_history.proofs.Told.{page_none}
 
 -- ---- numbers
 
@@ -67,7 +62,7 @@ fresh_number from [] p actor is = cc
 fresh_number from (range ∷ ranges) zero actor is = grind arith
 fresh_number from (range ∷ ranges) (suc p) actor is = (let h = fresh_number (from + 1) ranges p actor is in omega arith)
 
-pub start_sound : (ranges : List Range) (rooms : List ℕ) → AreDisjoint ranges → IsSound (start ranges rooms)
+pub start_sound : (ranges : List Range) (rooms : List ℕ) → AreDisjoint ranges → RelayIsSound (start ranges rooms)
 start_sound ranges rooms apart = grind (arith, free_once, fresh_number)
 
 pub start_printed : (ranges : List Range) (rooms : List ℕ) → ArePrinted (start ranges rooms).labels

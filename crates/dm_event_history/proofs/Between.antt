@@ -2,39 +2,31 @@
 -- it may hold.
 use Rattle.std.proofs.Common.{◌≡◌, ◌≢◌, ◌⊎◌, ◌<◌, inl, inr, true, ℕ, length, arith, Some, Ok, Result, List, [], ◌∷◌, slice_get, IsSome, refl, sym, ap, subst, ◌∙◌}
 use Rattle.std.specs.FinMap as finite
-use Rattle.dm_append_label.specs.Labels.{IsHead, head_of}
-use Rattle.dm_append_label.specs.Opening.{LabelOpens, OpensNear}
-use Rattle.dm_append_label.specs.declared.opening.Opened.{Opened}
-use Rattle.dm_append_label.specs.declared.fault.LabelFault.{LabelFault}
+use Rattle.dm_append_label.specs.{Labels.IsHead, Labels.head_of, Opening.LabelOpens, Opening.OpensNear}
+use Rattle.dm_append_label.specs.declared.{opening.Opened.Opened, fault.LabelFault.LabelFault}
 use Rattle.dm_assembly_desk.specs.declared.fault.DeskFault.TheVariants as desk_fault
-use Rattle.dm_assembly_desk.specs.declared.reply.Accepted.{Accepted}
-use Rattle.dm_assembly_desk.specs.declared.reply.Kind.{Kind}
+use Rattle.dm_assembly_desk.specs.declared.reply.{Accepted.Accepted, Kind.Kind}
 use Rattle.dm_assembly_desk.specs.declared.reply.Kind.TheVariants as kinds
 use Rattle.dm_assembly_desk.specs.Documents.{Pages, page, Documents}
 use Rattle.dm_assembly_desk.specs.Desk.{lone, with_pages, add_kind}
 use Rattle.dm_finder_frame.specs.Frame.{flipped}
 use Rattle.dm_print_ledger.specs.declared.range.Range.{Range}
-use Rattle.dm_event_history.specs.declared.event.Event.{Event}
+use Rattle.dm_event_history.specs.declared.{event.Event.Event, reply.Reply.Reply, reply.Reply.TheVariants.Scanned}
 use Rattle.dm_event_history.specs.declared.event.Event.TheVariants.{Scan, RestartDesk, Ask, Forget, Export, Import}
-use Rattle.dm_event_history.specs.declared.reply.Reply.{Reply}
-use Rattle.dm_event_history.specs.declared.reply.Reply.TheVariants.{Scanned}
 use Rattle.dm_event_history.specs.declared.reply.Reply.TheVariants as replies
 use Rattle.dm_event_history.specs.declared.stop.Stop.{Stop}
-use Rattle.dm_event_history.specs.Steps.{may_save, Acts, DeskGoes, HasModules, IsNamed, Step, Moment, IsRun, PrinterAt, actor_of, Calls, Course, Ending, Faults, Looks, MayLackFirst, ends, AskTells, ExportTells, ForgetComes, ImportComes, ScanComes, forget_faults, import_faults, scan_course, scan_faults, page_reply}
-use Rattle.dm_event_history.specs.Relay.{Actor, HasAll, Running, Desk, Label, Relay, start, nothing}
+use Rattle.dm_event_history.specs.Steps.{may_save, Acts, DeskGoes, HasModules, IsNamedThere, Step, Moment, IsRun, PrinterAt, actor_of, Calls, Course, Ending, Faults, Looks, MayLackFirst, ends, AskTells, ExportTells, ForgetComes, ImportComes, ScanComes, forget_faults, import_faults, scan_course, scan_faults, page_reply}
+use Rattle.dm_event_history.specs.Relay.{Actor, HasAll, Running, Desk, Label, Relay, start, no_goods}
 use Rattle.dm_event_history.specs.Relay as relays
 use Rattle.dm_event_history.specs.Headline.{ArePrinted, AreDisjoint, AreSavedFair, IsFairEvent}
-use Rattle.dm_event_history.specs.Told.{AreBetween, Forgets, Has, IsBetween, MayForget, MayTake, Takes}
-use Rattle.dm_event_history.proofs.Deciding.{same_or_other}
-use Rattle.dm_event_history.proofs.AllClean.{unsaved_course}
-use Rattle.dm_event_history.proofs.Headline.{each_run_is_sound}
-use Rattle.dm_event_history.proofs.Beginning.{empty_there, nothing_at}
+use Rattle.dm_event_history.specs.Told.{AreBetween, ForgetsDocument, Has, IsBetween, MayForget, MayTake, TakesPage}
+use Rattle.dm_event_history.proofs.{Deciding.same_or_other, AllClean.unsaved_course, Headline.each_run_is_sound}
+use Rattle.dm_event_history.proofs.{Beginning.empty_there, Beginning.nothing_at, Gotten.set_at}
 use Rattle.dm_event_history.proofs.Adds.{held_all, lone_some, Answer}
 use Rattle.dm_event_history.proofs.Having.{CourseHas, calls_have, has_map, looks_have, may_lack_has, restarts_have}
 use Rattle.dm_event_history.proofs.Answered.{IsAnswered, is_answered, is_made}
 use Rattle.dm_event_history.proofs.Told.{AddTold, IsAfter, own_scan, scan_told, was_wanted, with_pages_has, with_pages_keeps, with_pages_only, without_keeps, without_only}
 use Rattle.dm_assembly_desk.proofs.LonePages.{lone_here}
-use Rattle.dm_event_history.proofs.Gotten.{set_at}
 
 abbrev after : {A : Type 0} → Relay → Event A → Reply A → List (Moment A) → List (Moment A)
 after before event reply earlier = record { before = before; event = event; reply = reply } ∷ earlier
@@ -43,14 +35,15 @@ after before event reply earlier = record { before = before; event = event; repl
 next : {A : Type 0} (before : Relay) (event : Event A) (reply : Reply A) (earlier : List (Moment A)) (at : ℕ)
     (old new : Documents) → IsBetween earlier at old →
     ((id m : ℕ) → Has old id m → (¬ MayForget event reply at id) → Has new id m) →
-    ((id m : ℕ) → Takes before event reply at id m → Has new id m) →
-    ((id m : ℕ) → Has new id m → MayTake before event reply at id m ⊎ ((¬ Forgets event reply at id) × Has old id m)) →
+    ((id m : ℕ) → TakesPage before event reply at id m → Has new id m) →
+    ((id m : ℕ) → Has new id m → MayTake before event reply at id m
+    ⊎ ((¬ ForgetsDocument event reply at id) × Has old id m)) →
     IsBetween (after before event reply earlier) at new
 next before event reply earlier at old new b keeps takes only = grind arith
 
 -- what neither takes nor forgets leaves it so
 stays : {A : Type 0} (before : Relay) (event : Event A) (reply : Reply A) (earlier : List (Moment A)) (at : ℕ) →
-    ((id m : ℕ) → ¬ Takes before event reply at id m) → ((id : ℕ) → ¬ Forgets event reply at id) →
+    ((id m : ℕ) → ¬ TakesPage before event reply at id m) → ((id : ℕ) → ¬ ForgetsDocument event reply at id) →
     (held : Documents) → IsBetween earlier at held → IsBetween (after before event reply earlier) at held
 stays before event reply earlier at none still held b = grind arith
 
@@ -59,12 +52,12 @@ stays before event reply earlier at none still held b = grind arith
 -- an event at a desk by which pages of a document are to be added
 module _ (A : Type 0) (before : Relay) (event : Event A) (stop : Stop) (faults : Faults A)
     (tells : Answer → Reply A) (desk id : ℕ) (pages : Pages)
-    (earlier : List (Moment A)) (forgets : (reply : Reply A) (i : ℕ) → ¬ Forgets event reply desk i)
+    (earlier : List (Moment A)) (forgets : (reply : Reply A) (i : ℕ) → ¬ ForgetsDocument event reply desk i)
     (may : (reply : Reply A) (i m : ℕ) → may_save event reply ≡ true → i ≡ id → IsSome (page pages m) →
     MayTake before event reply desk i m) where
   -- by which just these are taken, if any
   abbrev TakesThese : Reply A → Type 0
-  TakesThese reply = (i m : ℕ) → Takes before event reply desk i m → (id ≡ i) × IsSome (page pages m)
+  TakesThese reply = (i m : ℕ) → TakesPage before event reply desk i m → (id ≡ i) × IsSome (page pages m)
 
   -- they are added
   added : (held : Documents) (reply : Reply A) → may_save event reply ≡ true → TakesThese reply →
@@ -97,7 +90,8 @@ is_scanned (Scanned a) = inl (a, refl)
 is_scanned reply = inr (λ a e. cc (e))
 
 not_scanned : {A : Type 0} (before : Relay) (desk number : ℕ) (flips : List (ℕ × ℕ)) (stop : Stop) (reply : Reply A) →
-    ((a : Accepted) → reply ≢ Scanned a) → (at id m : ℕ) → ¬ Takes before (Scan desk number flips stop) reply at id m
+    ((a : Accepted) → reply ≢ Scanned a) → (at id m : ℕ) →
+    ¬ TakesPage before (Scan desk number flips stop) reply at id m
 not_scanned before desk number flips stop reply never at id m took = grind arith
 
 module _ (A : Type 0) (before : Relay) (desk number room : ℕ) (flips : List (ℕ × ℕ)) (stop : Stop) (label : Label)
@@ -186,7 +180,7 @@ module _ (A : Type 0) (before : Relay) (desk name : ℕ) (stop : Stop) (earlier 
 module _ (A : Type 0) (before : Relay) (desk number room : ℕ) (stop : Stop) (export : relays.Export)
     (earlier : List (Moment A)) (there : slice_get before.exports number ≡ Some export) where
   -- the export that was taken is this
-  own : (reply : Reply A) (id m : ℕ) → Takes before (Import desk number stop) reply desk id m →
+  own : (reply : Reply A) (id m : ℕ) → TakesPage before (Import desk number stop) reply desk id m →
       (export.id ≡ id) × IsSome (page export.pages m)
   own reply id m took = grind arith
 
@@ -199,15 +193,15 @@ module _ (A : Type 0) (before : Relay) (desk number room : ℕ) (stop : Stop) (e
 
 -- only an event of this desk takes or forgets here
 scan_here : {A : Type 0} (before : Relay) (desk number : ℕ) (flips : List (ℕ × ℕ)) (stop : Stop) (reply : Reply A)
-    (at id m : ℕ) → Takes before (Scan desk number flips stop) reply at id m → desk ≡ at
+    (at id m : ℕ) → TakesPage before (Scan desk number flips stop) reply at id m → desk ≡ at
 scan_here before desk number flips stop reply at id m t = grind arith
 
 import_here : {A : Type 0} (before : Relay) (desk number : ℕ) (stop : Stop) (reply : Reply A) (at id m : ℕ) →
-    Takes before (Import desk number stop) reply at id m → desk ≡ at
+    TakesPage before (Import desk number stop) reply at id m → desk ≡ at
 import_here before desk number stop reply at id m t = grind arith
 
 forget_here : {A : Type 0} (desk name : ℕ) (stop : Stop) (reply : Reply A) (at id : ℕ) →
-    Forgets (Forget desk name stop) reply at id → desk ≡ at
+    ForgetsDocument (Forget desk name stop) reply at id → desk ≡ at
 forget_here desk name stop reply at id f = grind arith
 
 module _ (A : Type 0) (old new : Relay) (event : Event A) (reply : Reply A) (earlier : List (Moment A))
@@ -232,7 +226,7 @@ desks_same old new event reply printer who acts = grind arith
 
 -- the answer to a look takes nothing
 quiet : {A : Type 0} (old : Relay) (event : Event A) (reply : Reply A) (earlier : List (Moment A)) →
-    ((at id m : ℕ) → ¬ Takes old event reply at id m) → ((at id : ℕ) → ¬ Forgets event reply at id) →
+    ((at id m : ℕ) → ¬ TakesPage old event reply at id m) → ((at id : ℕ) → ¬ ForgetsDocument event reply at id) →
     (at : ℕ) (held : Documents) → IsBetween earlier at held → IsBetween (after old event reply earlier) at held
 quiet old event reply earlier none still at held b = grind arith
 
@@ -293,13 +287,13 @@ acts_between A old new (RestartDesk desk) reply earlier p fair b acts named =
 acts_between A old new event reply earlier p fair b acts named = grind (arith, desks_same, quiet, same_between)
 
 -- what is not there takes and forgets nothing
-none_taken : {A : Type 0} (old : Relay) (event : Event A) (at id m : ℕ) → ¬ Takes old event replies.NoSuch at id m
+none_taken : {A : Type 0} (old : Relay) (event : Event A) (at id m : ℕ) → ¬ TakesPage old event replies.NoSuch at id m
 none_taken old event at id m t = grind arith
 
-none_forgotten : {A : Type 0} (event : Event A) (at id : ℕ) → ¬ Forgets event replies.NoSuch at id
+none_forgotten : {A : Type 0} (event : Event A) (at id : ℕ) → ¬ ForgetsDocument event replies.NoSuch at id
 none_forgotten event at id f = grind arith
 
-names_scan : {A : Type 0} (old : Relay) (event : Event A) → IsNamed old event → (number : ℕ) (flips : List (ℕ × ℕ))
+names_scan : {A : Type 0} (old : Relay) (event : Event A) → IsNamedThere old event → (number : ℕ) (flips : List (ℕ × ℕ))
     (desk : ℕ) (stop : Stop) → event ≡ Scan desk number flips stop →
     (desk < length old.desks) × HasModules old number flips
 names_scan {A} old event named number flips desk stop is = grind arith

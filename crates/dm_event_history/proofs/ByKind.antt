@@ -3,26 +3,20 @@ use Rattle.std.proofs.Common.{arith, ◌≡◌, ℕ, Bool, true, false, length, 
 use Rattle.dm_finder_frame.specs.Frame.{GridView, flipped}
 use Rattle.dm_size.specs.declared.size.Size.{Size}
 use Rattle.dm_encodation.specs.declared.scheme.Scheme.{Scheme}
-use Rattle.dm_append_label.specs.declared.opening.Opened.{Opened}
-use Rattle.dm_append_label.specs.declared.fault.LabelFault.{LabelFault}
+use Rattle.dm_append_label.specs.declared.{opening.Opened.Opened, fault.LabelFault.LabelFault}
 use Rattle.dm_append_label.specs.declared.fault.LabelFault.TheVariants as label_fault
-use Rattle.dm_print_ledger.specs.declared.range.Range.{Range}
-use Rattle.dm_print_ledger.specs.Ledger.{LedgerView, TicketView}
+use Rattle.dm_print_ledger.specs.{declared.range.Range.Range, Ledger.LedgerView, Ledger.TicketView}
 use Rattle.dm_print_ledger.specs.declared.fault.OpenFault.TheVariants as open_fault
 use Rattle.dm_assembly_desk.specs.declared.fault.DeskFault.TheVariants as desk_fault
-use Rattle.dm_assembly_desk.specs.Documents.{Pages, Documents}
+use Rattle.dm_assembly_desk.specs.{Documents.Pages, Documents.Documents, Desk.add_verdict}
 use Rattle.dm_assembly_desk.specs.declared.adding.AddFault.TheVariants as adds
 use Rattle.dm_assembly_desk.specs.declared.reply.Imported as imported_type
-use Rattle.dm_assembly_desk.specs.Desk.{add_verdict}
-use Rattle.dm_event_history.specs.declared.reply.Reply.TheVariants.{Imported}
+use Rattle.dm_event_history.specs.declared.{reply.Reply.TheVariants.Imported, event.Event.Event, reply.Reply.Reply}
 use Rattle.dm_event_history.proofs.Adds.{Answer}
-use Rattle.dm_event_history.specs.declared.event.Event.{Event}
 use Rattle.dm_event_history.specs.declared.event.Event.TheVariants.{Print, Scan, RestartPrinter, RestartDesk, Ask, Forget, Give, Take, Export, Import}
-use Rattle.dm_event_history.specs.declared.reply.Reply.{Reply}
 use Rattle.dm_event_history.specs.declared.reply.Reply.TheVariants as replies
-use Rattle.dm_event_history.specs.declared.stop.Stop.{Stop}
+use Rattle.dm_event_history.specs.{declared.stop.Stop.Stop, Relay.Actor, Relay.Goods, Relay.Relay}
 use Rattle.dm_event_history.specs.Steps.{DeskAt, PrinterAt, actor_of, Acts, DeskGoes, PrinterGoes, stop_of, Answers, Calls, Course, Ending, Faults, LacksMemory, Looks, MayLackFirst, Restarts, Saves, GiveComes, PrintComes, TakeComes, give_faults, print_faults, take_faults, AskTells, ExportTells, ForgetComes, ImportComes, MayBe, ScanComes, forget_faults, import_faults, scan_course, scan_faults, verdict_course, pages_reply}
-use Rattle.dm_event_history.specs.Relay.{Actor, Goods, Relay}
 use Rattle.dm_event_history.specs.Relay as relays
 use Rattle.dm_event_history.specs.Told.{NeedsRunning, is_new, tells_of_save, down_after, failed_after, tells_failed}
 

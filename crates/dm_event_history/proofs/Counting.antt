@@ -2,9 +2,8 @@
 -- with and took is used and given away; its next serial is the number of its gives that saved; and its givers are those of
 -- its takes that saved.
 use Rattle.std.proofs.Common.{◌≡◌, ◌≢◌, ◌⊎◌, ◌+◌, ◌<◌, ◌==◌, ◌&&◌, ◌||◌, not, inl, inr, ℕ, zero, suc, Bool, true, false, true≢false, if◌then◌else◌, Ok, Option, None, Some, List, [], ◌∷◌, length, slice_get, slice_set, refl, sym, ap, subst, ◌∙◌, arith, eq-eqb}
-use Rattle.std.specs.Prelude.{IfSome, is_some, option_map}
+use Rattle.std.specs.{Prelude.IfSome, Prelude.is_some, Prelude.option_map, Option.option_map_or}
 use Rattle.std.proofs.lemmas.Bool.Decides.{nat_tests}
-use Rattle.std.specs.Option.{option_map_or}
 use Rattle.dm_size.specs.declared.size.Size.{Size}
 use Rattle.dm_encodation.specs.declared.scheme.Scheme.{Scheme}
 use Rattle.dm_print_ledger.specs.Ledger.{free_count, is_range, last_taken, size_of, LedgerView, TicketView}
@@ -12,10 +11,8 @@ use Rattle.dm_print_ledger.specs.Verdicts.{give_verdict, print_verdict, take_ver
 use Rattle.dm_print_ledger.specs.declared.range.Range.{Range}
 use Rattle.dm_print_ledger.specs.declared.fault.OpenFault.TheVariants as open_fault
 use Rattle.dm_print_ledger.specs.declared.fault.PrintFault.TheVariants as print_fault
-use Rattle.dm_event_history.specs.declared.event.Event.{Event}
+use Rattle.dm_event_history.specs.declared.{event.Event.Event, reply.Reply.Reply, reply.Reply.TheVariants.PrintRefused}
 use Rattle.dm_event_history.specs.declared.event.Event.TheVariants.{Print, RestartPrinter, Give, Take}
-use Rattle.dm_event_history.specs.declared.reply.Reply.{Reply}
-use Rattle.dm_event_history.specs.declared.reply.Reply.TheVariants.{PrintRefused}
 use Rattle.dm_event_history.specs.declared.reply.Reply.TheVariants as replies
 use Rattle.dm_store.specs.declared.fuse.Kept.TheVariants.{Old}
 use Rattle.dm_event_history.specs.declared.stop.Stop.{Stop}
@@ -24,8 +21,7 @@ use Rattle.dm_event_history.specs.declared.stop.Stop.TheVariants.{BeforeSave, In
 use Rattle.dm_event_history.specs.Told.{CountsTickets, EachExhaustedIsSo, EachRunCountsTickets, EachTakeIsLater, gains, gives, has_saved, last_from, loses, newest_saved, next_serial, serial_from, stock, stored_at, sum_saved, tells_of_save}
 use Rattle.dm_event_history.specs.Steps.{Named, PrinterAt, actor_of, is_same, leaves_new, may_save, stop_of, Acts, PrinterGoes, Step, IsRun, Moment, Answers, Calls, Course, Ending, Faults, LacksMemory, MayLackFirst, Reaches, Restarts, Saves, ends, GiveComes, PrintComes, TakeComes, give_faults, print_faults, take_faults}
 use Rattle.dm_event_history.specs.Relay.{Actor, Running, Failed, stored_of, Goods, Relay, fresh_from, start}
-use Rattle.dm_event_history.proofs.Deciding.{other_number}
-use Rattle.dm_event_history.proofs.Having.{saves_may, Stores}
+use Rattle.dm_event_history.proofs.{Deciding.other_number, Having.saves_may, Having.Stores}
 use Rattle.dm_event_history.proofs.ByKind.{ArePlain, IsPlainCourse, fine_give, fine_print, fine_take, give_plain, print_plain, take_plain}
 use Rattle.dm_event_history.proofs.LedgerFacts.{give_loses, made_print, print_refuses, take_gains}
 use Rattle.dm_event_history.proofs.Reasons.{own_print, print_refused}

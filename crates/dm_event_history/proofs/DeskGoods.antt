@@ -1,9 +1,8 @@
 -- Nothing leaves by the calls of desks that save, nor by an ask.
 use Rattle.std.proofs.Common.{arith, ℕ}
-use Rattle.dm_event_history.specs.declared.stop.Stop.{Stop}
+use Rattle.dm_event_history.specs.{declared.stop.Stop.Stop, Relay.Goods, Relay.Label, Relay.Move, Relay.no_goods}
 use Rattle.dm_finder_frame.specs.Frame.{GridView}
 use Rattle.dm_event_history.specs.Relay as relays
-use Rattle.dm_event_history.specs.Relay.{Goods, Label, Move, nothing}
 use Rattle.dm_event_history.specs.Steps.{Calls, Faults, Looks, MayLackFirst, AskTells, ForgetComes, ImportComes, ScanComes}
 use Rattle.dm_event_history.proofs.LeavingGoods.{IsClosed, Leaves}
 

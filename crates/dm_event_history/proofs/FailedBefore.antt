@@ -2,16 +2,12 @@
 use Rattle.std.proofs.Common.{arith, ◌≡◌, ℕ, Bool, true, false, List, sym, ap, ◌∙◌}
 use Rattle.dm_print_ledger.specs.Ledger.{LedgerView}
 use Rattle.dm_assembly_desk.specs.Documents.{Documents}
-use Rattle.dm_event_history.specs.declared.event.Event.{Event}
-use Rattle.dm_event_history.specs.declared.reply.Reply.{Reply}
-use Rattle.dm_event_history.specs.declared.stop.Stop.{Stop}
+use Rattle.dm_event_history.specs.declared.{event.Event.Event, reply.Reply.Reply, stop.Stop.Stop}
 use Rattle.dm_event_history.specs.Steps.{DeskAt, Named, PrinterAt, actor_of, Acts, DeskGoes, PrinterGoes, Moment, Calls, Course, Ending, Faults, Looks, MayLackFirst, Reaches, Restarts, ends}
 use Rattle.dm_event_history.specs.Relay.{Actor, Running, Failed, Down, Goods, Relay}
 use Rattle.dm_event_history.specs.Told.{AreAsTold, EachFailedFailed, IsAsTold, is_failed, tells_failed}
-use Rattle.dm_event_history.proofs.Reaching.{reaches}
-use Rattle.dm_event_history.proofs.AsTold.{each_run_is_as_told}
+use Rattle.dm_event_history.proofs.{Reaching.reaches, AsTold.each_run_is_as_told, Deciding.never}
 use Rattle.dm_event_history.proofs.ByKind.{ArePlain, IsPlainAnswer, IsPlainCourse, by_kind}
-use Rattle.dm_event_history.proofs.Deciding.{never}
 
 -- one that runs doesn't tell so
 running_ends : {A C X : Type 0} (faults : Faults A) (stop : Stop) (course : Course A C) (held : C) → ArePlain faults →

@@ -6,13 +6,11 @@ use Rattle.std.specs.FinMap as finite
 use Rattle.std.proofs.lemmas.List.{length-map}
 use Rattle.dm_append_label.specs.Labels.{AreParts}
 use Rattle.dm_append_label.proofs.CutParts.{each_cut_is}
-use Rattle.dm_assembly_desk.specs.declared.fault.AskFault.{AskFault}
+use Rattle.dm_assembly_desk.specs.{declared.fault.AskFault.AskFault, Desk.Asks}
 use Rattle.dm_assembly_desk.specs.declared.fault.AskFault.TheVariants as ask_fault
 use Rattle.dm_assembly_desk.specs.Documents.{Pages, document_of, missing_mask, page, page_bytes, Documents}
 use Rattle.dm_assembly_desk.specs.Desk as asking
-use Rattle.dm_assembly_desk.specs.Desk.{Asks}
-use Rattle.dm_event_history.specs.declared.event.Event.TheVariants.{Ask}
-use Rattle.dm_event_history.specs.declared.reply.Reply.{Reply}
+use Rattle.dm_event_history.specs.declared.{event.Event.TheVariants.Ask, reply.Reply.Reply}
 use Rattle.dm_event_history.specs.declared.reply.Reply.TheVariants.{Document}
 use Rattle.dm_event_history.specs.Relay.{CutDocument, Actor, Label}
 use Rattle.dm_event_history.specs.Steps.{Ending, Looks, AskTells, ask_reply, Step}
@@ -69,7 +67,7 @@ module _ (labels : List Label) (printed : ArePrinted labels) (one : AreOfOneDocu
 abbrev Gives : Type 0
 Gives = Result (List ℕ) AskFault
 
--- what is given for an identification is what each label of it is cut from, and there is one
+-- what is given for an ID is what each label of it is cut from, and there is one
 abbrev IsItsDocument : List Label → ℕ → List ℕ → Type 0
 IsItsDocument labels id bytes =
     ((number : ℕ) (label : Label) → slice_get labels number ≡ Some label → label.page.id ≡ id → label.cut.bytes ≡ bytes)
@@ -79,7 +77,7 @@ by_test : (labels : List Label) → ArePrinted labels → AreOfOneDocument label
     HaveLeft labels held → (id : ℕ) (pages : Pages) (bytes : List ℕ) → finite.get held id ≡ Some pages → (test : Bool) →
     list_all is_some pages ≡ test →
     (let given : Gives = Ok bytes in
-    asking.Gives (λ b. b) ask_fault.Memory
+    asking.GivesByVerdict (λ b. b) ask_fault.Memory
     (if test then Ok (document_of pages) else Err (ask_fault.Incomplete (missing_mask pages))) given) →
     IsItsDocument labels id bytes
 by_test labels printed one held left id pages bytes at true all given =

@@ -2,9 +2,7 @@
 use Rattle.std.proofs.Common.{arith, ◌≡◌, true, Some}
 use Rattle.dm_store.specs.declared.fuse.Kept.TheVariants.{New}
 use Rattle.dm_assembly_desk.specs.Documents.{Documents}
-use Rattle.dm_event_history.specs.declared.event.Event.{Event}
-use Rattle.dm_event_history.specs.declared.reply.Reply.{Reply}
-use Rattle.dm_event_history.specs.declared.stop.Stop.{Stop}
+use Rattle.dm_event_history.specs.declared.{event.Event.Event, reply.Reply.Reply, stop.Stop.Stop}
 use Rattle.dm_event_history.specs.declared.stop.Stop.TheVariants.{InSave, SaveFault, AfterLabels}
 use Rattle.dm_event_history.specs.declared.stop.Stop.TheVariants as stops
 use Rattle.dm_event_history.specs.Steps.{leaves_new, may_save, stop_of, Answers, Calls, Course, Ending, Faults, LacksMemory, Looks, MayLackFirst, Restarts, Saves, ends}

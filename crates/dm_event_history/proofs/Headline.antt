@@ -1,23 +1,18 @@
 -- The headline, of every run.
 use Rattle.std.proofs.Common.{◌≡◌, ◌+◌, ◌≤◌, ℕ, zero, suc, Some, List, [], ◌∷◌, slice_get, refl, sym, ap, subst, arith, eq-eqb}
-use Rattle.dm_print_ledger.specs.declared.range.Range.{Range}
-use Rattle.dm_print_ledger.specs.Ledger.{LedgerView}
+use Rattle.dm_print_ledger.specs.{declared.range.Range.Range, Ledger.LedgerView}
 use Rattle.dm_assembly_desk.specs.Documents.{Documents}
-use Rattle.dm_event_history.specs.declared.event.Event.{Event}
-use Rattle.dm_event_history.specs.declared.reply.Reply.{Reply}
+use Rattle.dm_event_history.specs.declared.{event.Event.Event, reply.Reply.Reply}
 use Rattle.dm_event_history.specs.Relay.{Actor, Label, Move, Relay, Used, start}
 use Rattle.dm_event_history.specs.Steps.{Ending, Acts, DeskGoes, PrinterGoes, Step, IsRun, Moment}
-use Rattle.dm_event_history.specs.Headline.{AreOfOneDocument, ArePrinted, AreDisjoint, IsSound, gone, places, AreAllClean, AreSavedFair, AreTrueMoments, EachRunIsSound, EachRunIsTrue, EachRunKeepsNumbers, PrintsOnce}
-use Rattle.dm_event_history.proofs.Gotten.{get_more}
-use Rattle.dm_event_history.proofs.AllClean.{all_stay_so}
+use Rattle.dm_event_history.specs.Headline.{AreOfOneDocument, ArePrinted, AreDisjoint, RelayIsSound, gone, places, AreAllClean, AreSavedFair, AreTrueMoments, EachRunIsSound, EachRunIsTrue, EachRunKeepsNumbers, PrintsOnce}
+use Rattle.dm_event_history.proofs.{Gotten.get_more, AllClean.all_stay_so, Gives.each_clean_desk_gives}
 use Rattle.dm_event_history.proofs.Beginning.{fresh_free, start_clean, start_printed, start_sound}
-use Rattle.dm_event_history.proofs.Gives.{each_clean_desk_gives}
-use Rattle.dm_event_history.proofs.KeepsNumbers.{each_step_keeps_numbers}
-use Rattle.dm_event_history.proofs.Once.{each_step_is_sound}
+use Rattle.dm_event_history.proofs.{KeepsNumbers.each_step_keeps_numbers, Once.each_step_is_sound}
 use Rattle.dm_event_history.proofs.Printed.{each_step_prints}
 
 abbrev IsSoundAndPrinted : Relay → Type 0
-IsSoundAndPrinted relay = IsSound relay × ArePrinted relay.labels
+IsSoundAndPrinted relay = RelayIsSound relay × ArePrinted relay.labels
 
 pub each_run_is_sound : (A : Type 0) → EachRunIsSound A
 each_run_is_sound A ranges rooms [] end apart run =
@@ -77,7 +72,7 @@ used_once (move ∷ moves) (suc i) zero id most is there = grind (arith, one_mor
 used_once (move ∷ moves) (suc i) (suc j) id most is there =
     (let later = used_later move moves id in ap suc (used_once moves i j id (omega arith) is there))
 
-prints_once : (relay : Relay) → IsSound relay → PrintsOnce relay
+prints_once : (relay : Relay) → RelayIsSound relay → PrintsOnce relay
 prints_once relay sound = record {
   used = λ i j id is there. used_once relay.moves i j id (let most = sound.apart id in omega arith) is there;
   once = sound.once;

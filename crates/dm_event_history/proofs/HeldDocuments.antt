@@ -1,8 +1,7 @@
 -- What is held of a document once it, or another, is put among documents or taken away from them.
 use Rattle.std.proofs.Common.{◌≡◌, ◌≢◌, ℕ, Bool, cond, Some, None, ap, ◌∙◌}
 use Rattle.std.specs.FinMap as map
-use Rattle.std.specs.FinMap.{get-insert, get-remove}
-use Rattle.std.specs.Cmp.{nat_cmp_total}
+use Rattle.std.specs.{FinMap.get-insert, FinMap.get-remove, Cmp.nat_cmp_total}
 use Rattle.dm_assembly_desk.specs.Documents.{Pages, Documents}
 use Rattle.dm_assembly_desk.proofs.Loading.{apart, itself}
 

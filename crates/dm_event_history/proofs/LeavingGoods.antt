@@ -1,11 +1,10 @@
 -- What is so of all goods that leave by a call: it is so of none, and of those that are cut off.
 use Rattle.std.proofs.Common.{arith, ◌≡◌, ℕ, sym, subst}
 use Rattle.dm_store.specs.declared.fuse.Kept.TheVariants.{Old, New}
-use Rattle.dm_event_history.specs.declared.reply.Reply.{Reply}
-use Rattle.dm_event_history.specs.declared.stop.Stop.{Stop}
+use Rattle.dm_event_history.specs.declared.{reply.Reply.Reply, stop.Stop.Stop}
 use Rattle.dm_event_history.specs.declared.stop.Stop.TheVariants as stops
 use Rattle.dm_event_history.specs.declared.stop.Stop.TheVariants.{InSave, SaveFault, AfterLabels}
-use Rattle.dm_event_history.specs.Relay.{Actor, Running, Failed, Down, Goods, nothing}
+use Rattle.dm_event_history.specs.Relay.{Actor, Running, Failed, Down, Goods, no_goods}
 use Rattle.dm_event_history.specs.Steps.{Answers, Calls, Course, Ending, Faults, LacksMemory, MayLackFirst, Reaches, Restarts, Saves, cut_off, ends}
 use Rattle.dm_event_history.proofs.Reaching.{reached, reaches}
 
@@ -16,7 +15,7 @@ OfCourse P (Answers reply) = Unit {0}
 OfCourse P LacksMemory = Unit {0}
 
 pub record IsClosed (P : Goods → Type 0) : Type 0 where
-  pub none : P nothing
+  pub none : P no_goods
   pub cut : (most : ℕ) (goods : Goods) → P goods → P (cut_off most goods)
 
 abbrev pub Leaves : {A C : Type 0} → (Goods → Type 0) → (Actor C → Ending A C → Type 0) → Type 0

@@ -1,24 +1,19 @@
 -- What prints, gives and takes that are saved do to the numbers of a ledger.
 use Rattle.std.proofs.Common.{◌≡◌, ◌<◌, ◌≤◌, ℕ, Bool, true, false, ◌==◌, ◌||◌, not, Option, Some, None, Result, Ok, Err, List, [], ◌∷◌, length, nat_le, nat_lt, if◌then◌else◌, refl, sym, ap, subst, ◌∙◌, arith}
-use Rattle.std.proofs.lemmas.Bool.{or_left, leb-true, and_parts}
-use Rattle.std.proofs.lemmas.Bool.Decides.{nat_tests}
-use Rattle.std.specs.Option.{option_map_or}
-use Rattle.std.specs.Prelude.{IfSome, IsSomeAnd, is_some}
+use Rattle.std.proofs.lemmas.Bool.{or_left, leb-true, and_parts, Decides.nat_tests}
+use Rattle.std.specs.{Option.option_map_or, Prelude.IfSome, Prelude.IsSomeAnd, Prelude.is_some}
 use Rattle.dm_size.specs.declared.size.Size.{Size}
 use Rattle.dm_encodation.specs.declared.scheme.Scheme.{Scheme}
 use Rattle.dm_append_label.specs.Labels.{AreParts}
-use Rattle.dm_print_ledger.specs.declared.range.Range.{Range}
+use Rattle.dm_print_ledger.specs.declared.{range.Range.Range, fault.PrintFault.PrintFault, fault.TakeFault.TakeFault}
 use Rattle.dm_print_ledger.specs.declared.limits.TheConstants.{MOST_RANGES, MOST_GIVERS}
-use Rattle.dm_print_ledger.specs.declared.fault.PrintFault.{PrintFault}
 use Rattle.dm_print_ledger.specs.declared.fault.PrintFault.TheVariants as print_fault
 use Rattle.dm_print_ledger.specs.declared.fault.GiveFault.TheVariants as give_fault
-use Rattle.dm_print_ledger.specs.declared.fault.TakeFault.{TakeFault}
 use Rattle.dm_print_ledger.specs.declared.fault.TakeFault.TheVariants as take_fault
-use Rattle.dm_print_ledger.specs.Verdicts.{are_free, has_free, least, single, without, union_of, AreFree, AreTaken, IsLeastFree, TakesOut, PutsIn, Notes, print_verdict, give_verdict, take_verdict, giver_of}
+use Rattle.dm_print_ledger.specs.Verdicts.{are_free, has_free, least, single, without, union_with_range, AreFree, AreTaken, IsLeastFree, TakesOut, PutsIn, NotesSerial, print_verdict, give_verdict, take_verdict, giver_of}
 use Rattle.dm_print_ledger.specs.Ledger.{givers_with, is_old, last_taken, is_sound, are_ranges, free_count, is_range, LedgerView, TicketView}
-use Rattle.dm_event_history.specs.declared.reply.Reply.{Reply}
-use Rattle.dm_event_history.specs.Steps.{Saves, IsCut, PrintComes, PrintLeaves, cut_of}
-use Rattle.dm_event_history.specs.Relay.{Goods}
+use Rattle.dm_event_history.specs.{declared.reply.Reply.Reply, Relay.Goods}
+use Rattle.dm_event_history.specs.Steps.{Saves, HasParts, PrintComes, PrintLeaves, cut_of}
 use Rattle.dm_print_ledger.proofs.LedgerLaws.{ranges_are_numbers, first_is_least, givers_are_noted}
 use Rattle.dm_print_ledger.proofs.OutLaws.{covered_free, covers_from, takes_out}
 use Rattle.dm_print_ledger.proofs.InLaws.{meets_none, HasFree, meets_free}
@@ -96,7 +91,7 @@ pub made_print : {A : Type 0} (before : ℕ) (document : List ℕ) (size : Size)
 made_print {A} before document size scheme held next goods reply comes =
     by_parts comes.1 comes.2 comes.0 comes.3.0 comes.3.1
   where
-    by_parts : (parts : Option (List (List ℕ))) → IsCut size scheme document parts → is_sound held ≡ true →
+    by_parts : (parts : Option (List (List ℕ))) → HasParts size scheme document parts → is_sound held ≡ true →
         print_verdict held (is_some parts) ≡ Ok next →
         IsSomeAnd parts (λ parts. PrintLeaves before (cut_of document size scheme parts) (least held.free) goods reply) →
         IsMadePrint before document size scheme held next goods reply
@@ -122,7 +117,7 @@ pub record GainsNumbers (old : LedgerView) (ticket : TicketView) (new : LedgerVi
   pub were_taken : AreTaken old.free ticket.range
   pub free : PutsIn old.free ticket.range new.free
   pub number : new.number ≡ old.number
-  pub givers : Notes old.givers ticket.giver ticket.serial new.givers
+  pub givers : NotesSerial old.givers ticket.giver ticket.serial new.givers
 
 new_serial : (o : Option ℕ) (serial : ℕ) → option_map_or (nat_le serial) o false ≡ false →
     IfSome o (λ last. last < serial)
@@ -162,10 +157,10 @@ take_gains old next ticket sound range is =
     let a = on (not (ticket.receiver == old.number) || ticket.giver == ticket.receiver) take_fault.Receiver _ next is in
     let b = on (is_old old.givers ticket.giver ticket.serial) take_fault.Old _ next a.1 in
     let c = on (has_free old.free ticket.range) take_fault.Overlap _ next b.1 in
-    let d = on (nat_lt MOST_RANGES (length (union_of old.free ticket.range))) take_fault.Ranges _ next c.1 in
+    let d = on (nat_lt MOST_RANGES (length (union_with_range old.free ticket.range))) take_fault.Ranges _ next c.1 in
     let e = on (nat_lt MOST_GIVERS (length (givers_with old.givers (giver_of ticket)))) take_fault.Givers _ next d.1 in
     let same : record old {
-      free = union_of old.free ticket.range;
+      free = union_with_range old.free ticket.range;
       givers = givers_with old.givers (giver_of ticket);
     } ≡ next = cc (e.1) in
     subst (λ (l : LedgerView). GainsNumbers old ticket l) same (record {

@@ -5,19 +5,16 @@ use Rattle.dm_print_ledger.specs.Ledger.{LedgerView}
 use Rattle.dm_print_ledger.specs.declared.fault.OpenFault.TheVariants as open_fault
 use Rattle.dm_assembly_desk.specs.declared.fault.DeskFault.TheVariants as desk_fault
 use Rattle.dm_assembly_desk.specs.Documents.{Documents}
-use Rattle.dm_event_history.specs.declared.event.Event.{Event}
-use Rattle.dm_event_history.specs.declared.event.Event.TheVariants.{RestartPrinter, RestartDesk}
-use Rattle.dm_event_history.specs.declared.reply.Reply.{Reply}
+use Rattle.dm_event_history.specs.declared.event.Event.{Event, TheVariants.RestartPrinter, TheVariants.RestartDesk}
+use Rattle.dm_event_history.specs.declared.{reply.Reply.Reply, stop.Stop.Stop}
 use Rattle.dm_event_history.specs.declared.reply.Reply.TheVariants as replies
-use Rattle.dm_event_history.specs.declared.stop.Stop.{Stop}
 use Rattle.dm_event_history.specs.declared.stop.Stop.TheVariants as stops
 use Rattle.dm_event_history.specs.declared.stop.Stop.TheVariants.{InSave, SaveFault, AfterLabels}
-use Rattle.dm_event_history.specs.Steps.{DeskAt, Named, PrinterAt, actor_of, IsStopping, stop_of, Acts, DeskGoes, IsNamed, PrinterGoes, Answers, Calls, Course, Ending, Faults, LacksMemory, Looks, MayLackFirst, Reaches, Restarts, Saves, ends}
+use Rattle.dm_event_history.specs.Steps.{DeskAt, Named, PrinterAt, actor_of, IsStopping, stop_of, Acts, DeskGoes, IsNamedThere, PrinterGoes, Answers, Calls, Course, Ending, Faults, LacksMemory, Looks, MayLackFirst, Reaches, Restarts, Saves, ends}
 use Rattle.dm_event_history.specs.Relay.{Actor, Running, Failed, Down, Desk, Goods, Relay}
 use Rattle.dm_event_history.specs.Told.{down_after, EachStepIsLegal, IsDown, IsDownAt, IsLegal, NeedsRunning, tells_of_save}
-use Rattle.dm_event_history.proofs.Reaching.{reaches}
+use Rattle.dm_event_history.proofs.{Reaching.reaches, Deciding.never}
 use Rattle.dm_event_history.proofs.ByKind.{ArePlain, IsPlainAnswer, IsPlainCourse, by_kind}
-use Rattle.dm_event_history.proofs.Deciding.{never}
 
 -- ---- replies
 
@@ -130,7 +127,7 @@ looks_legal {A} Said each (Down stored) end acts = grind (arith, legal_down, of_
 
 -- what a call of one that is there makes of the step
 by_call : {A C : Type 0} (old : Relay) (event : Event A) (reply known : Reply A) (actor : Actor C) →
-    IsNamed old event → NeedsRunning event → (IsDownAt old (actor_of event) ↔ IsDown actor) → reply ≡ known →
+    IsNamedThere old event → NeedsRunning event → (IsDownAt old (actor_of event) ↔ IsDown actor) → reply ≡ known →
     IsCallLegal (stop_of event) actor known → IsLegal old event reply
 by_call {A} old event reply known actor named needs same is l =
     subst (λ (r : Reply A). IsLegal old event r) (sym is) (record {
@@ -157,7 +154,8 @@ desk_down old number desk was = (
 
 printer_legal : {A : Type 0} (old new : Relay) (event : Event A) (printer : ℕ)
     (Does : Actor LedgerView → Ending A LedgerView → Type 0) (reply : Reply A) → actor_of event ≡ PrinterAt printer →
-    IsNamed old event → NeedsRunning event → AreLegal (stop_of event) Does → PrinterGoes old printer Does reply new →
+    IsNamedThere old event → NeedsRunning event → AreLegal (stop_of event) Does →
+    PrinterGoes old printer Does reply new →
     IsLegal old event reply
 printer_legal old new event printer Does reply who named needs each g =
     by_call old event reply g.end.reply g.actor named needs
@@ -166,7 +164,7 @@ printer_legal old new event printer Does reply who named needs each g =
 
 desk_legal : {A : Type 0} (old new : Relay) (event : Event A) (number : ℕ)
     (Does : ℕ → Actor Documents → Ending A Documents → Type 0) (reply : Reply A) → actor_of event ≡ DeskAt number →
-    IsNamed old event → NeedsRunning event → ((room : ℕ) → AreLegal (stop_of event) (Does room)) →
+    IsNamedThere old event → NeedsRunning event → ((room : ℕ) → AreLegal (stop_of event) (Does room)) →
     DeskGoes old number Does reply new → IsLegal old event reply
 desk_legal old new event number Does reply who named needs each g =
     by_call old event reply g.end.reply g.desk.actor named needs
@@ -185,7 +183,7 @@ restart_desk_legal : {A : Type 0} (old : Relay) (desk : ℕ) (reply : Reply A) (
     IsLegal old (RestartDesk desk) reply
 restart_desk_legal {A} old desk reply end actor named ends is = grind arith
 
-acts_legal : {A : Type 0} (old new : Relay) (event : Event A) (reply : Reply A) → IsNamed old event →
+acts_legal : {A : Type 0} (old new : Relay) (event : Event A) (reply : Reply A) → IsNamedThere old event →
     Acts old event reply new → IsLegal old event reply
 acts_legal old new (RestartPrinter printer) reply named acts = grind (arith, restart_printer_legal)
 acts_legal old new (RestartDesk desk) reply named acts = grind (arith, restart_desk_legal)
@@ -196,7 +194,7 @@ acts_legal old new event reply named acts =
     (λ number Does who each g. desk_legal old new event number Does reply who named tt each g) acts
 
 -- what is not there is answered so
-none_legal : {A : Type 0} (old : Relay) (event : Event A) → ¬ IsNamed old event → IsLegal old event replies.NoSuch
+none_legal : {A : Type 0} (old : Relay) (event : Event A) → ¬ IsNamedThere old event → IsLegal old event replies.NoSuch
 none_legal old event missing = grind arith
 
 pub each_step_is_legal : (A : Type 0) → EachStepIsLegal A

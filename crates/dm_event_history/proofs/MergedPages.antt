@@ -1,10 +1,8 @@
 -- Lists of pages that are joined: which pages are there, one by one, and where two lists disagree.
 use Rattle.std.proofs.Common.{◌≡◌, ◌≢◌, ℕ, zero, suc, ◌≤◌, ◌&&◌, List, [], ◌∷◌, ◌++◌, length, slice_get, ap, Bool, true, false, Option, Some, None, IsSome, refl, arith, inl, inr, sym, ◌∙◌, map as mapped}
-use Rattle.std.specs.Prelude.{is_some}
-use Rattle.std.specs.List.{list_all, concat}
-use Rattle.std.proofs.lemmas.Slice.Eq.{bytes_eq-Decides}
+use Rattle.std.specs.{Prelude.is_some, List.list_all, List.concat}
+use Rattle.std.proofs.lemmas.{Slice.Eq.bytes_eq-Decides, Bool.and_parts}
 use Rattle.dm_assembly_desk.specs.Documents.{Pages, page, lacks, page_bytes, document_of, agrees_at, agree}
-use Rattle.std.proofs.lemmas.Bool.{and_parts}
 use Rattle.dm_event_history.proofs.Deciding.{decided}
 
 -- where each page is there, any of them is

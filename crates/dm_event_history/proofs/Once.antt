@@ -1,35 +1,29 @@
--- No label leaves twice, and labels of one identification are cut from one document.
+-- No label leaves twice, and labels of one ID are cut from one document.
 use Rattle.std.proofs.Common.{◌≡◌, ◌⊎◌, ◌+◌, ◌≤◌, inl, inr, ℕ, zero, suc, true, ◌==◌, Some, List, [], ◌∷◌, ◌++◌, length, slice_get, refl, sym, ap, subst, arith, eq-eqb}
 use Rattle.dm_size.specs.declared.size.Size.{Size}
 use Rattle.dm_encodation.specs.declared.scheme.Scheme.{Scheme}
-use Rattle.dm_print_ledger.specs.declared.range.Range.{Range}
-use Rattle.dm_print_ledger.specs.Verdicts.{least}
+use Rattle.dm_print_ledger.specs.{declared.range.Range.Range, Verdicts.least}
 use Rattle.dm_print_ledger.specs.Ledger.{is_free, LedgerView, TicketView}
-use Rattle.dm_event_history.specs.declared.event.Event.{Event}
+use Rattle.dm_event_history.specs.declared.{event.Event.Event, reply.Reply.Reply, stop.Stop.Stop}
 use Rattle.dm_event_history.specs.declared.event.Event.TheVariants.{Print, RestartPrinter, Give, Take}
-use Rattle.dm_event_history.specs.declared.reply.Reply.{Reply}
-use Rattle.dm_event_history.specs.declared.stop.Stop.{Stop}
 use Rattle.dm_event_history.specs.Relay.{CutDocument, Actor, Running, Failed, Down, stored_of, Goods, Label, Move, Relay}
-use Rattle.dm_event_history.proofs.Gotten.{in_either}
+use Rattle.dm_event_history.proofs.{Gotten.in_either, LedgerFacts.made_print, Reaching.reached, Reaching.reaches}
 use Rattle.dm_event_history.specs.Steps.{Answers, Calls, Course, Ending, LacksMemory, MayLackFirst, Saves, AreLabelsFor, GiveComes, PrintComes, TakeComes, cut_of, print_faults, Acts, PrinterGoes}
-use Rattle.dm_event_history.specs.Headline.{AreOfOneDocument, AreOnce, EachStepIsSound, IsSound, gone, one_if}
-use Rattle.dm_event_history.proofs.LedgerFacts.{made_print}
+use Rattle.dm_event_history.specs.Headline.{AreOfOneDocument, AreOnce, EachStepIsSound, RelayIsSound, gone, one_if}
 use Rattle.dm_event_history.proofs.LeavingGoods.{IsClosed, OfCourse, as_known, calls_leave, ends_leave, known_goods, may_lack_leaves, restarts_leave}
-use Rattle.dm_event_history.proofs.Reaching.{reached, reaches}
 use Rattle.dm_event_history.proofs.QuietDesks.{ChangesDesk, quiet_desks, take_none}
-use Rattle.dm_event_history.proofs.Numbers.{free_some, gone_more}
-use Rattle.dm_event_history.proofs.Printed.{get_taken}
+use Rattle.dm_event_history.proofs.{Numbers.free_some, Numbers.gone_more, Printed.get_taken}
 use Rattle.dm_event_history.proofs.KeepsNumbers.{each_step_keeps_numbers}
 
 -- ---- the labels of a print
 
--- a label of this document under this identification, at its place
+-- a label of this document under this ID, at its place
 pub record IsOfBatch (id : ℕ) (cut : CutDocument) (i : ℕ) (label : Label) : Type 0 where
   pub id_is : label.page.id ≡ id
   pub cut_is : label.cut ≡ cut
   pub m_is : label.page.m ≡ i + 1
 
--- the labels leave under an identification that was free, and is used
+-- the labels leave under an ID that was free, and is used
 pub record IsBatch (held : LedgerView) (goods : Goods) : Type 0 where
   pub id : ℕ
   pub cut : CutDocument
@@ -97,7 +91,7 @@ pub record IsFresh (old : Relay) (goods : Goods) : Type 0 where
   pub used : 1 ≤ gone goods.moves id
   pub fresh : gone old.moves id ≡ 0
 
-module _ (old : Relay) (goods : Goods) (sound : IsSound old) where
+module _ (old : Relay) (goods : Goods) (sound : RelayIsSound old) where
   -- with no label
   still_used : goods.labels ≡ [] → (i : ℕ) (label : Label) → slice_get (old.labels ++ goods.labels) i ≡ Some label →
       1 ≤ gone (old.moves ++ goods.moves) label.page.id
@@ -107,7 +101,7 @@ module _ (old : Relay) (goods : Goods) (sound : IsSound old) where
       slice_get old.labels i ≡ Some label
   still_there none i label is = grind (arith, in_either)
 
-  -- a label that left before has another identification
+  -- a label that left before has another ID
   apart : (f : IsFresh old goods) (i : ℕ) (label : Label) {X : Type 0} → slice_get old.labels i ≡ Some label →
       label.page.id ≡ f.id → X
   apart f i label is same = grind arith
@@ -130,12 +124,12 @@ AreSoundLabels labels moves =
     ((i : ℕ) (label : Label) → slice_get labels i ≡ Some label → 1 ≤ gone moves label.page.id)
     × AreOfOneDocument labels × AreOnce labels
 
-more_labels : (old : Relay) (goods : Goods) → IsSound old → MayBeFresh old goods →
+more_labels : (old : Relay) (goods : Goods) → RelayIsSound old → MayBeFresh old goods →
     AreSoundLabels (old.labels ++ goods.labels) (old.moves ++ goods.moves)
 more_labels old goods sound none = grind (arith, more_document, more_once, more_used, still_there, still_used)
 
 -- a number that is free is not used
-fresh_of : (old : Relay) (printer : ℕ) (actor : Actor LedgerView) (goods : Goods) → IsSound old →
+fresh_of : (old : Relay) (printer : ℕ) (actor : Actor LedgerView) (goods : Goods) → RelayIsSound old →
     slice_get old.printers printer ≡ Some actor → MayBeBatch (stored_of actor) goods → MayBeFresh old goods
 fresh_of old printer actor goods sound was none = grind (arith, free_some)
 
@@ -143,7 +137,7 @@ fresh_of old printer actor goods sound was none = grind (arith, free_some)
 
 -- labels and moves after a step
 printer_labels : {A : Type 0} (old new : Relay) (printer : ℕ) (Acts : Actor LedgerView → Ending A LedgerView → Type 0)
-    (reply : Reply A) → IsSound old →
+    (reply : Reply A) → RelayIsSound old →
     ((actor : Actor LedgerView) (end : Ending A LedgerView) → Acts actor end → MayBeBatch (stored_of actor) end.goods) →
     PrinterGoes old printer Acts reply new → AreSoundLabels new.labels new.moves
 printer_labels old new printer Acts reply sound each g =
@@ -157,7 +151,7 @@ HasNoLabels goods = goods.labels ≡ []
 no_labels : IsClosed HasNoLabels
 no_labels = grind arith
 
-desk_labels : (old new : Relay) → IsSound old → ChangesDesk old new → AreSoundLabels new.labels new.moves
+desk_labels : (old new : Relay) → RelayIsSound old → ChangesDesk old new → AreSoundLabels new.labels new.moves
 desk_labels old new sound c =
     subst (λ (r : Relay). AreSoundLabels r.labels r.moves) (sym c.new_is)
     (more_labels old c.goods sound (inl c.quiet.labels))
@@ -170,7 +164,7 @@ take_none_leave : {A : Type 0} (number : ℕ) (ticket : TicketView) (held : Ledg
     TakeComes number ticket held course → OfCourse HasNoLabels course
 take_none_leave number ticket held course comes = grind arith
 
-acts_labels : {A : Type 0} (old new : Relay) (event : Event A) (reply : Reply A) → IsSound old →
+acts_labels : {A : Type 0} (old new : Relay) (event : Event A) (reply : Reply A) → RelayIsSound old →
     Acts old event reply new → AreSoundLabels new.labels new.moves
 acts_labels old new (Print printer document size scheme stop) reply sound acts =
     printer_labels old new printer _ reply sound (print_leaves (length old.labels) document size scheme stop) acts

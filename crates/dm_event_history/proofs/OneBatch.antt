@@ -1,17 +1,14 @@
--- The labels of a document under an identification are the same ones.
+-- The labels of a document under an ID are the same ones.
 use Rattle.std.proofs.Common.{◌≡◌, ◌+◌, ℕ, List, [], ◌∷◌, length, refl, sym, ap, ◌∙◌}
-use Rattle.dm_size.specs.declared.size.Size.{Size}
-use Rattle.dm_size.specs.Sizes.{data_words}
+use Rattle.dm_size.specs.{declared.size.Size.Size, Sizes.data_words}
 use Rattle.dm_check_blocks.proofs.Symbols.{one_symbol}
-use Rattle.dm_encodation.specs.declared.scheme.Scheme.{Scheme}
-use Rattle.dm_encodation.specs.Written.{filled}
+use Rattle.dm_encodation.specs.{declared.scheme.Scheme.Scheme, Written.filled}
 use Rattle.dm_finder_frame.specs.Frame.{GridView}
 use Rattle.dm_symbol.specs.Correction.{grid_of_words}
 use Rattle.dm_append_label.specs.Labels.{head_of, head_words, PageView, AreParts, parts_from}
 use Rattle.dm_append_label.proofs.CutParts.{one_cut}
 use Rattle.dm_print_ledger.specs.Verdicts.{IsLabelOf}
-use Rattle.dm_event_history.specs.Relay.{CutDocument, Label}
-use Rattle.dm_event_history.specs.Steps.{AreLabelsFor, IsLabelFor}
+use Rattle.dm_event_history.specs.{Relay.CutDocument, Relay.Label, Steps.AreLabelsFor, Steps.IsLabelFor}
 
 pub parts_once : (size : Size) (scheme : Scheme) (document : List ℕ) (a b : List (List ℕ)) →
     AreParts size scheme document a → AreParts size scheme document b → a ≡ b

@@ -4,15 +4,12 @@ use Rattle.std.specs.Prelude.{IsSomeAnd, is_some}
 use Rattle.dm_size.specs.declared.size.Size.{Size}
 use Rattle.dm_encodation.specs.declared.scheme.Scheme.{Scheme}
 use Rattle.dm_finder_frame.specs.Frame.{GridView}
-use Rattle.dm_print_ledger.specs.declared.range.Range.{Range}
-use Rattle.dm_print_ledger.specs.Verdicts.{least, print_verdict}
+use Rattle.dm_print_ledger.specs.{declared.range.Range.Range, Verdicts.least, Verdicts.print_verdict}
 use Rattle.dm_print_ledger.specs.Ledger.{LedgerView, TicketView}
-use Rattle.dm_event_history.specs.declared.reply.Reply.{Reply}
-use Rattle.dm_event_history.specs.declared.reply.Reply.TheVariants.{PrintRefused}
+use Rattle.dm_event_history.specs.declared.reply.Reply.{Reply, TheVariants.PrintRefused}
 use Rattle.dm_event_history.specs.Relay.{Export, Goods}
-use Rattle.dm_event_history.specs.Steps.{Course, LacksMemory, Comes, GiveComes, IsCut, PrintComes, PrintLeaves, TakeComes, cut_of, ForgetComes, ImportComes, MayBe, ScanComes}
-use Rattle.dm_event_history.proofs.OneReading.{reading_once}
-use Rattle.dm_event_history.proofs.OneBatch.{parts_once, labels_once}
+use Rattle.dm_event_history.specs.Steps.{Course, LacksMemory, IsCourse, GiveComes, HasParts, PrintComes, PrintLeaves, TakeComes, cut_of, ForgetComes, ImportComes, MayBe, ScanComes}
+use Rattle.dm_event_history.proofs.{OneReading.reading_once, OneBatch.parts_once, OneBatch.labels_once}
 
 abbrev pub SameCourse : {A C : Type 0} → Course A C → Course A C → Type 0
 SameCourse one other = (one ≡ other) ⊎ ((one ≡ LacksMemory) ⊎ (other ≡ LacksMemory))
@@ -26,13 +23,13 @@ IsDetermined {A} {C} Comes = (held : C) (one other : Course A C) → Comes held 
 -- of one verdict, by which one thing leaves
 module _ {A F : Type 0} (refuses : F → Reply A) (verdict : Result LedgerView F) (Leaves : Goods → Reply A → Type 0)
     (once : (g h : Goods) (r s : Reply A) → Leaves g r → Leaves h s → (g ≡ h) × (r ≡ s)) where
-  verdict_once : (one other : Course A LedgerView) → Comes refuses verdict Leaves one →
-      Comes refuses verdict Leaves other → SameCourse one other
+  verdict_once : (one other : Course A LedgerView) → IsCourse refuses verdict Leaves one →
+      IsCourse refuses verdict Leaves other → SameCourse one other
   verdict_once one other p q = grind arith
 
 -- a document has one list of parts, or none
 cut_once : (document : List ℕ) (size : Size) (scheme : Scheme) (a b : Option (List (List ℕ))) →
-    IsCut size scheme document a → IsCut size scheme document b → a ≡ b
+    HasParts size scheme document a → HasParts size scheme document b → a ≡ b
 cut_once document size scheme None None p q = refl
 cut_once document size scheme None (Some parts) p q = absurd (p q.ends q.are_ends)
 cut_once document size scheme (Some parts) None p q = absurd (q p.ends p.are_ends)
@@ -48,7 +45,7 @@ module _ {A : Type 0} (before : ℕ) (document : List ℕ) (size : Size) (scheme
 
   pub print_determined : IsDetermined (PrintComes {A = A} before document size scheme)
   print_determined held one other p q =
-      let Be : Option (List (List ℕ)) → Type 0 = λ parts. Comes PrintRefused (print_verdict held (is_some parts))
+      let Be : Option (List (List ℕ)) → Type 0 = λ parts. IsCourse PrintRefused (print_verdict held (is_some parts))
       (λ goods reply. IsSomeAnd parts
       (λ parts. PrintLeaves before (cut_of document size scheme parts) (least held.free) goods reply)) other in
       verdict_once PrintRefused (print_verdict held (is_some p.1))

@@ -4,19 +4,14 @@ use Rattle.std.specs.FinMap as finite
 use Rattle.dm_size.specs.declared.size.Size.{Size}
 use Rattle.dm_encodation.specs.declared.scheme.Scheme.{Scheme}
 use Rattle.dm_finder_frame.specs.Frame.{GridView}
-use Rattle.dm_append_label.specs.declared.opening.Opened.{Opened}
-use Rattle.dm_append_label.specs.declared.fault.LabelFault.{LabelFault}
+use Rattle.dm_append_label.specs.declared.{opening.Opened.Opened, fault.LabelFault.LabelFault}
 use Rattle.dm_append_label.specs.declared.fault.LabelFault.TheVariants as label_fault
-use Rattle.dm_print_ledger.specs.declared.range.Range.{Range}
-use Rattle.dm_print_ledger.specs.Ledger.{TicketView}
+use Rattle.dm_print_ledger.specs.{declared.range.Range.Range, Ledger.TicketView}
 use Rattle.dm_assembly_desk.specs.Documents.{Pages}
-use Rattle.dm_event_history.specs.declared.reply.Reply.{Reply}
-use Rattle.dm_event_history.specs.declared.stop.Stop.{Stop}
-use Rattle.dm_event_history.specs.Relay.{Actor, Down, Export, Failed, Goods, Running, nothing, stored_of}
+use Rattle.dm_event_history.specs.{declared.reply.Reply.Reply, declared.stop.Stop.Stop, Told.IsOfMemory}
+use Rattle.dm_event_history.specs.Relay.{Actor, Down, Export, Failed, Goods, Running, no_goods, stored_of}
 use Rattle.dm_event_history.specs.Steps.{Answers, Calls, Course, Ending, Faults, LacksMemory, Looks, MayLackFirst, Reaches, Restarts, Saves, ending, ends, AskTells, ExportTells, ExportsHeld, ForgetComes, GiveComes, ImportComes, MayBe, PrintComes, ScanComes, TakeComes, scan_course}
-use Rattle.dm_event_history.specs.Told.{IsOfMemory}
-use Rattle.dm_event_history.proofs.OneCourse.{IsDetermined}
-use Rattle.dm_event_history.proofs.Reaching.{reaches}
+use Rattle.dm_event_history.proofs.{OneCourse.IsDetermined, Reaching.reaches}
 
 abbrev pub SameEnding : {A C : Type 0} → Ending A C → Ending A C → Type 0
 SameEnding one other = (one ≡ other) ⊎ (IsOfMemory one.reply ⊎ IsOfMemory other.reply)
@@ -63,7 +58,7 @@ import_answered room export held course comes = grind (arith, may_be_answered)
 pub record IsOne {A C : Type 0} (kept : Actor C → Actor C) (Acts : Actor C → Ending A C → Type 0) : Type 0 where
   pub alike : (actor : Actor C) (one other : Ending A C) → Acts actor one → Acts actor other → SameEnding one other
   pub still : (actor : Actor C) (end : Ending A C) → Acts actor end → IsOfMemory end.reply →
-      end ≡ ending end.reply (kept actor) nothing
+      end ≡ ending end.reply (kept actor) no_goods
 
 -- so a reply tells how it ends
 pub by_reply : {A C : Type 0} (kept : Actor C → Actor C) (Acts : Actor C → Ending A C → Type 0) → IsOne kept Acts → (actor : Actor C)
@@ -75,7 +70,7 @@ by_reply {A} {C} kept Acts is actor one other p q same = elim (is.alike actor on
 ]
   where
     both : IsOfMemory one.reply → IsOfMemory other.reply → one ≡ other
-    both m n = is.still actor one p m ∙ ap (λ (r : Reply A). ending r (kept actor) nothing) same
+    both m n = is.still actor one p m ∙ ap (λ (r : Reply A). ending r (kept actor) no_goods) same
         ∙ sym (is.still actor other q n)
 
 calls_alike : {A C : Type 0} (faults : Faults A) (stop : Stop) (Comes : C → Course A C → Type 0) →
@@ -86,7 +81,7 @@ calls_alike faults stop Comes memory determined held one other p q = grind arith
 ends_still : {A C : Type 0} (faults : Faults A) (stop : Stop) (course : Course A C) (held : C) →
     (¬ IsOfMemory faults.save) → Reaches stop (IsAnswered course) →
     (let end = ends faults stop course (Running held) in
-    IsOfMemory end.reply → end ≡ ending end.reply (Running held) nothing)
+    IsOfMemory end.reply → end ≡ ending end.reply (Running held) no_goods)
 ends_still faults stop course held save answered memory = grind arith
 
 failed_still : {A C : Type 0} (faults : Faults A) (stop : Stop) (old : Actor C) → (¬ IsOfMemory faults.failed) →
@@ -102,7 +97,7 @@ calls_one {A} {C} faults stop Comes memory save failed answered determined = rec
 }
   where
     still : (actor : Actor C) (end : Ending A C) → Calls faults stop Comes actor end → IsOfMemory end.reply →
-        end ≡ ending end.reply actor nothing
+        end ≡ ending end.reply actor no_goods
     still (Running held) end (course, came, is) m = grind (arith, ends_still, reaches)
     still (Failed shown stored) end is m = grind (arith, failed_still)
     still (Down stored) end is m = grind arith
@@ -115,7 +110,7 @@ may_lack_one {A} {C} Acts one = record { alike = alike; still = still }
     alike actor a b p q = let same = one.alike actor a b in grind arith
 
     still : (actor : Actor C) (end : Ending A C) → MayLackFirst Acts actor end → IsOfMemory end.reply →
-        end ≡ ending end.reply actor nothing
+        end ≡ ending end.reply actor no_goods
     still actor end p m = let is = one.still actor end in grind arith
 
 pub restarts_one : {A C : Type 0} (refused : Reply A) → IsOfMemory refused →
@@ -133,7 +128,7 @@ SameTold r s g h = ((r ≡ s) × (g ≡ h)) ⊎ (IsOfMemory r ⊎ IsOfMemory s)
 -- the reply is one, but for memory; and where memory is refused nothing leaves
 pub record TellsOne {A C : Type 0} (Tells : C → Reply A → Goods → Type 0) : Type 0 where
   pub alike : (held : C) (r s : Reply A) (g h : Goods) → Tells held r g → Tells held s h → SameTold r s g h
-  pub still : (held : C) (r : Reply A) (g : Goods) → Tells held r g → IsOfMemory r → g ≡ nothing
+  pub still : (held : C) (r : Reply A) (g : Goods) → Tells held r g → IsOfMemory r → g ≡ no_goods
 
 looks_alike : {A C : Type 0} (Tells : C → Reply A → Goods → Type 0) →
     ((held : C) (r s : Reply A) (g h : Goods) → Tells held r g → Tells held s h → SameTold r s g h) →
@@ -141,9 +136,9 @@ looks_alike : {A C : Type 0} (Tells : C → Reply A → Goods → Type 0) →
 looks_alike Tells same actor one other p q = grind arith
 
 looks_still : {A C : Type 0} (Tells : C → Reply A → Goods → Type 0) →
-    ((held : C) (r : Reply A) (g : Goods) → Tells held r g → IsOfMemory r → g ≡ nothing) →
+    ((held : C) (r : Reply A) (g : Goods) → Tells held r g → IsOfMemory r → g ≡ no_goods) →
     (actor : Actor C) (end : Ending A C) → Looks Tells actor end → IsOfMemory end.reply →
-    end ≡ ending end.reply actor nothing
+    end ≡ ending end.reply actor no_goods
 looks_still Tells none actor end p m = grind arith
 
 pub looks_one : {A C : Type 0} (Tells : C → Reply A → Goods → Type 0) → TellsOne Tells → IsOne (λ actor. actor) (Looks Tells)
@@ -160,7 +155,7 @@ export_held_one : {A : Type 0} (before id : ℕ) (held : Option Pages) (r s : Re
 export_held_one before id held r s g h p q = grind arith
 
 export_held_still : {A : Type 0} (before id : ℕ) (held : Option Pages) (r : Reply A) (g : Goods) →
-    ExportsHeld before id held r g → IsOfMemory r → g ≡ nothing
+    ExportsHeld before id held r g → IsOfMemory r → g ≡ no_goods
 export_held_still before id held r g p m = grind arith
 
 pub export_one : {A : Type 0} (before id : ℕ) → TellsOne (ExportTells {A = A} before id)

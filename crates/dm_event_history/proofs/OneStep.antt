@@ -3,16 +3,14 @@ use Rattle.std.proofs.Common.{arith, ◌≡◌, ◌⊎◌, ℕ, Some, length, sy
 use Rattle.dm_finder_frame.specs.Frame.{flipped}
 use Rattle.dm_print_ledger.specs.Ledger.{LedgerView, TicketView}
 use Rattle.dm_assembly_desk.specs.Documents.{Documents}
-use Rattle.dm_event_history.specs.declared.event.Event.{Event}
+use Rattle.dm_event_history.specs.declared.{event.Event.Event, reply.Reply.Reply}
 use Rattle.dm_event_history.specs.declared.event.Event.TheVariants.{Print, Scan, RestartPrinter, RestartDesk, Ask, Forget, Give, Take, Export, Import}
-use Rattle.dm_event_history.specs.declared.reply.Reply.{Reply}
 use Rattle.dm_event_history.specs.declared.reply.Reply.TheVariants.{DeskRefused, PrinterRefused}
 use Rattle.dm_print_ledger.specs.declared.fault.OpenFault.TheVariants as open_fault
 use Rattle.dm_assembly_desk.specs.declared.fault.DeskFault.TheVariants as desk_fault
-use Rattle.dm_event_history.specs.Relay.{Actor, Relay, Label}
+use Rattle.dm_event_history.specs.{Relay.Actor, Relay.Relay, Relay.Label, Told.IsOfMemory, Told.NothingIsOpenButMemory}
 use Rattle.dm_event_history.specs.Relay as relays
 use Rattle.dm_event_history.specs.Steps.{Calls, Ending, ExportTells, GiveComes, MayLackFirst, PrintComes, TakeComes, give_faults, print_faults, take_faults, AskTells, ForgetComes, ImportComes, ScanComes, forget_faults, import_faults, scan_faults, Acts, DeskGoes, PrinterGoes}
-use Rattle.dm_event_history.specs.Told.{IsOfMemory, NothingIsOpenButMemory}
 use Rattle.dm_event_history.proofs.OneCourse.{print_determined, give_determined, take_determined, scan_determined, forget_determined, import_determined}
 use Rattle.dm_event_history.proofs.OneEnding.{IsOne, ask_one, by_reply, calls_one, export_one, forget_answered, give_answered, import_answered, looks_one, may_lack_one, print_answered, restarts_one, scan_answered, take_answered}
 

@@ -1,7 +1,6 @@
 -- Of disjoint opening ranges any two are apart.
 use Rattle.std.proofs.Common.{◌≡◌, ◌≢◌, ◌<◌, ℕ, Some, List, length, subst, arith, slice_get, slice_index_or, ◌⊎◌, inl, inr}
-use Rattle.std.proofs.Math.Decide.{dec_lt}
-use Rattle.std.proofs.lemmas.Option.{get_or_from_slice_get, slice_get_within}
+use Rattle.std.proofs.{Math.Decide.dec_lt, lemmas.Option.get_or_from_slice_get, lemmas.Option.slice_get_within}
 use Rattle.dm_print_ledger.specs.declared.range.Range.{Range}
 use Rattle.dm_event_history.specs.Headline.{AreDisjoint, IsApart}
 

@@ -3,17 +3,13 @@ use Rattle.std.proofs.Common.{◌≡◌, ◌+◌, ℕ, zero, suc, Some, List, []
 use Rattle.dm_size.specs.declared.size.Size.{Size}
 use Rattle.dm_encodation.specs.declared.scheme.Scheme.{Scheme}
 use Rattle.dm_append_label.specs.Labels.{Carries, PageView, AreParts}
-use Rattle.dm_print_ledger.specs.declared.range.Range.{Range}
-use Rattle.dm_print_ledger.specs.Verdicts.{least}
-use Rattle.dm_print_ledger.specs.Ledger.{LedgerView, TicketView}
-use Rattle.dm_event_history.specs.declared.event.Event.{Event}
+use Rattle.dm_print_ledger.specs.{declared.range.Range.Range, Verdicts.least, Ledger.LedgerView, Ledger.TicketView}
+use Rattle.dm_event_history.specs.declared.{event.Event.Event, reply.Reply.Reply}
 use Rattle.dm_event_history.specs.declared.event.Event.TheVariants.{Print, RestartPrinter, Give, Take}
-use Rattle.dm_event_history.specs.declared.reply.Reply.{Reply}
 use Rattle.dm_event_history.specs.Relay.{CutDocument, Actor, Goods, Label, Relay}
-use Rattle.dm_event_history.proofs.Gotten.{in_either}
+use Rattle.dm_event_history.proofs.{Gotten.in_either, LedgerFacts.made_print}
 use Rattle.dm_event_history.specs.Steps.{Answers, Course, Ending, LacksMemory, Saves, AreLabelsFor, GiveComes, PrintComes, TakeComes, cut_of, Acts, PrinterGoes}
 use Rattle.dm_event_history.specs.Headline.{ArePrinted, EachStepPrints, IsPrinted}
-use Rattle.dm_event_history.proofs.LedgerFacts.{made_print}
 use Rattle.dm_event_history.proofs.LeavingGoods.{IsClosed, Leaves, OfCourse, calls_leave, known_goods, may_lack_leaves, restarts_leave}
 use Rattle.dm_event_history.proofs.QuietDesks.{ChangesDesk, IsQuiet, quiet_desks}
 

@@ -1,10 +1,8 @@
 -- No label, no ticket and no number leaves a desk.
 use Rattle.std.proofs.Common.{arith, ◌≡◌, ℕ, List, [], length, take}
 use Rattle.dm_assembly_desk.specs.Documents.{Documents}
-use Rattle.dm_event_history.specs.declared.event.Event.{Event}
+use Rattle.dm_event_history.specs.declared.{event.Event.Event, reply.Reply.Reply, stop.Stop.Stop}
 use Rattle.dm_event_history.specs.declared.event.Event.TheVariants.{Scan, RestartDesk, Ask, Forget, Export, Import}
-use Rattle.dm_event_history.specs.declared.reply.Reply.{Reply}
-use Rattle.dm_event_history.specs.declared.stop.Stop.{Stop}
 use Rattle.dm_finder_frame.specs.Frame.{GridView, flipped}
 use Rattle.dm_event_history.specs.Relay.{Actor, Desk, Goods, Relay, with_desk}
 use Rattle.dm_event_history.specs.Relay as relays

@@ -1,7 +1,6 @@
 -- What is so of a call that comes so far.
 use Rattle.std.proofs.Common.{arith}
-use Rattle.dm_event_history.specs.declared.stop.Stop.{Stop}
-use Rattle.dm_event_history.specs.Steps.{Reaches}
+use Rattle.dm_event_history.specs.{declared.stop.Stop.Stop, Steps.Reaches}
 
 pub reaches : {P Q : Type 0} (stop : Stop) → (P → Q) → Reaches stop P → Reaches stop Q
 reaches stop f p = grind arith

@@ -3,31 +3,20 @@ use Rattle.std.proofs.Common.{arith, None, ◌≡◌, ◌≢◌, inl, inr, ℕ, 
 use Rattle.dm_finder_frame.specs.Frame.{GridView, flipped}
 use Rattle.dm_size.specs.declared.size.Size.{Size}
 use Rattle.dm_encodation.specs.declared.scheme.Scheme.{Scheme}
-use Rattle.dm_append_label.specs.Labels.{PageView, HasNoEnds}
-use Rattle.dm_append_label.specs.Opening.{LabelOpens, OpensNear}
-use Rattle.dm_append_label.specs.declared.opening.Opened.{Opened}
-use Rattle.dm_append_label.specs.declared.fault.LabelFault.{LabelFault}
+use Rattle.dm_append_label.specs.{Labels.PageView, Labels.HasNoEnds, Opening.LabelOpens, Opening.OpensNear}
+use Rattle.dm_append_label.specs.declared.{opening.Opened.Opened, fault.LabelFault.LabelFault}
 use Rattle.dm_store.specs.declared.fuse.Kept.{Kept}
-use Rattle.dm_print_ledger.specs.Verdicts.{print_verdict}
-use Rattle.dm_print_ledger.specs.Ledger.{LedgerView}
-use Rattle.dm_print_ledger.specs.declared.fault.PrintFault.{PrintFault}
+use Rattle.dm_print_ledger.specs.{Verdicts.print_verdict, Ledger.LedgerView, declared.fault.PrintFault.PrintFault}
 use Rattle.dm_print_ledger.specs.declared.fault.PrintFault.TheVariants as print_fault
-use Rattle.dm_event_history.proofs.LedgerFacts.{print_refuses}
+use Rattle.dm_event_history.proofs.{LedgerFacts.print_refuses, Reaching.reaches, Answered.IsOwn, Deciding.never}
 use Rattle.dm_assembly_desk.specs.Documents.{Documents}
-use Rattle.dm_event_history.specs.declared.event.Event.{Event}
-use Rattle.dm_event_history.specs.declared.event.Event.TheVariants.{Print, Scan}
-use Rattle.dm_event_history.specs.declared.reply.Reply.{Reply}
-use Rattle.dm_event_history.specs.declared.reply.Reply.TheVariants.{PrintRefused}
-use Rattle.dm_event_history.specs.declared.stop.Stop.{Stop}
-use Rattle.dm_event_history.specs.declared.stop.Stop.TheVariants.{SaveFault}
+use Rattle.dm_event_history.specs.declared.event.Event.{Event, TheVariants.Print, TheVariants.Scan}
+use Rattle.dm_event_history.specs.declared.{reply.Reply.Reply, reply.Reply.TheVariants.PrintRefused, stop.Stop.Stop}
+use Rattle.dm_event_history.specs.{declared.stop.Stop.TheVariants.SaveFault, Headline.IsFairEvent}
 use Rattle.dm_event_history.specs.Relay.{Actor, Running, Goods, Label, Relay}
-use Rattle.dm_event_history.specs.Steps.{Answers, Calls, Course, Ending, Faults, Looks, MayLackFirst, Reaches, Restarts, ends, IsCut, print_faults, MayBe, ScanComes, scan_course, scan_faults, Acts, DeskGoes, PrinterGoes, Step}
-use Rattle.dm_event_history.specs.Headline.{IsFairEvent}
+use Rattle.dm_event_history.specs.Steps.{Answers, Calls, Course, Ending, Faults, Looks, MayLackFirst, Reaches, Restarts, ends, HasParts, print_faults, MayBe, ScanComes, scan_course, scan_faults, Acts, DeskGoes, PrinterGoes, Step}
 use Rattle.dm_event_history.specs.Told.{EachStepIsRefusedSo, IsFramedSo, IsToFail, failed_after}
-use Rattle.dm_event_history.proofs.Reaching.{reaches}
-use Rattle.dm_event_history.proofs.Answered.{IsOwn}
 use Rattle.dm_event_history.proofs.ByKind.{ArePlain, IsPlainAnswer, IsPlainCourse, by_kind}
-use Rattle.dm_event_history.proofs.Deciding.{never}
 
 -- ---- saves that fail
 
@@ -107,7 +96,7 @@ pub record IsPrintRefused (old : Relay) (printer : ℕ) (document : List ℕ) (s
   pub held : LedgerView
   pub runs : slice_get old.printers printer ≡ Some (Running held)
   pub parts : Option (List (List ℕ))
-  pub cut : IsCut size scheme document parts
+  pub cut : HasParts size scheme document parts
   pub verdict : print_verdict held (is_some parts) ≡ Err fault
 
 pub print_refused : {A : Type 0} (old new : Relay) (printer : ℕ) (document : List ℕ) (size : Size) (scheme : Scheme)
@@ -118,7 +107,7 @@ print_refused {A} old new printer document size scheme stop fault own acts = gri
 
 -- a document that is refused as too long has no parts
 no_parts : (size : Size) (scheme : Scheme) (document : List ℕ) (held : LedgerView) (parts : Option (List (List ℕ))) →
-    IsCut size scheme document parts → print_verdict held (is_some parts) ≡ Err print_fault.TooLong →
+    HasParts size scheme document parts → print_verdict held (is_some parts) ≡ Err print_fault.TooLong →
     HasNoEnds size scheme document
 no_parts size scheme document held None cut is = cut
 no_parts size scheme document held (Some parts) cut is = grind (arith, print_refuses)

@@ -1,60 +1,47 @@
 -- As long as each scan that may have saved is fair each reply is safe.
 use Rattle.std.proofs.Common.{◌≡◌, ◌≢◌, ◌⊎◌, ◌↔◌, ◌+◌, ◌≤◌, ◌==◌, inl, inr, ℕ, zero, suc, Bool, true, false, Option, Some, None, Result, Ok, Err, List, [], ◌∷◌, length, slice_get, slice_index_or, IsSome, refl, sym, ap, subst, ◌∙◌, arith, eq-eqb}
 use Rattle.std.specs.Prelude.{is_some, is_none, ◌&&◌, unwrap_or, if◌then◌else◌}
-use Rattle.std.specs.List.{list_all, list_any}
-use Rattle.std.specs.Option.{option_or}
+use Rattle.std.specs.{List.list_all, List.list_any, Option.option_or, FinMap.contains_key-keys}
 use Rattle.std.specs.FinMap as finite
-use Rattle.std.specs.FinMap.{contains_key-keys}
 use Rattle.std.specs.Ordering.{nat_cmp, eq_by_cmp}
 use Rattle.dm_append_label.specs.Labels.{PageView, IsHead, head_of}
 use Rattle.dm_append_label.specs.declared.fault.LabelFault.TheVariants as label_fault
 use Rattle.dm_finder_frame.specs.Frame.{flipped}
 use Rattle.dm_symbol.specs.Correction.{IsNear}
-use Rattle.dm_assembly_desk.specs.declared.reply.Kind.{Kind}
-use Rattle.dm_assembly_desk.specs.declared.reply.Kind.TheVariants.{New, Again, Complete}
+use Rattle.dm_assembly_desk.specs.declared.reply.Kind.{Kind, TheVariants.New, TheVariants.Again, TheVariants.Complete}
 use Rattle.dm_assembly_desk.specs.declared.reply.Imported as imported_type
-use Rattle.dm_assembly_desk.specs.declared.fault.AskFault.{AskFault}
+use Rattle.dm_assembly_desk.specs.declared.fault.{AskFault.AskFault, ScanFault.ScanFault, ImportFault.ImportFault}
 use Rattle.dm_assembly_desk.specs.declared.fault.AskFault.TheVariants as ask_fault
-use Rattle.dm_assembly_desk.specs.declared.fault.ScanFault.{ScanFault}
 use Rattle.dm_assembly_desk.specs.declared.fault.ScanFault.TheVariants as scan_fault
-use Rattle.dm_assembly_desk.specs.declared.fault.ImportFault.{ImportFault}
 use Rattle.dm_assembly_desk.specs.declared.fault.ImportFault.TheVariants as import_fault
-use Rattle.dm_assembly_desk.specs.Documents.{Pages, lacks, mask, missing_mask, names, page, document_of, Documents, page_at, own_pages, added_mask, union_of}
+use Rattle.dm_assembly_desk.specs.Documents.{Pages, lacks, mask, missing_mask, names, page, document_of, Documents, page_at, own_pages, added_mask, union_of_pages}
 use Rattle.dm_assembly_desk.specs.Desk as asking
 use Rattle.dm_assembly_desk.specs.Desk.{Asks, lone, add_verdict, add_kind, added_to, reply_of}
-use Rattle.dm_assembly_desk.specs.declared.adding.AddFault.{AddFault}
+use Rattle.dm_assembly_desk.specs.declared.{adding.AddFault.AddFault, reply.Accepted.Accepted}
 use Rattle.dm_assembly_desk.specs.declared.adding.AddFault.TheVariants as adds
-use Rattle.dm_assembly_desk.specs.declared.reply.Accepted.{Accepted}
-use Rattle.dm_assembly_desk.proofs.AddFacts.{names_added, page_merged}
-use Rattle.dm_assembly_desk.proofs.AddLaws.{no_longer, KindSays, kind_says}
-use Rattle.dm_assembly_desk.proofs.Loading.{itself, keys_rise, length-keys}
-use Rattle.dm_assembly_desk.proofs.Masks.{names_missing, none_named}
-use Rattle.dm_assembly_desk.proofs.MergingLaws.{length_both}
-use Rattle.dm_event_history.specs.declared.event.Event.{Event}
+use Rattle.dm_assembly_desk.proofs.{AddFacts.names_added, AddFacts.page_merged, Masks.names_missing, Masks.none_named}
+use Rattle.dm_assembly_desk.proofs.{AddLaws.no_longer, AddLaws.KindSays, AddLaws.kind_says, MergingLaws.length_both}
+use Rattle.dm_assembly_desk.proofs.{Loading.itself, Loading.keys_rise, Loading.length-keys, LonePages.lone_here}
+use Rattle.dm_event_history.specs.declared.{event.Event.Event, reply.Reply.Reply, stop.Stop.Stop}
 use Rattle.dm_event_history.specs.declared.event.Event.TheVariants.{Scan, Ask, Forget, Export, Import}
-use Rattle.dm_event_history.specs.declared.reply.Reply.{Reply}
 use Rattle.dm_event_history.specs.declared.reply.Reply.TheVariants.{Scanned, ScanRefused, Imported, ImportRefused}
 use Rattle.dm_event_history.specs.declared.reply.Reply.TheVariants as replies
-use Rattle.dm_event_history.specs.declared.stop.Stop.{Stop}
-use Rattle.dm_event_history.specs.Relay.{Actor, shown_of, CutDocument, Desk, Label, Relay}
+use Rattle.dm_event_history.specs.Relay.{Actor, content_shown, CutDocument, Desk, Label, Relay}
 use Rattle.dm_event_history.specs.Relay as relays
-use Rattle.dm_event_history.specs.Steps.{Calls, Looks, MayLackFirst, AskTells, ExportTells, ForgetComes, ImportComes, ScanComes, ask_reply, forget_faults, import_faults, scan_course, scan_faults, verdict_course, page_reply, pages_reply, Acts, DeskGoes, IsNamed, Step, Moment}
-use Rattle.dm_event_history.specs.Headline.{ArePrinted, AreOfOneDocument, HaveLeft, IsCleanExport, IsSound, AreAllClean, IsFairEvent}
+use Rattle.dm_event_history.specs.Steps.{Calls, Looks, MayLackFirst, AskTells, ExportTells, ForgetComes, ImportComes, ScanComes, ask_reply, forget_faults, import_faults, scan_course, scan_faults, verdict_course, page_reply, pages_reply, Acts, DeskGoes, IsNamedThere, Step, Moment}
+use Rattle.dm_event_history.specs.Headline.{ArePrinted, AreOfOneDocument, HaveLeft, IsCleanExport, RelayIsSound, AreAllClean, IsFairEvent}
 use Rattle.dm_event_history.specs.Told.{EachFairReplyIsSafe, IsExportSafe, IsFullFor, IsImportKindSafe, IsImportRefusedSafe, IsImportedSafe, IsKindSafe, IsSafe, IsTrulyMissing, Known, docs, known_of, AreBetween, IsBetween}
 use Rattle.dm_event_history.proofs.Deciding.{decided, if_not, if_so, or_left, or_right, same_number, true_false}
 use Rattle.dm_event_history.proofs.MergedPages.{Differs, all_held, lacks_means, one_lacks}
 use Rattle.dm_event_history.proofs.Adds.{add_refuses, length-lone, lone_some, named_there, some_added, there_named}
-use Rattle.dm_event_history.proofs.Gives.{each_clean_desk_gives}
-use Rattle.dm_event_history.proofs.Stays.{lone_clean, lone_export, page_in}
-use Rattle.dm_event_history.proofs.Headline.{each_fair_run_is_clean, each_run_is_sound}
+use Rattle.dm_event_history.proofs.{Gives.each_clean_desk_gives, Stays.lone_clean, Stays.lone_export, Stays.page_in}
+use Rattle.dm_event_history.proofs.{Headline.each_fair_run_is_clean, Headline.each_run_is_sound, Between.run_between}
 use Rattle.dm_event_history.proofs.Answered.{IsOwn, is_answered, is_looked, is_made}
 use Rattle.dm_event_history.proofs.Told.{AddRefused, add_ended, no_page, own_import, own_scan, scan_told, scan_was_refused, was_wanted}
-use Rattle.dm_event_history.proofs.Between.{run_between}
-use Rattle.dm_assembly_desk.proofs.LonePages.{lone_here}
 
 -- ---- what was printed
 
--- it is that of the first label under the identification
+-- it is that of the first label under the ID
 docs_found : (labels : List Label) (n : ℕ) (label : Label) (id : ℕ) → slice_get labels n ≡ Some label →
     label.page.id ≡ id → (k : ℕ) × (other : Label) × (slice_get labels k ≡ Some other) × (other.page.id ≡ id)
     × (docs labels id ≡ Some other.cut)
@@ -71,7 +58,7 @@ docs_found (own ∷ labels) (suc n) label id there is = elim (decided (own.page.
       (suc more.0, more.1, more.2, more.3, rest ∙ more.4)
 ]
 
--- the document of a label that left is what was printed under its identification
+-- the document of a label that left is what was printed under its ID
 pub docs_of : (labels : List Label) → AreOfOneDocument labels → (n : ℕ) (label : Label) (id : ℕ) →
     slice_get labels n ≡ Some label → label.page.id ≡ id → docs labels id ≡ Some label.cut
 docs_of labels one n label id there is =
@@ -181,7 +168,7 @@ module _ (A : Type 0) (old : Relay) (earlier : List (Moment A)) (d : ℕ) (held 
       by_all : (b : Bool) → list_all is_some pages ≡ b → (r : Result (List ℕ) AskFault) →
           ((bytes : List ℕ) → r ≡ Ok bytes → (n : ℕ) (label : Label) → slice_get old.labels n ≡ Some label →
           label.page.id ≡ id → label.cut.bytes ≡ bytes) →
-          asking.Gives (λ bytes. bytes) ask_fault.Memory
+          asking.GivesByVerdict (λ bytes. bytes) ask_fault.Memory
           (if b then Ok (document_of pages) else Err (ask_fault.Incomplete (missing_mask pages))) r →
           IsSafe {A = A} old known (Ask d id) (ask_reply r)
       by_all true all (Ok bytes) true_one x =
@@ -253,11 +240,11 @@ module _ (A : Type 0) (old : Relay) (earlier : List (Moment A)) (d : ℕ) (held 
     import_kind_safe added Again is short says = tt
     import_kind_safe added New is short says =
         let own : Pages = unwrap_or (finite.get held export.id) [] in
-        let lack = one_lacks (union_of own export.pages) says.1 in
+        let lack = one_lacks (union_of_pages own export.pages) says.1 in
         let both = neither (page own lack.0) (page export.pages lack.0)
         (sym (page_merged own export.pages lack.0) ∙ lack.3) in
         let l = length_both own export.pages short in
-        let least : 1 ≤ lack.0 = lack.1 in let most : lack.0 ≤ length (union_of own export.pages) = lack.2 in (
+        let least : 1 ≤ lack.0 = lack.1 in let most : lack.0 ≤ length (union_of_pages own export.pages) = lack.2 in (
           lack.0,
           least,
           omega arith,
@@ -270,7 +257,7 @@ module _ (A : Type 0) (old : Relay) (earlier : List (Moment A)) (d : ℕ) (held 
         let l = length_both own export.pages short in
         let some : IsSome (option_or (page own m) (page export.pages m)) =
         subst (λ (o : Option (List ℕ)). IsSome o) (page_merged own export.pages m)
-        (all_held (union_of own export.pages) says.1 m least (omega arith)) in
+        (all_held (union_of_pages own export.pages) says.1 m least (omega arith)) in
         b.possibly export.id m (either_held (page own m) (page export.pages m) some
         (λ x. none (added_means added m is ∙ x))))
 
@@ -359,13 +346,13 @@ record IsGathered {A : Type 0} (old : Relay) (earlier : List (Moment A)) (d : �
   pub left : HaveLeft old.labels held
   pub between : IsBetween earlier d held
 
-module _ (A : Type 0) (old new : Relay) (earlier : List (Moment A)) (sound : IsSound old)
+module _ (A : Type 0) (old new : Relay) (earlier : List (Moment A)) (sound : RelayIsSound old)
     (printed : ArePrinted old.labels) (clean : AreAllClean old) (b : AreBetween earlier old) where
   one : AreOfOneDocument old.labels
   one = sound.one_document
 
   gathered : (d : ℕ) (desk : Desk) (held : Documents) → slice_get old.desks d ≡ Some desk →
-      shown_of desk.actor ≡ Some held → IsGathered old earlier d held
+      content_shown desk.actor ≡ Some held → IsGathered old earlier d held
   gathered d desk held there shown = grind arith
 
   asked : (d id : ℕ) (reply : Reply A) → reply ≢ replies.Down → Step old (Ask d id) reply new →
@@ -406,7 +393,7 @@ module _ (A : Type 0) (old new : Relay) (earlier : List (Moment A)) (sound : IsS
       (g : DeskGoes {A = A} old d
       (λ room. MayLackFirst (Calls scan_faults stop (ScanComes room (flipped label.grid flips)))) (ScanRefused fault) new) →
       IsOwn {A = A} scan_faults (ScanRefused fault) →
-      (held : Documents) × (shown_of g.desk.actor ≡ Some held)
+      (held : Documents) × (content_shown g.desk.actor ≡ Some held)
       × (AddRefused {A = A} (page_reply label.page) g.desk.room held label.page.id (lone label.page) (ScanRefused fault)
       ⊎ ((wrong : ℕ) × (fault ≡ scan_fault.Label (label_fault.Border wrong))))
   refused d number flips stop label fault there near g own =
@@ -417,7 +404,7 @@ module _ (A : Type 0) (old new : Relay) (earlier : List (Moment A)) (sound : IsS
       (ScanRefused fault) own made (sym g.reply_is) in
       let read = ans.comes.0 in (
         ans.held,
-        ap (λ (x : Actor Documents). shown_of x) ans.was,
+        ap (λ (x : Actor Documents). content_shown x) ans.was,
         scan_was_refused g.desk.room label.page ans.held fault g.end.actor read
             (ans.comes.1.near label.grid label.page p.carries near)
             (was_wanted (scan_course g.desk.room ans.held read) ans.course ans.held (ScanRefused fault) g.end.actor
@@ -426,7 +413,7 @@ module _ (A : Type 0) (old new : Relay) (earlier : List (Moment A)) (sound : IsS
 
   -- what was printed never disagrees, and where there is no room others are held
   not_added : (d room : ℕ) (desk : Desk) (export : relays.Export) (held : Documents) (fault : AddFault) →
-      slice_get old.desks d ≡ Some desk → room ≡ desk.room → shown_of desk.actor ≡ Some held →
+      slice_get old.desks d ≡ Some desk → room ≡ desk.room → content_shown desk.actor ≡ Some held →
       IsCleanExport old.labels export → add_kind room held export.id export.pages ≡ Err fault →
       (fault ≡ adds.Full) × IsFullFor old (known_of old earlier) d export.id
   not_added d room desk export held fault there same shown sent is =
@@ -455,7 +442,7 @@ module _ (A : Type 0) (old new : Relay) (earlier : List (Moment A)) (sound : IsS
       (ans.comes.1.near label.grid label.page p.carries near)
       (was_wanted (scan_course g.desk.room ans.held read) ans.course ans.held (Scanned a) g.end.actor ans.comes.2
       ans.ended) in
-      let h = gathered d g.desk ans.held g.was (ap (λ (x : Actor Documents). shown_of x) ans.was) in
+      let h = gathered d g.desk ans.held g.was (ap (λ (x : Actor Documents). content_shown x) ans.was) in
       let same : record { id = label.page.id; m = label.page.m; n = label.page.n; kind = told.kind } ≡ a =
       scanned_is told.told in
       record {
@@ -512,7 +499,7 @@ module _ (A : Type 0) (old new : Relay) (earlier : List (Moment A)) (sound : IsS
         | inl told ↦ (let e = told.told in absurd (cc (e)))
         | inr was ↦
             let full = not_added d g.desk.room g.desk export ans.held was.fault g.was refl
-            (ap (λ (x : Actor Documents). shown_of x) ans.was) (clean.exports number export there) was.fault_is in
+            (ap (λ (x : Actor Documents). content_shown x) ans.was) (clean.exports number export there) was.fault_is in
             let told = subst (λ (f : AddFault). pages_reply {A = A} (Err f) ≡ ImportRefused fault) full.0 was.told in
             (sym (fault_is told), full.1)
       ]
@@ -534,7 +521,7 @@ module _ (A : Type 0) (old new : Relay) (earlier : List (Moment A)) (sound : IsS
   import_safe d number stop export (Imported i) there g =
       let ans = is_answered import_faults stop (ImportComes g.desk.room export) g.desk.actor g.end (Imported i)
       (own_import i) g.acts (sym g.reply_is) in
-      let h = gathered d g.desk ans.held g.was (ap (λ (x : Actor Documents). shown_of x) ans.was) in
+      let h = gathered d g.desk ans.held g.was (ap (λ (x : Actor Documents). content_shown x) ans.was) in
       elim (add_ended pages_reply g.desk.room ans.held export.id export.pages (Imported i) g.end.actor
       (was_wanted (verdict_course pages_reply (add_verdict g.desk.room ans.held export.id export.pages)) ans.course
       ans.held (Imported i) g.end.actor ans.comes ans.ended)) [
@@ -555,7 +542,7 @@ module _ (A : Type 0) (old new : Relay) (earlier : List (Moment A)) (sound : IsS
       import_refusal d number export fault there (not_imported d number stop export fault there g)
   import_safe d number stop export reply there g = tt
 
-  acts_safe : (event : Event A) (reply : Reply A) → IsFairEvent old event → IsNamed old event →
+  acts_safe : (event : Event A) (reply : Reply A) → IsFairEvent old event → IsNamedThere old event →
       Step old event reply new → Acts old event reply new → IsSafe old (known_of old earlier) event reply
   acts_safe (Scan d number flips stop) reply fair named step acts = grind (arith, scan_safe)
   acts_safe (Forget d id stop) reply fair named step acts = forget_safe d id stop reply acts
@@ -573,7 +560,7 @@ each_fair_reply_is_safe A ranges rooms moment earlier end apart run saved fair =
     by_case before.0 before.1 (each_fair_run_is_clean A ranges rooms earlier moment.before apart run.0 saved)
     (run_between A ranges rooms earlier moment.before apart run.0 saved) run.1
   where
-    by_case : IsSound moment.before → ArePrinted moment.before.labels → AreAllClean moment.before →
+    by_case : RelayIsSound moment.before → ArePrinted moment.before.labels → AreAllClean moment.before →
         AreBetween earlier moment.before → Step moment.before moment.event moment.reply end →
         IsSafe moment.before (known_of moment.before earlier) moment.event moment.reply
     by_case sound printed clean b (inl acts) =

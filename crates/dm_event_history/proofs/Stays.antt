@@ -1,26 +1,18 @@
 -- A desk stays clean.
 use Rattle.std.proofs.Common.{arith, ◌≡◌, ◌≢◌, inl, inr, ℕ, Option, Some, None, List, [], ◌++◌, length, slice_get, Result, Ok, Err, IsSome, refl, sym, ap, subst, ◌∙◌}
-use Rattle.std.specs.Prelude.{unwrap_or}
-use Rattle.std.specs.Option.{option_or}
+use Rattle.std.specs.{Prelude.unwrap_or, Option.option_or}
 use Rattle.std.specs.FinMap as finite
-use Rattle.dm_append_label.specs.Labels.{PageView, IsHead, head_of}
-use Rattle.dm_append_label.specs.Opening.{OpensNear}
-use Rattle.dm_append_label.specs.declared.opening.Opened.{Opened}
-use Rattle.dm_append_label.specs.declared.fault.LabelFault.{LabelFault}
+use Rattle.dm_append_label.specs.{Labels.PageView, Labels.IsHead, Labels.head_of, Opening.OpensNear}
+use Rattle.dm_append_label.specs.declared.{opening.Opened.Opened, fault.LabelFault.LabelFault}
 use Rattle.dm_append_label.specs.declared.fault.LabelFault.TheVariants as label_fault
 use Rattle.dm_assembly_desk.specs.declared.reply.Kind.{Kind}
 use Rattle.dm_assembly_desk.specs.Documents.{Pages, page, Documents, page_at}
 use Rattle.dm_assembly_desk.specs.Desk.{lone, add_kind, add_verdict, pages_with, with_pages}
-use Rattle.dm_assembly_desk.proofs.Undoing.{get_here}
-use Rattle.dm_assembly_desk.proofs.AddLaws.{no_longer, page_given}
-use Rattle.dm_assembly_desk.proofs.MergingLaws.{length_both}
+use Rattle.dm_assembly_desk.proofs.{Undoing.get_here, AddLaws.no_longer, AddLaws.page_given, MergingLaws.length_both}
 use Rattle.dm_print_ledger.specs.Ledger.{LedgerView}
-use Rattle.dm_event_history.specs.declared.event.Event.{Event}
+use Rattle.dm_event_history.specs.declared.{event.Event.Event, reply.Reply.Reply, stop.Stop.Stop}
 use Rattle.dm_event_history.specs.declared.event.Event.TheVariants.{Print, Scan, RestartPrinter, RestartDesk, Ask, Forget, Give, Take, Export, Import}
-use Rattle.dm_event_history.specs.declared.reply.Reply.{Reply}
-use Rattle.dm_event_history.specs.declared.stop.Stop.{Stop}
-use Rattle.dm_event_history.proofs.Deciding.{same_or_other}
-use Rattle.dm_event_history.proofs.Gotten.{get_more, set_at}
+use Rattle.dm_event_history.proofs.{Deciding.same_or_other, Gotten.get_more, Gotten.set_at}
 use Rattle.dm_event_history.proofs.HeldDocuments.{get_left, get_other, get_removed}
 use Rattle.dm_event_history.specs.Relay.{Actor, Goods, Label, Relay}
 use Rattle.dm_event_history.specs.Relay as relays

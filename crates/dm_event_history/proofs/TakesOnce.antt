@@ -1,28 +1,22 @@
 -- No ticket is taken twice, and none is refused since a number of it is free at its receiver.
 use Rattle.std.proofs.Common.{◌≡◌, ◌≢◌, ◌+◌, ◌≤◌, ◌==◌, ◌||◌, inl, inr, ℕ, zero, suc, Bool, false, Some, List, [], ◌∷◌, ◌++◌, length, slice_get, refl, sym, ap, subst, ◌∙◌, arith, eq-eqb}
 use Rattle.std.specs.Prelude.{IsSomeAnd}
-use Rattle.dm_print_ledger.specs.declared.range.Range.{Range}
+use Rattle.dm_print_ledger.specs.declared.{range.Range.Range, fault.TakeFault.TakeFault}
 use Rattle.dm_print_ledger.specs.Ledger.{last_taken, is_in, LedgerView, TicketView}
 use Rattle.dm_print_ledger.proofs.InLaws.{HasFree}
-use Rattle.dm_print_ledger.specs.declared.fault.TakeFault.{TakeFault}
 use Rattle.dm_print_ledger.specs.declared.fault.TakeFault.TheVariants as take_fault
-use Rattle.dm_event_history.specs.declared.event.Event.{Event}
+use Rattle.dm_event_history.specs.declared.{event.Event.Event, reply.Reply.Reply, reply.Reply.TheVariants.TakeRefused}
 use Rattle.dm_event_history.specs.declared.event.Event.TheVariants.{Print, RestartPrinter, Give, Take}
-use Rattle.dm_event_history.specs.declared.reply.Reply.{Reply}
-use Rattle.dm_event_history.specs.declared.reply.Reply.TheVariants.{TakeRefused}
-use Rattle.dm_event_history.specs.declared.stop.Stop.{Stop}
+use Rattle.dm_event_history.specs.{declared.stop.Stop.Stop, Told.EachRunTakesOnce}
 use Rattle.dm_event_history.specs.Relay.{Actor, Running, Lost, Move, Relay, Took, Used, start}
 use Rattle.dm_event_history.specs.Steps.{Answers, Calls, Course, Ending, LacksMemory, Saves, TakeComes, take_faults, Acts, PrinterGoes, Step, IsRun, Moment}
-use Rattle.dm_event_history.specs.Headline.{AreDisjoint, IsInOrder, IsSound, is_taken, one_if}
-use Rattle.dm_event_history.specs.Told.{EachRunTakesOnce}
+use Rattle.dm_event_history.specs.Headline.{AreDisjoint, RelayIsInOrder, RelayIsSound, is_taken, one_if}
 use Rattle.dm_event_history.proofs.Deciding.{decided, same_or_other, other_number}
-use Rattle.dm_event_history.proofs.Numbers.{free_some, on_taken}
+use Rattle.dm_event_history.proofs.{Numbers.free_some, Numbers.on_taken, QuietDesks.ChangesDesk, QuietDesks.quiet_desks}
 use Rattle.dm_event_history.proofs.LedgerFacts.{IsOverlapping, old_or_new, overlap_free, take_refuses}
 use Rattle.dm_event_history.proofs.Balance.{Balances, calls_balance, give_balanced, may_lack_balances, print_balanced, restarts_balance}
-use Rattle.dm_event_history.proofs.QuietDesks.{ChangesDesk, quiet_desks}
-use Rattle.dm_event_history.proofs.Taking.{take_ends, untaken}
+use Rattle.dm_event_history.proofs.{Taking.take_ends, Taking.untaken, Headline.each_run_is_sound}
 use Rattle.dm_event_history.proofs.Answered.{Ended, IsOwn, is_answered}
-use Rattle.dm_event_history.proofs.Headline.{each_run_is_sound}
 
 -- ---- how often a ticket was taken
 
@@ -101,7 +95,7 @@ desk_once : (old new : Relay) → AreTakenOnce old → ChangesDesk old new → A
 desk_once old new once c = grind (arith, quiet_once)
 
 taker_once : {A : Type 0} (old new : Relay) (printer number : ℕ) (ticket : TicketView) (stop : Stop) (reply : Reply A) →
-    AreTakenOnce old → IsInOrder old → slice_get old.tickets number ≡ Some ticket →
+    AreTakenOnce old → RelayIsInOrder old → slice_get old.tickets number ≡ Some ticket →
     PrinterGoes old printer (Calls take_faults stop (TakeComes number ticket)) reply new → AreTakenOnce new
 taker_once old new printer number ticket stop reply once order there g =
     subst (λ (r : Relay). AreTakenOnce r) (sym g.new_is)
@@ -111,7 +105,7 @@ taker_once old new printer number ticket stop reply once order there g =
           (untaken old printer number ticket g.actor g.end.actor g.end.goods order g.was there t) t.moves_are
     ])
 
-acts_once : {A : Type 0} (old new : Relay) (event : Event A) (reply : Reply A) → IsInOrder old → AreTakenOnce old →
+acts_once : {A : Type 0} (old new : Relay) (event : Event A) (reply : Reply A) → RelayIsInOrder old → AreTakenOnce old →
     Acts old event reply new → AreTakenOnce new
 acts_once old new (Print printer document size scheme stop) reply order once acts =
     printer_once old new printer _ reply once
@@ -130,8 +124,8 @@ acts_once old new event reply order once acts = desk_once old new once (quiet_de
 own_overlap : {A : Type 0} → IsOwn {A = A} take_faults (TakeRefused take_fault.Overlap)
 own_overlap = grind arith
 
-no_overlap : {A : Type 0} (old new : Relay) (printer number : ℕ) (ticket : TicketView) (stop : Stop) → IsSound old →
-    slice_get old.tickets number ≡ Some ticket →
+no_overlap : {A : Type 0} (old new : Relay) (printer number : ℕ) (ticket : TicketView) (stop : Stop) →
+    RelayIsSound old → slice_get old.tickets number ≡ Some ticket →
     PrinterGoes {A = A} old printer (Calls take_faults stop (TakeComes number ticket)) (TakeRefused take_fault.Overlap) new →
     ⊥
 no_overlap {A} old new printer number ticket stop sound there g =
@@ -188,8 +182,8 @@ run_once A ranges rooms (moment ∷ earlier) end apart run =
     by_step (run_once A ranges rooms earlier moment.before apart run.0)
     (each_run_is_sound A ranges rooms earlier moment.before apart run.0).0.order run.1
   where
-    by_step : AreTakenOnce moment.before → IsInOrder moment.before → Step moment.before moment.event moment.reply end →
-        AreTakenOnce end
+    by_step : AreTakenOnce moment.before → RelayIsInOrder moment.before →
+        Step moment.before moment.event moment.reply end → AreTakenOnce end
     by_step once order (inl acts) = acts_once moment.before end moment.event moment.reply order once acts.1
     by_step once order (inr none) = subst (λ (r : Relay). AreTakenOnce r) (sym none.2) once
 
@@ -205,7 +199,8 @@ run_never A ranges rooms (own ∷ earlier) end apart run zero printer ticket sto
     (ap (λ (m : Moment A). m.event) same ∙ asked)
     (subst (λ (r : Reply A). Step own.before own.event r end) (ap (λ (m : Moment A). m.reply) same ∙ told) run.1))
   where
-    by_step : IsSound own.before → Step {A = A} own.before (Take printer ticket stop) (TakeRefused take_fault.Overlap) end → ⊥
+    by_step : RelayIsSound own.before →
+        Step {A = A} own.before (Take printer ticket stop) (TakeRefused take_fault.Overlap) end → ⊥
     by_step sound (inl acts) = no_overlap own.before end printer ticket acts.1.0 stop sound acts.1.1 acts.1.2
     by_step sound (inr none) = (let e = none.1 in cc (e))
 run_never A ranges rooms (own ∷ earlier) end apart run (suc i) printer ticket stop moment is asked told =

@@ -4,14 +4,12 @@ use Rattle.std.specs.Prelude.{IsSomeAnd}
 use Rattle.std.proofs.lemmas.List.{append-nil}
 use Rattle.dm_print_ledger.specs.Ledger.{is_free, is_in, last_taken, LedgerView, TicketView}
 use Rattle.dm_event_history.specs.declared.stop.Stop.{Stop}
-use Rattle.dm_event_history.proofs.Gotten.{get_more, set_at}
+use Rattle.dm_event_history.proofs.{Gotten.get_more, Gotten.set_at, Reaching.reached, Reaching.reaches}
 use Rattle.dm_event_history.specs.Relay.{Actor, Running, Failed, Down, stored_of, Goods, Move, Relay, Took, with_printer}
 use Rattle.dm_event_history.specs.Steps.{Answers, Calls, Course, Ending, Faults, LacksMemory, Reaches, Saves, ends, TakeComes, take_faults}
-use Rattle.dm_event_history.specs.Headline.{IsInOrder, IsNoted, is_taken, one_if, places}
+use Rattle.dm_event_history.specs.Headline.{RelayIsInOrder, IsNoted, is_taken, one_if, places}
 use Rattle.dm_event_history.proofs.Numbers.{free_set, gone_more, on_taken, taken_by}
-use Rattle.dm_event_history.proofs.Reaching.{reached, reaches}
-use Rattle.dm_event_history.proofs.LedgerFacts.{GainsNumbers, take_gains}
-use Rattle.dm_event_history.proofs.Balance.{IsBalanced, still}
+use Rattle.dm_event_history.proofs.{LedgerFacts.GainsNumbers, LedgerFacts.take_gains, Balance.IsBalanced, Balance.still}
 
 -- the ticket of this number is taken
 pub record IsTaking (held next : LedgerView) (number : ℕ) (ticket : TicketView) (goods : Goods) : Type 0 where
@@ -66,7 +64,7 @@ put_in : (free inside new : Bool) → new ≡ (inside || free) → (inside ≡ t
 put_in free inside new is were = grind arith
 
 module _ (old : Relay) (printer number : ℕ) (ticket : TicketView) (actor next : Actor LedgerView) (goods : Goods)
-    (order : IsInOrder old) (was : slice_get old.printers printer ≡ Some actor)
+    (order : RelayIsInOrder old) (was : slice_get old.printers printer ≡ Some actor)
     (there : slice_get old.tickets number ≡ Some ticket)
     (t : IsTaking (stored_of actor) (stored_of next) number ticket goods) where
   is_here : ticket.receiver ≡ printer
@@ -90,7 +88,7 @@ module _ (old : Relay) (printer number : ℕ) (ticket : TicketView) (actor next 
   own_noted : IsSomeAnd (last_taken (stored_of next).givers ticket.giver) (λ last. ticket.serial ≤ last)
   own_noted = grind arith
 
-  pub taking_order : IsInOrder (with_printer old printer next goods)
+  pub taking_order : RelayIsInOrder (with_printer old printer next goods)
   taking_order = record {
     numbers = grind (arith, set_at);
     noted = λ k taken. elim (taken_by old.moves number k

@@ -3,32 +3,23 @@ use Rattle.std.proofs.Common.{arith, ◌≡◌, ◌≢◌, ◌⊎◌, ℕ, List,
 use Rattle.std.specs.Prelude.{is_none, unwrap_or, if◌then◌else◌}
 use Rattle.std.specs.Option.{option_or}
 use Rattle.std.specs.FinMap as finite
-use Rattle.dm_append_label.specs.Labels.{PageView}
-use Rattle.dm_append_label.specs.Opening.{OpensNear}
-use Rattle.dm_append_label.specs.declared.opening.Opened.{Opened}
+use Rattle.dm_append_label.specs.{Labels.PageView, Opening.OpensNear, declared.opening.Opened.Opened}
 use Rattle.dm_append_label.specs.declared.fault.LabelFault.{LabelFault}
 use Rattle.dm_append_label.specs.declared.fault.LabelFault.TheVariants as label_fault
 use Rattle.dm_assembly_desk.specs.Desk.{lone, add_kind, add_verdict, pages_with, reply_of, with_pages, Verdict, Stays, Becomes}
-use Rattle.dm_assembly_desk.specs.declared.adding.AddFault.{AddFault}
-use Rattle.dm_assembly_desk.specs.declared.reply.Kind.{Kind}
+use Rattle.dm_assembly_desk.specs.declared.{adding.AddFault.AddFault, reply.Kind.Kind, reply.Accepted.Accepted}
 use Rattle.dm_assembly_desk.specs.declared.reply.Kind.TheVariants as kinds
-use Rattle.dm_assembly_desk.specs.declared.reply.Accepted.{Accepted}
 use Rattle.dm_assembly_desk.specs.declared.reply.Imported as imported_type
-use Rattle.dm_assembly_desk.specs.declared.fault.ScanFault.{ScanFault}
+use Rattle.dm_assembly_desk.specs.declared.fault.{ScanFault.ScanFault, ForgetFault.ForgetFault}
 use Rattle.dm_assembly_desk.specs.declared.fault.ScanFault.TheVariants as scan_fault
 use Rattle.dm_assembly_desk.specs.Documents.{Pages, page, Documents, page_at}
 use Rattle.dm_assembly_desk.proofs.AddLaws.{page_given}
-use Rattle.dm_event_history.specs.declared.reply.Reply.{Reply}
+use Rattle.dm_event_history.specs.{declared.reply.Reply.Reply, Relay.Actor, Relay.Running, Told.Has}
 use Rattle.dm_event_history.specs.declared.reply.Reply.TheVariants.{Scanned, ScanRefused, Imported}
-use Rattle.dm_event_history.specs.Relay.{Actor, Running}
-use Rattle.dm_event_history.specs.Told.{Has}
 use Rattle.dm_event_history.specs.Steps.{Course, MayBe, import_faults, page_reply, scan_course, scan_faults, verdict_course}
-use Rattle.dm_assembly_desk.specs.declared.fault.ForgetFault.{ForgetFault}
 use Rattle.dm_assembly_desk.specs.declared.fault.ForgetFault.TheVariants as forget_fault
-use Rattle.dm_event_history.proofs.Adds.{Answer}
-use Rattle.dm_event_history.proofs.Deciding.{same_or_other}
+use Rattle.dm_event_history.proofs.{Adds.Answer, Deciding.same_or_other, Answered.Ended, Answered.IsOwn}
 use Rattle.dm_event_history.proofs.HeldDocuments.{get_left, get_other, get_removed}
-use Rattle.dm_event_history.proofs.Answered.{Ended, IsOwn}
 
 -- ---- replies that calls come to
 

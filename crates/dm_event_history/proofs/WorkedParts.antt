@@ -1,13 +1,10 @@
 -- The parts of the digits.
 use Rattle.std.proofs.Common.{◌≤◌, ℕ, zero, suc, [], ◌∷◌, take, refl, arith}
-use Rattle.dm_size.specs.declared.size.Size.TheVariants.{Side12}
-use Rattle.dm_size.specs.Sizes.{row}
-use Rattle.dm_encodation.specs.declared.scheme.Scheme.TheVariants.{Ascii}
-use Rattle.dm_encodation.specs.Written.{IsGreatestPrefix, need_of}
+use Rattle.dm_size.specs.{declared.size.Size.TheVariants.Side12, Sizes.row}
+use Rattle.dm_encodation.specs.{declared.scheme.Scheme.TheVariants.Ascii, Written.IsGreatestPrefix, Written.need_of}
 use Rattle.dm_encodation.specs.Written as written
 use Rattle.dm_append_label.specs.Labels.{AreParts}
-use Rattle.dm_event_history.specs.Relay.{CutDocument}
-use Rattle.dm_event_history.specs.Worked.{digits}
+use Rattle.dm_event_history.specs.{Relay.CutDocument, Worked.digits}
 
 abbrev pub digits_cut : CutDocument
 digits_cut = record { bytes = digits; size = Side12; scheme = Ascii; parts = (49 ∷ 50 ∷ []) ∷ (51 ∷ 52 ∷ []) ∷ [] }

@@ -4,13 +4,10 @@ use Rattle.dm_size.specs.declared.size.Size.TheVariants.{Side12}
 use Rattle.dm_encodation.specs.declared.scheme.Scheme.TheVariants.{Ascii}
 use Rattle.dm_symbol.specs.Correction.{grid_of_words}
 use Rattle.dm_append_label.specs.Labels.{PageView}
-use Rattle.dm_print_ledger.specs.declared.range.Range.{Range}
-use Rattle.dm_print_ledger.specs.declared.giver.Giver.{Giver}
-use Rattle.dm_print_ledger.specs.Verdicts.{least, print_verdict}
-use Rattle.dm_print_ledger.specs.Ledger.{is_sound, LedgerView}
+use Rattle.dm_print_ledger.specs.declared.{range.Range.Range, giver.Giver.Giver}
+use Rattle.dm_print_ledger.specs.{Verdicts.least, Verdicts.print_verdict, Ledger.is_sound, Ledger.LedgerView}
 use Rattle.dm_assembly_desk.specs.Documents.{Documents}
-use Rattle.dm_event_history.specs.declared.reply.Reply.TheVariants.{Printed}
-use Rattle.dm_event_history.specs.Worked.{digits}
+use Rattle.dm_event_history.specs.{declared.reply.Reply.TheVariants.Printed, Worked.digits}
 use Rattle.dm_event_history.proofs.WorkedParts.{are_rising_parts, digits_cut}
 use Rattle.dm_event_history.specs.Relay.{Actor, Desk, Goods, Label, Relay, Used, with_desk, with_printer}
 use Rattle.dm_event_history.specs.Steps.{Ending, Saves, PrintComes, DeskGoes, PrinterGoes}

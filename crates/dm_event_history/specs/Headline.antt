@@ -5,10 +5,8 @@ use Rattle.dm_finder_frame.specs.Frame.{flipped}
 use Rattle.dm_symbol.specs.Correction.{IsNear}
 use Rattle.dm_append_label.specs.Labels.{Carries, AreParts}
 use Rattle.dm_assembly_desk.specs.Documents.{Pages, page, Documents, page_at}
-use Rattle.dm_event_history.specs.declared.event.Event.{Event}
-use Rattle.dm_event_history.specs.declared.event.Event.TheVariants.{Scan, Ask, Import}
-use Rattle.dm_event_history.specs.declared.reply.Reply.{Reply}
-use Rattle.dm_event_history.specs.declared.reply.Reply.TheVariants.{Document}
+use Rattle.dm_event_history.specs.declared.event.Event.{Event, TheVariants.Scan, TheVariants.Ask, TheVariants.Import}
+use Rattle.dm_event_history.specs.declared.reply.Reply.{Reply, TheVariants.Document}
 use Rattle.dm_event_history.specs.Relay.{Actor, HasAll, stored_of, Relay, Desk, Label, Export, Move, Used, Took, Lost, start}
 use Rattle.dm_event_history.specs.Steps.{Step, HasModules, may_save, Moment, IsRun}
 use Rattle.dm_print_ledger.specs.declared.range.Range.{Range}
@@ -16,7 +14,7 @@ use Rattle.dm_print_ledger.specs.Ledger.{is_free, is_in, last_taken, LedgerView,
 
 -- ---- clean
 
--- a label left of page m of the document of this identification, with these bytes
+-- a label left of page m of the document of this ID, with these bytes
 pub record HasLeft (labels : List Label) (id m : ℕ) (bytes : List ℕ) : Type 0 where
   pub number : ℕ
   pub label : Label
@@ -25,7 +23,7 @@ pub record HasLeft (labels : List Label) (id m : ℕ) (bytes : List ℕ) : Type 
   pub m_is : label.page.m ≡ m
   pub bytes_are : label.page.bytes ≡ bytes
 
--- a label left of the document of this identification, which has that many pages
+-- a label left of the document of this ID, which has that many pages
 pub record HasPages (labels : List Label) (id n : ℕ) : Type 0 where
   pub number : ℕ
   pub label : Label
@@ -85,7 +83,7 @@ pub record IsPrinted (label : Label) : Type 0 where
 abbrev pub ArePrinted : List Label → Type 0
 ArePrinted labels = (number : ℕ) (label : Label) → slice_get labels number ≡ Some label → IsPrinted label
 
--- labels of one identification are cut from one document
+-- labels of one ID are cut from one document
 abbrev pub AreOfOneDocument : List Label → Type 0
 AreOfOneDocument labels = (i j : ℕ) (one other : Label) → slice_get labels i ≡ Some one →
     slice_get labels j ≡ Some other → one.page.id ≡ other.page.id → one.cut ≡ other.cut
@@ -102,7 +100,7 @@ abbrev pub EachStepKeepsClean : Type 0 → Type 0
 EachStepKeepsClean A = (old new : Relay) (event : Event A) (reply : Reply A) (desk : ℕ) → ArePrinted old.labels →
     IsClean old desk → IsHarmless old event desk → Step old event reply new → IsClean new desk
 
--- What a clean desk gives for an identification is the document that all labels which left under it are cut from.
+-- What a clean desk gives for an ID is the document that all labels which left under it are cut from.
 abbrev pub EachCleanDeskGives : Type 0 → Type 0
 EachCleanDeskGives A = (old new : Relay) (desk id : ℕ) (bytes : List ℕ) → ArePrinted old.labels →
     AreOfOneDocument old.labels → IsClean old desk → Step {A = A} old (Ask desk id) (Document bytes) new →
@@ -168,7 +166,7 @@ pub record IsNoted (relay : Relay) (number : ℕ) : Type 0 where
       IsSomeAnd (last_taken (stored_of actor).givers ticket.giver) (λ last. ticket.serial ≤ last)
 
 -- each printer has its number, and each ticket that was taken is noted
-pub record IsInOrder (relay : Relay) : Type 0 where
+pub record RelayIsInOrder (relay : Relay) : Type 0 where
   pub numbers : (printer : ℕ) (actor : Actor LedgerView) → slice_get relay.printers printer ≡ Some actor →
       (stored_of actor).number ≡ printer
   pub noted : (number : ℕ) → is_taken relay.moves number ≡ true → IsNoted relay number
@@ -177,33 +175,33 @@ pub record IsInOrder (relay : Relay) : Type 0 where
 
 -- a step moves numbers, and makes or ends none
 abbrev pub EachStepKeepsNumbers : Type 0 → Type 0
-EachStepKeepsNumbers A = (old new : Relay) (event : Event A) (reply : Reply A) → IsInOrder old →
-    Step old event reply new → IsInOrder new × ((number : ℕ) → places new number ≡ places old number)
+EachStepKeepsNumbers A = (old new : Relay) (event : Event A) (reply : Reply A) → RelayIsInOrder old →
+    Step old event reply new → RelayIsInOrder new × ((number : ℕ) → places new number ≡ places old number)
 
 -- each label that left has a number that was used
 abbrev pub AreUsed : Relay → Type 0
 AreUsed relay = (i : ℕ) (label : Label) → slice_get relay.labels i ≡ Some label → 1 ≤ gone relay.moves label.page.id
 
--- no two labels that left have one identification and one number
+-- no two labels that left have one ID and one number
 abbrev pub AreOnce : List Label → Type 0
 AreOnce labels = (i j : ℕ) (one other : Label) → slice_get labels i ≡ Some one → slice_get labels j ≡ Some other →
     one.page.id ≡ other.page.id → one.page.m ≡ other.page.m → i ≡ j
 
 -- each number is in one place at most
-abbrev pub AreApart : Relay → Type 0
-AreApart relay = (number : ℕ) → places relay number ≤ 1
+abbrev pub HasEachNumberOnce : Relay → Type 0
+HasEachNumberOnce relay = (number : ℕ) → places relay number ≤ 1
 
 -- what holds of each relay that a run from disjoint ranges reaches
-pub record IsSound (relay : Relay) : Type 0 where
-  pub order : IsInOrder relay
-  pub apart : AreApart relay
+pub record RelayIsSound (relay : Relay) : Type 0 where
+  pub order : RelayIsInOrder relay
+  pub apart : HasEachNumberOnce relay
   pub used : AreUsed relay
   pub one_document : AreOfOneDocument relay.labels
   pub once : AreOnce relay.labels
 
 abbrev pub EachStepIsSound : Type 0 → Type 0
-EachStepIsSound A = (old new : Relay) (event : Event A) (reply : Reply A) → IsSound old → Step old event reply new →
-    IsSound new
+EachStepIsSound A = (old new : Relay) (event : Event A) (reply : Reply A) → RelayIsSound old →
+    Step old event reply new → RelayIsSound new
 
 -- ---- The headline, of every run of a relay whose printers begin with disjoint ranges.
 
@@ -225,14 +223,14 @@ pub record AreAllClean (relay : Relay) : Type 0 where
   pub exports : (number : ℕ) (export : Export) → slice_get relay.exports number ≡ Some export →
       IsCleanExport relay.labels export
 
--- the bytes are what each label of this identification is cut from, and there is one
+-- the bytes are what each label of this ID is cut from, and there is one
 abbrev pub IsTheDocument : List Label → ℕ → List ℕ → Type 0
 IsTheDocument labels id bytes =
     ((number : ℕ) (label : Label) → slice_get labels number ≡ Some label → label.page.id ≡ id → label.cut.bytes ≡ bytes)
     × (number : ℕ) × (label : Label) × (slice_get labels number ≡ Some label) × (label.page.id ≡ id)
 
--- No identification is ever printed twice: a number is used once at most, no label leaves twice, and labels of one
--- identification are cut from one document.
+-- No ID is ever printed twice: a number is used once at most, no label leaves twice, and labels of one
+-- ID are cut from one document.
 pub record PrintsOnce (relay : Relay) : Type 0 where
   pub used : (i j id : ℕ) → slice_get relay.moves i ≡ Some (Used id) → slice_get relay.moves j ≡ Some (Used id) → i ≡ j
   pub once : AreOnce relay.labels
@@ -240,7 +238,7 @@ pub record PrintsOnce (relay : Relay) : Type 0 where
 
 -- a moment of a run in which just these labels left
 pub record IsTrueMoment {A : Type 0} (labels : List Label) (moment : Moment A) (earlier : List (Moment A)) : Type 0 where
-  -- whatever document a clean desk gives for an identification is the one document printed under it
+  -- whatever document a clean desk gives for an ID is the one document printed under it
   pub given : (desk id : ℕ) (bytes : List ℕ) → moment.event ≡ Ask desk id → moment.reply ≡ Document bytes →
       IsClean moment.before desk → IsTheDocument labels id bytes
   -- all desks are clean as long as each scan that may have saved its page was fair
@@ -255,9 +253,9 @@ AreTrueMoments labels (moment ∷ earlier) = IsTrueMoment labels moment earlier 
 -- what holds of each relay that a run from disjoint ranges reaches
 abbrev pub EachRunIsSound : Type 0 → Type 0
 EachRunIsSound A = (ranges : List Range) (rooms : List ℕ) (moments : List (Moment A)) (end : Relay) →
-    AreDisjoint ranges → IsRun (start ranges rooms) moments end → IsSound end × ArePrinted end.labels
+    AreDisjoint ranges → IsRun (start ranges rooms) moments end → RelayIsSound end × ArePrinted end.labels
 
--- The headline: no identification is ever printed twice, and each moment is true.
+-- The headline: no ID is ever printed twice, and each moment is true.
 abbrev pub EachRunIsTrue : Type 0 → Type 0
 EachRunIsTrue A = (ranges : List Range) (rooms : List ℕ) (moments : List (Moment A)) (end : Relay) →
     AreDisjoint ranges → IsRun (start ranges rooms) moments end → PrintsOnce end × AreTrueMoments end.labels moments

@@ -3,9 +3,7 @@ use Rattle.std.specs.Prelude.{Option, Some, None, ℕ, ◌+◌, List, [], ◌∷
 use Rattle.std.specs.FinMap as finite
 use Rattle.dm_finder_frame.specs.Frame.{GridView}
 use Rattle.dm_append_label.specs.Labels.{PageView}
-use Rattle.dm_print_ledger.specs.declared.range.Range.{Range}
-use Rattle.dm_print_ledger.specs.Ledger.{LedgerView, TicketView}
-use Rattle.dm_print_ledger.specs.Verdicts.{opening}
+use Rattle.dm_print_ledger.specs.{declared.range.Range.Range, Ledger.LedgerView, Ledger.TicketView, Verdicts.opening}
 use Rattle.dm_assembly_desk.specs.Documents.{Pages, Documents}
 use Rattle.dm_size.specs.declared.size.Size.{Size}
 use Rattle.dm_encodation.specs.declared.scheme.Scheme.{Scheme}
@@ -22,10 +20,10 @@ stored_of (Running held) = held
 stored_of (Failed shown stored) = stored
 stored_of (Down stored) = stored
 
-abbrev pub shown_of : {C : Type 0} → Actor C → Option C
-shown_of (Running held) = Some held
-shown_of (Failed shown stored) = Some shown
-shown_of (Down stored) = None
+abbrev pub content_shown : {C : Type 0} → Actor C → Option C
+content_shown (Running held) = Some held
+content_shown (Failed shown stored) = Some shown
+content_shown (Down stored) = None
 
 -- all that it shows and stores is so
 abbrev pub HasAll : {C : Type 0} → (C → Type 0) → Actor C → Type 0
@@ -70,8 +68,8 @@ pub record Goods : Type 0 where
   pub exports : List Export
   pub moves : List Move
 
-abbrev pub nothing : Goods
-nothing = record { labels = []; tickets = []; exports = []; moves = [] }
+abbrev pub no_goods : Goods
+no_goods = record { labels = []; tickets = []; exports = []; moves = [] }
 
 -- the printers and desks by their numbers; and what left and which numbers moved, the first of them first
 pub record Relay : Type 0 where

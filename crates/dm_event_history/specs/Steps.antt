@@ -3,31 +3,22 @@
 use Rattle.std.specs.Prelude.{◌≡◌, ◌⊎◌, ℕ, [], ◌++◌, map, take, ◌+◌, Option, None, Some, List, ◌∷◌, length, Result, Ok, Err, IsOk, IsSomeAnd, IsTrue, is_some, ◌==◌, Bool, false, true, ◌<◌, slice_get, All}
 use Rattle.dm_store.specs.declared.fuse.Kept.TheVariants.{Old, New}
 use Rattle.dm_print_ledger.specs.Ledger.{TicketView, LedgerView, is_sound, is_range}
-use Rattle.dm_event_history.specs.declared.reply.Reply.{Reply}
-use Rattle.dm_event_history.specs.declared.stop.Stop.{Stop}
+use Rattle.dm_event_history.specs.declared.{reply.Reply.Reply, stop.Stop.Stop, event.Event.Event}
 use Rattle.dm_event_history.specs.declared.stop.Stop.TheVariants.{BeforeSave, InSave, SaveFault, AfterLabels}
-use Rattle.dm_event_history.specs.Relay.{Actor, Running, Failed, Down, stored_of, Goods, Move, Lost, nothing, CutDocument, Label, Used, Took, Relay, Desk, with_printer, with_desk}
-use Rattle.dm_size.specs.declared.size.Size.{Size}
+use Rattle.dm_event_history.specs.Relay.{Actor, Running, Failed, Down, stored_of, Goods, Move, Lost, no_goods, CutDocument, Label, Used, Took, Relay, Desk, with_printer, with_desk}
+use Rattle.dm_size.specs.{declared.size.Size.Size, Sizes.side}
 use Rattle.dm_encodation.specs.declared.scheme.Scheme.{Scheme}
-use Rattle.dm_append_label.specs.Labels.{PageView, AreParts, HasNoEnds}
-use Rattle.dm_append_label.specs.Opening.{LabelOpens}
+use Rattle.dm_append_label.specs.{Labels.PageView, Labels.AreParts, Labels.HasNoEnds, Opening.LabelOpens}
 use Rattle.dm_print_ledger.specs.declared.range.Range.{Range}
 use Rattle.dm_print_ledger.specs.Verdicts.{least, IsLabelOf, print_verdict, give_verdict, take_verdict, ticket_of}
 use Rattle.dm_event_history.specs.declared.reply.Reply.TheVariants.{Printed, PrintRefused, Given, GiveRefused, Taken, TakeRefused, Scanned, ScanRefused, Document, AskRefused, Forgotten, ForgetRefused, Exported, ExportRefused, Imported, ImportRefused, Stopped, NoSuch, PrinterRefused, DeskRefused}
 use Rattle.dm_finder_frame.specs.Frame.{GridView, flipped}
-use Rattle.dm_append_label.specs.declared.opening.Opened.{Opened}
-use Rattle.dm_append_label.specs.declared.fault.LabelFault.{LabelFault}
-use Rattle.dm_assembly_desk.specs.declared.reply.Accepted.{Accepted}
-use Rattle.dm_assembly_desk.specs.declared.adding.AddFault.{AddFault}
-use Rattle.dm_assembly_desk.specs.declared.fault.ScanFault.{ScanFault}
-use Rattle.dm_assembly_desk.specs.declared.fault.AskFault.{AskFault}
-use Rattle.dm_assembly_desk.specs.declared.fault.ForgetFault.{ForgetFault}
-use Rattle.dm_assembly_desk.specs.declared.fault.ImportFault.{ImportFault}
+use Rattle.dm_append_label.specs.declared.{opening.Opened.Opened, fault.LabelFault.LabelFault}
+use Rattle.dm_assembly_desk.specs.declared.{reply.Accepted.Accepted, adding.AddFault.AddFault, fault.AskFault.AskFault}
+use Rattle.dm_assembly_desk.specs.declared.fault.{ScanFault.ScanFault, ForgetFault.ForgetFault, ImportFault.ImportFault}
 use Rattle.dm_assembly_desk.specs.Documents.{Pages, mask, Documents}
 use Rattle.dm_assembly_desk.specs.Desk.{Verdict, Stays, Becomes, add_verdict, lone, scan_of, import_of, forget_verdict, Asks}
-use Rattle.dm_event_history.specs.declared.event.Event.{Event}
 use Rattle.dm_event_history.specs.declared.event.Event.TheVariants.{Print, Scan, RestartPrinter, RestartDesk, Ask, Forget, Give, Take, Export, Import}
-use Rattle.dm_size.specs.Sizes.{side}
 use Rattle.std.specs.FinMap as finite
 use Rattle.dm_event_history.specs.Relay as relays
 use Rattle.dm_event_history.specs.declared.reply.Reply.TheVariants as replies
@@ -84,24 +75,24 @@ cut_off most goods = record {
 -- The table: how a call that comes to this ends under a stop.
 abbrev pub ends : {A C : Type 0} → Faults A → Stop → Course A C → Actor C → Ending A C
 -- stopped before the new content is stored, whatever it would have come to
-ends faults BeforeSave course old = ending replies.Stopped (Down (stored_of old)) nothing
-ends faults (InSave Old) course old = ending replies.Stopped (Down (stored_of old)) nothing
+ends faults BeforeSave course old = ending replies.Stopped (Down (stored_of old)) no_goods
+ends faults (InSave Old) course old = ending replies.Stopped (Down (stored_of old)) no_goods
 -- it saves
 ends faults stops.None (Saves next goods reply) old = ending reply (Running next) goods
-ends faults (SaveFault Old) (Saves next goods reply) old = ending faults.save (Failed (stored_of old) (stored_of old)) nothing
+ends faults (SaveFault Old) (Saves next goods reply) old = ending faults.save (Failed (stored_of old) (stored_of old)) no_goods
 ends faults (SaveFault New) (Saves next goods reply) old = ending faults.save (Failed (stored_of old) next) (cut_off 0 goods)
 ends faults (InSave New) (Saves next goods reply) old = ending replies.Stopped (Down next) (cut_off 0 goods)
 ends faults (AfterLabels most) (Saves next goods reply) old = ending replies.Stopped (Down next) (cut_off most goods)
 -- it answers without a save
-ends faults stops.None (Answers reply) old = ending reply old nothing
-ends faults (SaveFault kept) (Answers reply) old = ending reply old nothing
-ends faults (InSave New) (Answers reply) old = ending replies.Stopped (Down (stored_of old)) nothing
-ends faults (AfterLabels most) (Answers reply) old = ending replies.Stopped (Down (stored_of old)) nothing
+ends faults stops.None (Answers reply) old = ending reply old no_goods
+ends faults (SaveFault kept) (Answers reply) old = ending reply old no_goods
+ends faults (InSave New) (Answers reply) old = ending replies.Stopped (Down (stored_of old)) no_goods
+ends faults (AfterLabels most) (Answers reply) old = ending replies.Stopped (Down (stored_of old)) no_goods
 -- its memory is refused
-ends faults stops.None LacksMemory old = ending faults.memory old nothing
-ends faults (SaveFault kept) LacksMemory old = ending faults.memory old nothing
-ends faults (InSave New) LacksMemory old = ending replies.Memory old nothing
-ends faults (AfterLabels most) LacksMemory old = ending replies.Memory old nothing
+ends faults stops.None LacksMemory old = ending faults.memory old no_goods
+ends faults (SaveFault kept) LacksMemory old = ending faults.memory old no_goods
+ends faults (InSave New) LacksMemory old = ending replies.Memory old no_goods
+ends faults (AfterLabels most) LacksMemory old = ending replies.Memory old no_goods
 
 -- A call that is stopped before the new content is stored is not asked what it comes to.
 abbrev pub Reaches : Stop → Type 0 → Type 0
@@ -119,33 +110,33 @@ Calls {A} {C} faults stop Comes (Running held) end =
     (course : Course A C) × Reaches stop (Comes held course) × (end ≡ ends faults stop course (Running held))
 Calls faults stop Comes (Failed shown stored) end =
     end ≡ ends faults stop (Answers faults.failed) (Failed shown stored)
-Calls faults stop Comes (Down stored) end = end ≡ ending replies.Down (Down stored) nothing
+Calls faults stop Comes (Down stored) end = end ≡ ending replies.Down (Down stored) no_goods
 
 -- Memory may be refused first, for what the relay keeps of the call: then nothing changes.
 abbrev pub MayLackFirst : {A C : Type 0} → (Actor C → Ending A C → Type 0) → Actor C → Ending A C → Type 0
-MayLackFirst Acts (Running held) end = (end ≡ ending replies.Memory (Running held) nothing) ⊎ Acts (Running held) end
+MayLackFirst Acts (Running held) end = (end ≡ ending replies.Memory (Running held) no_goods) ⊎ Acts (Running held) end
 MayLackFirst Acts (Failed shown stored) end =
-    (end ≡ ending replies.Memory (Failed shown stored) nothing) ⊎ Acts (Failed shown stored) end
+    (end ≡ ending replies.Memory (Failed shown stored) no_goods) ⊎ Acts (Failed shown stored) end
 MayLackFirst Acts (Down stored) end = Acts (Down stored) end
 
 -- A call that saves nothing is answered by what is shown, also by one that has failed.
 abbrev pub Looks : {A C : Type 0} → (C → Reply A → Goods → Type 0) → Actor C → Ending A C → Type 0
 Looks Tells (Running held) end = Tells held end.reply end.goods × (end.actor ≡ Running held)
 Looks Tells (Failed shown stored) end = Tells shown end.reply end.goods × (end.actor ≡ Failed shown stored)
-Looks Tells (Down stored) end = end ≡ ending replies.Down (Down stored) nothing
+Looks Tells (Down stored) end = end ≡ ending replies.Down (Down stored) no_goods
 
 -- A restart runs on with what is stored; where memory is refused, which `refused` tells, it is down.
 abbrev pub Restarts : {A C : Type 0} → Reply A → Actor C → Ending A C → Type 0
 Restarts refused old end =
-    (end ≡ ending replies.Restarted (Running (stored_of old)) nothing)
-    ⊎ (end ≡ ending refused (Down (stored_of old)) nothing)
+    (end ≡ ending replies.Restarted (Running (stored_of old)) no_goods)
+    ⊎ (end ≡ ending refused (Down (stored_of old)) no_goods)
 
 -- What a verdict on a ledger comes to: it is saved and this leaves by it, or it is the answer.
-abbrev pub Comes : {A F : Type 0} → (F → Reply A) → Result LedgerView F → (Goods → Reply A → Type 0) →
+abbrev pub IsCourse : {A F : Type 0} → (F → Reply A) → Result LedgerView F → (Goods → Reply A → Type 0) →
     Course A LedgerView → Type 0
-Comes refuses verdict Leaves (Saves next goods reply) = (verdict ≡ Ok next) × Leaves goods reply
-Comes {A} {F} refuses verdict Leaves (Answers reply) = (fault : F) × (verdict ≡ Err fault) × (reply ≡ refuses fault)
-Comes refuses verdict Leaves LacksMemory = IsOk verdict
+IsCourse refuses verdict Leaves (Saves next goods reply) = (verdict ≡ Ok next) × Leaves goods reply
+IsCourse {A} {F} refuses verdict Leaves (Answers reply) = (fault : F) × (verdict ≡ Err fault) × (reply ≡ refuses fault)
+IsCourse refuses verdict Leaves LacksMemory = IsOk verdict
 
 -- a ledger that is stored is always sound
 abbrev pub IsStored : LedgerView → Type 0
@@ -161,9 +152,9 @@ print_faults = record {
 }
 
 -- the document has these parts, or none
-abbrev pub IsCut : Size → Scheme → List ℕ → Option (List (List ℕ)) → Type 0
-IsCut size scheme document None = HasNoEnds size scheme document
-IsCut size scheme document (Some parts) = AreParts size scheme document parts
+abbrev pub HasParts : Size → Scheme → List ℕ → Option (List (List ℕ)) → Type 0
+HasParts size scheme document None = HasNoEnds size scheme document
+HasParts size scheme document (Some parts) = AreParts size scheme document parts
 
 -- it is the label of this page of the document
 pub record IsLabelFor (cut : CutDocument) (page : PageView) (label : Label) : Type 0 where
@@ -195,8 +186,8 @@ cut_of document size scheme parts = record { bytes = document; size = size; sche
 -- what a print comes to
 abbrev pub PrintComes : {A : Type 0} → ℕ → List ℕ → Size → Scheme → LedgerView → Course A LedgerView → Type 0
 PrintComes before document size scheme ledger course =
-    IsStored ledger × (parts : Option (List (List ℕ))) × IsCut size scheme document parts
-    × Comes PrintRefused (print_verdict ledger (is_some parts)) (λ goods reply.
+    IsStored ledger × (parts : Option (List (List ℕ))) × HasParts size scheme document parts
+    × IsCourse PrintRefused (print_verdict ledger (is_some parts)) (λ goods reply.
     IsSomeAnd parts (λ parts. PrintLeaves before (cut_of document size scheme parts) (least ledger.free) goods reply))
     course
 
@@ -212,7 +203,7 @@ give_faults = record {
 -- what a give comes to: the numbers leave by a ticket; a number of tickets left before
 abbrev pub GiveComes : {A : Type 0} → ℕ → ℕ → Range → LedgerView → Course A LedgerView → Type 0
 GiveComes before receiver range ledger course =
-    IsStored ledger × Comes GiveRefused (give_verdict ledger receiver range) (λ goods reply.
+    IsStored ledger × IsCourse GiveRefused (give_verdict ledger receiver range) (λ goods reply.
     (goods ≡ record { labels = []; tickets = ticket_of ledger receiver range ∷ []; exports = []; moves = [] })
     × (reply ≡ Given before (ticket_of ledger receiver range))) course
 
@@ -228,7 +219,7 @@ take_faults = record {
 -- what a take comes to: the numbers of the ticket, which left under this number, are free here
 abbrev pub TakeComes : {A : Type 0} → ℕ → TicketView → LedgerView → Course A LedgerView → Type 0
 TakeComes number ticket ledger course =
-    IsStored ledger × IsTrue (is_range ticket.range) × Comes TakeRefused (take_verdict ledger ticket) (λ goods reply.
+    IsStored ledger × IsTrue (is_range ticket.range) × IsCourse TakeRefused (take_verdict ledger ticket) (λ goods reply.
     (goods ≡ record { labels = []; tickets = []; exports = []; moves = Took number ∷ [] }) × (reply ≡ Taken)) course
 
 -- a call that comes to this saves
@@ -244,7 +235,7 @@ MayBe wanted course = (course ≡ wanted) ⊎ ((course ≡ LacksMemory) × IsSav
 -- what a verdict comes to; `tells` makes a reply of its answer
 abbrev pub verdict_course : {A R : Type 0} → (R → Reply A) → Verdict R → Course A Documents
 verdict_course tells (Stays answer) = Answers (tells answer)
-verdict_course tells (Becomes next answer) = Saves next nothing (tells answer)
+verdict_course tells (Becomes next answer) = Saves next no_goods (tells answer)
 
 -- ---- scans
 
@@ -321,15 +312,15 @@ ask_reply (Err fault) = AskRefused fault
 abbrev pub AskTells : {A : Type 0} → ℕ → Documents → Reply A → Goods → Type 0
 AskTells id held reply goods =
     (answer : Result (List ℕ) AskFault) × Asks (λ bytes. bytes) (finite.get held id) answer
-    × (reply ≡ ask_reply answer) × (goods ≡ nothing)
+    × (reply ≡ ask_reply answer) × (goods ≡ no_goods)
 
 -- Of what is held of a document the export has the pages; memory for it may be refused. So many left before.
 abbrev pub ExportsHeld : {A : Type 0} → ℕ → ℕ → Option Pages → Reply A → Goods → Type 0
-ExportsHeld before id None reply goods = (reply ≡ ExportRefused export_fault.NotHeld) × (goods ≡ nothing)
+ExportsHeld before id None reply goods = (reply ≡ ExportRefused export_fault.NotHeld) × (goods ≡ no_goods)
 ExportsHeld before id (Some pages) reply goods =
     ((reply ≡ Exported before id (length pages) (mask pages))
     × (goods ≡ record { labels = []; tickets = []; exports = record { id = id; pages = pages } ∷ []; moves = [] }))
-    ⊎ ((reply ≡ ExportRefused export_fault.Memory) × (goods ≡ nothing))
+    ⊎ ((reply ≡ ExportRefused export_fault.Memory) × (goods ≡ no_goods))
 
 abbrev pub ExportTells : {A : Type 0} → ℕ → ℕ → Documents → Reply A → Goods → Type 0
 ExportTells before id held reply goods = ExportsHeld before id (finite.get held id) reply goods
@@ -421,17 +412,17 @@ HasModules relay number flips =
     × All (λ flip. (flip.0 < side label.grid.size) × (flip.1 < side label.grid.size)) flips
 
 -- what an event names is there
-abbrev pub IsNamed : {A : Type 0} → Relay → Event A → Type 0
-IsNamed relay (Print printer document size scheme stop) = printer < length relay.printers
-IsNamed relay (Give printer receiver range stop) = printer < length relay.printers
-IsNamed relay (Take printer ticket stop) = (printer < length relay.printers) × (ticket < length relay.tickets)
-IsNamed relay (RestartPrinter printer) = printer < length relay.printers
-IsNamed relay (Scan desk label flips stop) = (desk < length relay.desks) × HasModules relay label flips
-IsNamed relay (Forget desk id stop) = desk < length relay.desks
-IsNamed relay (Import desk export stop) = (desk < length relay.desks) × (export < length relay.exports)
-IsNamed relay (Ask desk id) = desk < length relay.desks
-IsNamed relay (Export desk id) = desk < length relay.desks
-IsNamed relay (RestartDesk desk) = desk < length relay.desks
+abbrev pub IsNamedThere : {A : Type 0} → Relay → Event A → Type 0
+IsNamedThere relay (Print printer document size scheme stop) = printer < length relay.printers
+IsNamedThere relay (Give printer receiver range stop) = printer < length relay.printers
+IsNamedThere relay (Take printer ticket stop) = (printer < length relay.printers) × (ticket < length relay.tickets)
+IsNamedThere relay (RestartPrinter printer) = printer < length relay.printers
+IsNamedThere relay (Scan desk label flips stop) = (desk < length relay.desks) × HasModules relay label flips
+IsNamedThere relay (Forget desk id stop) = desk < length relay.desks
+IsNamedThere relay (Import desk export stop) = (desk < length relay.desks) × (export < length relay.exports)
+IsNamedThere relay (Ask desk id) = desk < length relay.desks
+IsNamedThere relay (Export desk id) = desk < length relay.desks
+IsNamedThere relay (RestartDesk desk) = desk < length relay.desks
 
 -- ---- printers and desks
 
@@ -486,8 +477,8 @@ Acts old (RestartDesk desk) reply new =
 -- one step: an event that names what is not there is answered `NoSuch`, and changes nothing
 abbrev pub Step : {A : Type 0} → Relay → Event A → Reply A → Relay → Type 0
 Step old event reply new =
-    (IsNamed old event × Acts old event reply new)
-    ⊎ ((¬ IsNamed old event) × (reply ≡ NoSuch) × (new ≡ old))
+    (IsNamedThere old event × Acts old event reply new)
+    ⊎ ((¬ IsNamedThere old event) × (reply ≡ NoSuch) × (new ≡ old))
 
 -- an event, what it was answered, and the relay before it
 pub record Moment (A : Type 0) : Type 0 where
@@ -514,14 +505,14 @@ AreMomentsOf (event ∷ events) (reply ∷ replies) (moment ∷ moments) =
 AreMomentsOf events replies moments = ⊥
 
 -- an event and what it is answered
-pub record Said (A : Type 0) : Type 0 where
+pub record EventAndReply (A : Type 0) : Type 0 where
   pub event : Event A
   pub reply : Reply A
 
-abbrev pub said : {A : Type 0} → Event A → Reply A → Said A
+abbrev pub said : {A : Type 0} → Event A → Reply A → EventAndReply A
 said event reply = record { event = event; reply = reply }
 
 -- from this relay on just this may be said, the first of it first
-abbrev pub Tells : {A : Type 0} → Relay → List (Said A) → Type 0
-Tells from [] = Unit {0}
-Tells from (one ∷ more) = (next : Relay) × Step from one.event one.reply next × Tells next more
+abbrev pub MaySay : {A : Type 0} → Relay → List (EventAndReply A) → Type 0
+MaySay from [] = Unit {0}
+MaySay from (one ∷ more) = (next : Relay) × Step from one.event one.reply next × MaySay next more

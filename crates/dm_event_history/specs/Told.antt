@@ -1,33 +1,24 @@
 -- When replies may be given, and what they tell: who is down, who has failed, why events are refused, and that only
 -- memory is open.
 use Rattle.std.specs.Prelude.{◌≡◌, ◌≢◌, ◌+◌, ◌==◌, ◌&&◌, ◌||◌, not, ℕ, Bool, true, false, if◌then◌else◌, None, Option, Some, option_map, ◌<◌, List, [], ◌∷◌, slice_get, ◌↔◌, ◌⊎◌, IsSomeAnd, IsSome, ◌≤◌, length}
-use Rattle.std.specs.Option.{option_map_or}
+use Rattle.std.specs.{Option.option_map_or, Ordering.nat_cmp, List.Sorted.IsStrictlySortedBy}
 use Rattle.dm_size.specs.declared.size.Size.{Size}
 use Rattle.dm_encodation.specs.declared.scheme.Scheme.{Scheme}
 use Rattle.dm_finder_frame.specs.Frame.{GridView, flipped, HasGoodFrame, HasBadFrame}
-use Rattle.dm_append_label.specs.Labels.{HasNoEnds}
-use Rattle.dm_append_label.specs.declared.fault.LabelFault.TheVariants.{Border}
+use Rattle.dm_append_label.specs.{Labels.HasNoEnds, declared.fault.LabelFault.TheVariants.Border}
 use Rattle.dm_store.specs.declared.fuse.Kept.{Kept}
 use Rattle.dm_print_ledger.specs.declared.range.Range.{Range}
 use Rattle.dm_print_ledger.specs.Ledger.{free_count, last_taken, size_of, LedgerView, TicketView}
-use Rattle.dm_event_history.specs.declared.event.Event.{Event}
+use Rattle.dm_event_history.specs.declared.{event.Event.Event, reply.Reply.Reply, stop.Stop.Stop}
 use Rattle.dm_event_history.specs.declared.event.Event.TheVariants.{Print, Scan, Give, Take, RestartPrinter, RestartDesk, Forget, Import, Ask, Export}
-use Rattle.dm_event_history.specs.declared.reply.Reply.{Reply}
 use Rattle.dm_event_history.specs.declared.reply.Reply.TheVariants.{PrintRefused, Scanned, ScanRefused, AskRefused, ForgetRefused, GiveRefused, TakeRefused, ExportRefused, ImportRefused, Restarted, PrinterRefused, DeskRefused, Stopped, Down, NoSuch, Memory, Printed, Forgotten, Given, Taken, Imported, Document, Exported}
-use Rattle.dm_event_history.specs.declared.stop.Stop.{Stop}
-use Rattle.dm_event_history.specs.Steps.{DeskAt, Named, PrinterAt, actor_of, is_same, may_save, stop_of, IsStopping, IsRun, Moment, Step, IsNamed}
+use Rattle.dm_event_history.specs.Steps.{DeskAt, Named, PrinterAt, actor_of, is_same, may_save, stop_of, IsStopping, IsRun, Moment, Step, IsNamedThere}
 use Rattle.dm_event_history.specs.Relay.{Actor, stored_of, Running, Failed, Desk, Label, Relay, Took, start, HasAll, CutDocument}
 use Rattle.dm_event_history.specs.Headline.{ArePrinted, IsFairEvent, AreDisjoint, AreSavedFair}
-use Rattle.dm_assembly_desk.specs.declared.reply.Kind.{Kind}
-use Rattle.dm_assembly_desk.specs.declared.reply.Kind.TheVariants.{New, Again, Complete}
-use Rattle.std.specs.Ordering.{nat_cmp}
-use Rattle.std.specs.List.Sorted.{IsStrictlySortedBy}
+use Rattle.dm_assembly_desk.specs.declared.reply.Kind.{Kind, TheVariants.New, TheVariants.Again, TheVariants.Complete}
 use Rattle.dm_assembly_desk.specs.Documents.{page, names, Documents, page_at}
-use Rattle.dm_assembly_desk.specs.declared.reply.Accepted.{Accepted}
-use Rattle.dm_assembly_desk.specs.declared.fault.AskFault.{AskFault}
-use Rattle.dm_assembly_desk.specs.declared.fault.ForgetFault.{ForgetFault}
-use Rattle.dm_assembly_desk.specs.declared.fault.ExportFault.{ExportFault}
-use Rattle.dm_assembly_desk.specs.declared.fault.ScanFault.{ScanFault}
+use Rattle.dm_assembly_desk.specs.declared.{reply.Accepted.Accepted, fault.AskFault.AskFault, fault.ScanFault.ScanFault}
+use Rattle.dm_assembly_desk.specs.declared.fault.{ForgetFault.ForgetFault, ExportFault.ExportFault}
 use Rattle.dm_assembly_desk.specs.declared.fault.ImportFault.{ImportFault}
 use Rattle.dm_print_ledger.specs.declared.fault.PrintFault.TheVariants as print_fault
 use Rattle.dm_print_ledger.specs.declared.fault.GiveFault.TheVariants as give_fault
@@ -83,10 +74,10 @@ tells_of_save other = false
 -- down, and this is no restart; else `Stopped` or `Memory` where the call is to end before its reply, and `Stopped`
 -- only there. A reply tells of a save only where nothing was to happen to the call.
 pub record IsLegal {A : Type 0} (old : Relay) (event : Event A) (reply : Reply A) : Type 0 where
-  pub no_such : (reply ≡ NoSuch) ↔ (¬ IsNamed old event)
-  pub down : (reply ≡ replies.Down) ↔ (IsNamed old event × NeedsRunning event × IsDownAt old (actor_of event))
+  pub no_such : (reply ≡ NoSuch) ↔ (¬ IsNamedThere old event)
+  pub down : (reply ≡ replies.Down) ↔ (IsNamedThere old event × NeedsRunning event × IsDownAt old (actor_of event))
   pub stopped : reply ≡ Stopped → IsStopped event
-  pub ended : IsNamed old event → ¬ IsDownAt old (actor_of event) → IsStopped event →
+  pub ended : IsNamedThere old event → ¬ IsDownAt old (actor_of event) → IsStopped event →
       (reply ≡ Stopped) ⊎ (reply ≡ Memory)
   pub saves : tells_of_save reply ≡ true → stop_of event ≡ Some stops.None
 
@@ -323,8 +314,8 @@ NothingIsOpenButMemory A = (old one other : Relay) (event : Event A) (reply answ
 -- Replies of desks that agree with what was printed, and with what was scanned, imported and forgotten there.
 
 -- the label of this number is that of page m of a document
-abbrev pub IsLabelOf : List Label → ℕ → ℕ → ℕ → Type 0
-IsLabelOf labels number id m =
+abbrev pub IsLabelOfPage : List Label → ℕ → ℕ → ℕ → Type 0
+IsLabelOfPage labels number id m =
     (label : Label) × (slice_get labels number ≡ Some label) × (label.page.id ≡ id) × (label.page.m ≡ m)
 
 -- the export of this number has page m of a document
@@ -334,25 +325,25 @@ HasExported exports number id m =
     × IsSome (page export.pages m)
 
 -- a scan at the desk was answered with this page, or an import there of an export that has it was done
-abbrev pub Takes : {A : Type 0} → Relay → Event A → Reply A → ℕ → ℕ → ℕ → Type 0
-Takes before (Scan desk number flips stop) (Scanned accepted) at id m =
+abbrev pub TakesPage : {A : Type 0} → Relay → Event A → Reply A → ℕ → ℕ → ℕ → Type 0
+TakesPage before (Scan desk number flips stop) (Scanned accepted) at id m =
     (desk ≡ at) × (accepted.id ≡ id) × (accepted.m ≡ m)
-Takes before (Import desk number stop) (Imported imported) at id m =
+TakesPage before (Import desk number stop) (Imported imported) at id m =
     (desk ≡ at) × HasExported before.exports number id m
-Takes before event reply at id m = ⊥
+TakesPage before event reply at id m = ⊥
 
 -- a scan at the desk of a label of this page may have saved, or an import there of an export that has it
 abbrev pub MayTake : {A : Type 0} → Relay → Event A → Reply A → ℕ → ℕ → ℕ → Type 0
 MayTake before (Scan desk number flips stop) reply at id m =
-    (desk ≡ at) × (may_save (Scan desk number flips stop) reply ≡ true) × IsLabelOf before.labels number id m
+    (desk ≡ at) × (may_save (Scan desk number flips stop) reply ≡ true) × IsLabelOfPage before.labels number id m
 MayTake before (Import desk number stop) reply at id m =
     (desk ≡ at) × (may_save (Import desk number stop) reply ≡ true) × HasExported before.exports number id m
 MayTake before event reply at id m = ⊥
 
 -- a forget of the document at the desk was answered `Forgotten`
-abbrev pub Forgets : {A : Type 0} → Event A → Reply A → ℕ → ℕ → Type 0
-Forgets (Forget desk name stop) Forgotten at id = (desk ≡ at) × (name ≡ id)
-Forgets event reply at id = ⊥
+abbrev pub ForgetsDocument : {A : Type 0} → Event A → Reply A → ℕ → ℕ → Type 0
+ForgetsDocument (Forget desk name stop) Forgotten at id = (desk ≡ at) × (name ≡ id)
+ForgetsDocument event reply at id = ⊥
 
 -- a forget of the document at the desk may have saved
 abbrev pub MayForget : {A : Type 0} → Event A → Reply A → ℕ → ℕ → Type 0
@@ -364,7 +355,7 @@ MayForget event reply at id = ⊥
 abbrev pub IsSurelyHeld : {A : Type 0} → List (Moment A) → ℕ → ℕ → ℕ → Type 0
 IsSurelyHeld [] desk id m = ⊥
 IsSurelyHeld (moment ∷ earlier) desk id m =
-    Takes moment.before moment.event moment.reply desk id m
+    TakesPage moment.before moment.event moment.reply desk id m
     ⊎ ((¬ MayForget moment.event moment.reply desk id) × IsSurelyHeld earlier desk id m)
 
 -- page m of a document is possibly held at a desk: a scan or an import may have saved it, and no later forget was done
@@ -372,7 +363,7 @@ abbrev pub IsPossiblyHeld : {A : Type 0} → List (Moment A) → ℕ → ℕ →
 IsPossiblyHeld [] desk id m = ⊥
 IsPossiblyHeld (moment ∷ earlier) desk id m =
     MayTake moment.before moment.event moment.reply desk id m
-    ⊎ ((¬ Forgets moment.event moment.reply desk id) × IsPossiblyHeld earlier desk id m)
+    ⊎ ((¬ ForgetsDocument moment.event moment.reply desk id) × IsPossiblyHeld earlier desk id m)
 
 -- page m of a document is among these
 abbrev pub Has : Documents → ℕ → ℕ → Type 0
@@ -388,7 +379,7 @@ abbrev pub AreBetween : {A : Type 0} → List (Moment A) → Relay → Type 0
 AreBetween h relay = (number : ℕ) (desk : Desk) → slice_get relay.desks number ≡ Some desk →
     HasAll (IsBetween h number) desk.actor
 
--- what was printed under an identification, by the labels that left
+-- what was printed under an ID, by the labels that left
 abbrev pub docs : List Label → ℕ → Option CutDocument
 docs [] id = None
 docs (label ∷ labels) id = if label.page.id == id then Some label.cut else docs labels id
@@ -415,7 +406,7 @@ IsNotSurelyHeld known desk id = (m : ℕ) → ¬ known.holds desk id m
 
 -- ---- asks and forgets
 
--- the document was printed under this identification, and each of its pages is possibly held
+-- the document was printed under this ID, and each of its pages is possibly held
 pub record IsTrueDocument (known : Known) (desk id : ℕ) (bytes : List ℕ) : Type 0 where
   pub document : CutDocument
   pub printed : docs known.labels id ≡ Some document
@@ -498,7 +489,7 @@ pub record IsImportedSafe (known : Known) (desk : ℕ) (export : relays.Export) 
 
 -- ---- desks that are full
 
--- that many other documents have a page that may be held at the desk: these, by rising identification
+-- that many other documents have a page that may be held at the desk: these, by rising ID
 pub record MayHoldOthers (known : Known) (desk id count : ℕ) : Type 0 where
   pub others : List ℕ
   pub enough : count ≤ length others

@@ -38,8 +38,8 @@ pub fn numbers_and_labels<A: Allocator>()
     ensures places { EachRunKeepsNumbers A }
 {}
 
-/// The headline: in every run of a relay whose printers begin with disjoint ranges no identification is printed twice,
-/// and whatever document a clean desk gives for an identification is the one document that was printed under it. And as
+/// The headline: in every run of a relay whose printers begin with disjoint ranges no ID is printed twice,
+/// and whatever document a clean desk gives for an ID is the one document that was printed under it. And as
 /// long as each scan that may have saved its page is fair, all desks are clean.
 pub fn headline<A: Allocator>()
     ensures sound { EachRunIsSound A }

@@ -1,7 +1,6 @@
 -- Ranges that are apart, each from those after it.
 use Rattle.std.proofs.Common.{◌≡◌, ◌+◌, ◌-◌, ◌<◌, ℕ, List, length, drop, take, slice_index_or, All, ap, sym, ◌∙◌, subst, arith}
-use Rattle.std.proofs.lemmas.List.{length-drop, get_or-drop, take_rest}
-use Rattle.std.proofs.lemmas.Option.{slice_get-get_or}
+use Rattle.std.proofs.lemmas.{List.length-drop, List.get_or-drop, List.take_rest, Option.slice_get-get_or}
 use Rattle.dm_print_ledger.specs.declared.range.Range.{Range}
 use Rattle.dm_event_history.specs.Headline.{IsApart, AreDisjoint}
 

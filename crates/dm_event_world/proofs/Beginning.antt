@@ -1,21 +1,14 @@
 -- A world that begins.
 use Rattle.std.proofs.Common.{◌≡◌, ◌+◌, ℕ, zero, suc, Some, List, [], ◌∷◌, All, length, slice_get, refl, sym, ap, subst, ◌∙◌, arith}
 use Rattle.std.proofs.lemmas.List.{length-map}
-use Rattle.dm_print_ledger.specs.declared.range.Range.{Range}
-use Rattle.dm_print_ledger.specs.Verdicts.{opening}
-use Rattle.dm_print_ledger.specs.Ledger.{LedgerView, TicketView}
+use Rattle.dm_print_ledger.specs.{declared.range.Range.Range, Verdicts.opening, Ledger.LedgerView, Ledger.TicketView}
 use Rattle.dm_assembly_desk.specs.Documents.{IsCapacity}
 use Rattle.dm_event_history.specs.Relay.{Actor, Running, Desk, empty_desk, fresh_from, start}
 use Rattle.dm_event_history.specs.Headline.{AreDisjoint}
-use Rattle.dm_event_world.specs.declared.actor.PrinterActor.{PrinterActor}
-use Rattle.dm_event_world.specs.declared.actor.DeskActor.{DeskActor}
-use Rattle.dm_event_world.specs.declared.actor.LeftLabel.{LeftLabel}
-use Rattle.dm_event_world.specs.declared.actor.LeftExport.{LeftExport}
-use Rattle.dm_event_world.specs.Shows.{ShowsDesk, ShowsPrinter, AreRanges, StandsFor}
-use Rattle.dm_event_world.specs.inner.Desks.{AreEmpty}
-use Rattle.dm_event_world.specs.inner.Calls.{AreFresh}
-use Rattle.dm_event_world.proofs.Changing.{world_of}
-use Rattle.dm_event_world.proofs.Mapped.{get_map_from}
+use Rattle.dm_event_world.specs.declared.actor.{PrinterActor.PrinterActor, DeskActor.DeskActor, LeftLabel.LeftLabel}
+use Rattle.dm_event_world.specs.{declared.actor.LeftExport.LeftExport, inner.Desks.AreEmpty, inner.Calls.AreFresh}
+use Rattle.dm_event_world.specs.Shows.{ShowsDesk, ShowsPrinter, AreIdRanges, StandsFor}
+use Rattle.dm_event_world.proofs.{Changing.world_of, Mapped.get_map_from}
 
 length-fresh : (from : ℕ) (ranges : List Range) → length (fresh_from from ranges) ≡ length ranges
 length-fresh from [] = refl
@@ -39,7 +32,7 @@ get_fresh from (r ∷ rs) (suc i) shown is =
 
 pub begins : {A : Type 0} (ranges : List Range) (rooms : List ℕ) (printers : List (PrinterActor A))
     (desks : List (DeskActor A)) (labels : List (LeftLabel A)) (tickets : List TicketView)
-    (exports : List (LeftExport A)) → AreRanges ranges → AreDisjoint ranges → All IsCapacity rooms →
+    (exports : List (LeftExport A)) → AreIdRanges ranges → AreDisjoint ranges → All IsCapacity rooms →
     AreFresh ranges printers → AreEmpty rooms desks → labels ≡ [] → tickets ≡ [] → exports ≡ [] →
     StandsFor ranges rooms (world_of printers desks labels tickets exports) []
 begins {A} ranges rooms printers desks labels tickets exports are_ranges disjoint capacities fresh empty no_labels

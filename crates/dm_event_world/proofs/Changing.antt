@@ -4,20 +4,14 @@ use Rattle.std.proofs.lemmas.List.{append-nil, length-map, length-set, map-appen
 use Rattle.std.proofs.lemmas.Option.{slice_get-get_or, slice_get_within}
 use Rattle.dm_print_ledger.specs.Ledger.{LedgerView, TicketView}
 use Rattle.dm_assembly_desk.specs.Documents.{Documents}
-use Rattle.dm_event_history.specs.declared.event.Event.{Event}
-use Rattle.dm_event_history.specs.declared.reply.Reply.{Reply}
-use Rattle.dm_event_history.specs.declared.reply.Reply.TheVariants.{NoSuch}
+use Rattle.dm_event_history.specs.declared.{event.Event.Event, reply.Reply.Reply, reply.Reply.TheVariants.NoSuch}
 use Rattle.dm_event_history.specs.Relay.{Actor, stored_of, Desk, Goods, Relay, with_desk, with_printer}
-use Rattle.dm_event_history.specs.Steps.{Ending, DeskGoes, IsNamed, PrinterGoes, Step}
+use Rattle.dm_event_history.specs.Steps.{Ending, DeskGoes, IsNamedThere, PrinterGoes, Step}
 use Rattle.dm_event_history.proofs.Gotten.{in_either}
-use Rattle.dm_event_world.specs.declared.actor.PrinterActor.{PrinterActor}
-use Rattle.dm_event_world.specs.declared.actor.DeskActor.{DeskActor}
-use Rattle.dm_event_world.specs.declared.actor.DeskState.{DeskState}
-use Rattle.dm_event_world.specs.declared.actor.LeftLabel.{LeftLabel}
-use Rattle.dm_event_world.specs.declared.actor.LeftExport.{LeftExport}
+use Rattle.dm_event_world.specs.declared.actor.{PrinterActor.PrinterActor, DeskActor.DeskActor, DeskState.DeskState}
+use Rattle.dm_event_world.specs.declared.actor.{LeftLabel.LeftLabel, LeftExport.LeftExport}
 use Rattle.dm_event_world.specs.Shows.{WorldView, Shows, ShowsDesk, ShowsPrinter, left_export, left_label}
-use Rattle.dm_event_world.specs.inner.Calls.{EndsSo, Left}
-use Rattle.dm_event_world.specs.inner.Events.{Steps}
+use Rattle.dm_event_world.specs.inner.{Calls.EndsSo, Calls.Left, Events.StepsEach}
 
 -- ---- lists
 
@@ -113,11 +107,11 @@ world_of printers desks labels tickets exports =
 
 -- what is named is not there
 pub names_none : {A : Type 0} (old seen : WorldView A) (event : Event A) → old ≡ seen →
-    ((relay : Relay) → Shows old relay → IsNamed relay event → ⊥) → Steps seen event NoSuch seen
+    ((relay : Relay) → Shows old relay → IsNamedThere relay event → ⊥) → StepsEach seen event NoSuch seen
 names_none {A} old seen event is none = grind arith
 
 pub names_none_still : {A : Type 0} (old seen : WorldView A) (event : Event A) → old ≡ seen →
-    ((relay : Relay) → Shows old relay → IsNamed relay event → ⊥) → Steps seen event NoSuch old
+    ((relay : Relay) → Shows old relay → IsNamedThere relay event → ⊥) → StepsEach seen event NoSuch old
 names_none_still {A} old seen event is none = grind arith
 
 pub no_printer : {A : Type 0} (old : WorldView A) (relay : Relay) (p : ℕ) → (p < length old.printers → ⊥) →
@@ -158,12 +152,12 @@ pub printer_steps : {A : Type 0} (old : WorldView A) (labels : List (LeftLabel A
     shown reply after) →
     ((relay next : Relay) → Shows old relay → printer < length relay.printers →
     PrinterGoes relay printer Acts reply next → Step relay event reply next) →
-    Steps seen event reply (world_of (slice_set old.printers printer after) old.desks labels tickets old.exports)
+    StepsEach seen event reply (world_of (slice_set old.printers printer after) old.desks labels tickets old.exports)
 printer_steps {A} old labels tickets seen event reply printer actor after Acts is was goes stepped =
-    subst (λ (w : WorldView A). Steps w event reply
+    subst (λ (w : WorldView A). StepsEach w event reply
     (world_of (slice_set old.printers printer after) old.desks labels tickets old.exports)) is so
   where
-    so : Steps old event reply
+    so : StepsEach old event reply
         (world_of (slice_set old.printers printer after) old.desks labels tickets old.exports)
     so relay order s = record {
       next = with_printer relay printer e.end.actor e.end.goods;
@@ -225,14 +219,14 @@ pub desk_steps : {A : Type 0} (old : WorldView A) (exports : List (LeftExport A)
     (λ goods. Left old.labels old.tickets old.exports goods old.labels old.tickets exports) shown reply after) →
     ((relay next : Relay) → (s : Shows old relay) → number < length relay.desks →
     DeskGoes relay number (Acts relay s) reply next → Step relay event reply next) →
-    Steps seen event reply (world_of old.printers
+    StepsEach seen event reply (world_of old.printers
     (slice_set old.desks number (record { capacity = actor.capacity; state = after })) old.labels old.tickets exports)
 desk_steps {A} old exports seen event reply number actor after Acts is was goes stepped =
-    subst (λ (w : WorldView A). Steps w event reply (world_of old.printers
+    subst (λ (w : WorldView A). StepsEach w event reply (world_of old.printers
     (slice_set old.desks number (record { capacity = actor.capacity; state = after })) old.labels old.tickets exports))
     is so
   where
-    so : Steps old event reply (world_of old.printers
+    so : StepsEach old event reply (world_of old.printers
         (slice_set old.desks number (record { capacity = actor.capacity; state = after })) old.labels old.tickets exports)
     so relay order s = record {
       next = with_desk relay number mine e.end.goods;

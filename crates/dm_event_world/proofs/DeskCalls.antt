@@ -1,49 +1,40 @@
 -- A call of a desk, as a world makes it, is one of the relay that it shows.
 use Rattle.std.proofs.Common.{◌≡◌, ◌≤◌, inl, inr, ℕ, true, false, List, [], Option, Some, None, IsSome, Result, Ok, Err, take, refl, sym, ap, subst, ◌∙◌, arith}
 use Rattle.std.specs.Prelude.{is_none, if◌then◌else◌, ◌<◌, ◌+◌, cond, is_some}
-use Rattle.std.specs.Cmp.{nat_cmp_total}
+use Rattle.std.specs.{Cmp.nat_cmp_total, FinMap.len-insert}
 use Rattle.std.specs.FinMap as finite
-use Rattle.std.specs.FinMap.{len-insert}
 use Rattle.dm_finder_frame.specs.Frame.{GridView}
-use Rattle.dm_append_label.specs.Opening.{LabelOpens}
-use Rattle.dm_append_label.specs.declared.opening.Opened.{Opened}
+use Rattle.dm_append_label.specs.{Opening.LabelOpens, declared.opening.Opened.Opened}
 use Rattle.dm_append_label.specs.declared.fault.LabelFault.{LabelFault}
 use Rattle.dm_append_label.specs.declared.fault.LabelFault.TheVariants as label_fault
-use Rattle.dm_assembly_desk.specs.declared.reply.Accepted.{Accepted}
-use Rattle.dm_assembly_desk.specs.declared.reply.Kind.TheVariants.{Again}
+use Rattle.dm_assembly_desk.specs.declared.reply.{Accepted.Accepted, Kind.TheVariants.Again}
 use Rattle.dm_assembly_desk.specs.declared.reply.Imported as imported_type
-use Rattle.dm_assembly_desk.specs.declared.adding.AddFault.{AddFault}
+use Rattle.dm_assembly_desk.specs.declared.{adding.AddFault.AddFault, fault.ScanFault.ScanFault}
 use Rattle.dm_assembly_desk.specs.declared.adding.AddFault.TheVariants as adds
-use Rattle.dm_assembly_desk.specs.declared.fault.ScanFault.{ScanFault}
 use Rattle.dm_assembly_desk.specs.declared.fault.ScanFault.TheVariants as scan_fault
-use Rattle.dm_assembly_desk.specs.declared.fault.ImportFault.{ImportFault}
+use Rattle.dm_assembly_desk.specs.declared.fault.{ImportFault.ImportFault, ForgetFault.ForgetFault}
 use Rattle.dm_assembly_desk.specs.declared.fault.ImportFault.TheVariants as import_fault
 use Rattle.dm_assembly_desk.specs.Desk.{add_verdict, pages_with, reply_of, with_pages, AcceptsGrid, Scans, lone, ImportsBytes, Becomes, SavesDocument, Stays, Verdict, answer_by, Forgets, forget_verdict}
 use Rattle.dm_assembly_desk.proofs.AddLaws as laws
-use Rattle.dm_assembly_desk.proofs.Undoing.{get_here}
+use Rattle.dm_assembly_desk.proofs.{Undoing.get_here, Saving.few_remove}
 use Rattle.dm_event_history.proofs.Adds as verdicts
 use Rattle.dm_store.specs.Saved.{Done, Faulted, Outcome, Refused, SavedSet}
-use Rattle.dm_store.specs.declared.fuse.Kept.TheVariants.{Old, New}
-use Rattle.dm_store.specs.declared.mem_store.NextSave.{NextSave}
+use Rattle.dm_store.specs.declared.{fuse.Kept.TheVariants.Old, fuse.Kept.TheVariants.New, mem_store.NextSave.NextSave}
 use Rattle.dm_store.specs.declared.mem_store.NextSave.TheVariants as next_save
 use Rattle.dm_assembly_desk.specs.Documents.{Pages, IsEntry, file, Documents, DeskView}
 use Rattle.dm_assembly_desk.specs.Desk as holding
-use Rattle.dm_assembly_desk.specs.declared.fault.ForgetFault.{ForgetFault}
 use Rattle.dm_assembly_desk.specs.declared.fault.ForgetFault.TheVariants as forget_fault
-use Rattle.dm_assembly_desk.proofs.Saving.{few_remove}
-use Rattle.dm_event_history.specs.declared.reply.Reply.{Reply}
+use Rattle.dm_event_history.specs.declared.{reply.Reply.Reply, stop.Stop.Stop}
 use Rattle.dm_event_history.specs.declared.reply.Reply.TheVariants as replies
 use Rattle.dm_event_history.specs.declared.reply.Reply.TheVariants.{ForgetRefused, ImportRefused, ScanRefused}
-use Rattle.dm_event_history.specs.declared.stop.Stop.{Stop}
 use Rattle.dm_event_history.specs.declared.stop.Stop.TheVariants as stops
 use Rattle.dm_event_history.specs.declared.stop.Stop.TheVariants.{BeforeSave, InSave, SaveFault, AfterLabels}
-use Rattle.dm_event_history.specs.Relay.{Actor, Running, Failed, Down, stored_of, Export, Goods, nothing}
+use Rattle.dm_event_history.specs.Relay.{Actor, Running, Failed, Down, stored_of, Export, Goods, no_goods}
 use Rattle.dm_event_history.specs.Steps.{Answers, Calls, Course, Ending, Faults, LacksMemory, MayLackFirst, Saves, ending, ends, ForgetComes, ImportComes, MayBe, ScanComes, forget_faults, forget_reply, import_faults, import_reply, page_reply, pages_reply, scan_course, scan_faults, scan_reply, verdict_course}
-use Rattle.dm_event_world.specs.declared.actor.DeskState.{DeskState}
+use Rattle.dm_event_world.specs.declared.actor.{DeskState.DeskState, LeftExport.LeftExport}
 use Rattle.dm_event_world.specs.declared.actor.DeskState.TheVariants as states
-use Rattle.dm_event_world.specs.declared.actor.LeftExport.{LeftExport}
 use Rattle.dm_event_world.specs.Shows.{DeskIs, IsReadySet, ShowsDesk}
-use Rattle.dm_event_world.specs.inner.Calls.{IsMadeUnder, next_save_of, stops_before, EndsEach, EndsSo, Left, ended, ended_reply, lacks_memory}
+use Rattle.dm_event_world.specs.inner.Calls.{IsMadeUnder, next_save_of, stops_before, EndsEach, EndsSo, Left, state_after, ended_reply, lacks_memory}
 use Rattle.dm_event_world.specs.inner.Desks.{Calling, desk_planned, down_desk}
 use Rattle.dm_event_world.proofs.Endings.{Ends, IsEmpty, TellsMemory, empty, finish, lacks_first, none_left, not_first, plain, reaches, stopped_before, unsaved_empty, with_goods}
 
@@ -94,7 +85,7 @@ none_taken : {X : Type 0} (most : ℕ) → (let none : List X = [] in take most 
 none_taken most = grind arith
 
 saved_empty : {A : Type 0} (faults : Faults A) (stop : Stop) (next : Documents) (reply : Reply A) (old : Actor Documents) →
-    IsEmpty (ends faults stop (Saves next nothing reply) old).goods
+    IsEmpty (ends faults stop (Saves next no_goods reply) old).goods
 saved_empty faults BeforeSave next reply old = empty
 saved_empty faults (InSave Old) next reply old = empty
 saved_empty faults (InSave New) next reply old = record { labels = none_taken 0; tickets = refl; exports = refl }
@@ -109,21 +100,23 @@ module _ {A R : Type 0} (tells : R → Reply A) (failed : Reply A) (memory save 
 
   stored : (view mid : DeskView) (plan : NextSave) (next : Documents) (told : R) →
       DeskIs view room view.held view.held false → IsFit tells room view.held id next told →
-      holding.Ends id next Done (desk_planned view plan) mid →
+      holding.SaveEnds id next Done (desk_planned view plan) mid →
       DeskIs (desk_planned mid next_save.Fine) room next next false
   stored view mid plan next told s fit e = grind arith
 
   done_ends : (stop : Stop) (view mid : DeskView) (next : Documents) (told : R) →
       DeskIs view room view.held view.held false → IsFit tells room view.held id next told →
-      holding.Ends id next Done (desk_planned view (next_save_of stop)) mid →
-      Ends (ShowsDesk {A = A} room) faults (plain stop) (Saves next nothing (tells told)) (Running view.held) (tells told)
+      holding.SaveEnds id next Done (desk_planned view (next_save_of stop)) mid →
+      Ends (ShowsDesk {A = A} room) faults (plain stop) (Saves next no_goods (tells told)) (Running view.held)
+      (tells told)
       (states.Running (desk_planned mid next_save.Fine))
   done_ends stop view mid next told s fit e = grind arith
 
   faulted_ends : (stop : Stop) (view mid : DeskView) (next : Documents) (told : R) →
       DeskIs view room view.held view.held false → IsFit tells room view.held id next told →
-      holding.Ends id next Faulted (desk_planned view (next_save_of stop)) mid →
-      Ends (ShowsDesk {A = A} room) faults (plain stop) (Saves next nothing (tells told)) (Running view.held) (tells save)
+      holding.SaveEnds id next Faulted (desk_planned view (next_save_of stop)) mid →
+      Ends (ShowsDesk {A = A} room) faults (plain stop) (Saves next no_goods (tells told)) (Running view.held)
+      (tells save)
       (states.Running (desk_planned mid next_save.Fine))
   faulted_ends stop view mid next told s fit e = grind arith
 
@@ -140,7 +133,7 @@ module _ {A R : Type 0} (tells : R → Reply A) (failed : Reply A) (memory save 
     again same = same_again A room view mid (next_save_of stop) (Running view.held) s s.store.ready same
 
     pub carried : (verdict : Verdict R) → Fits tells room view.held id verdict →
-        holding.Carries memory save id verdict (desk_planned view (next_save_of stop)) answer mid →
+        holding.DeskCarriesOut memory save id verdict (desk_planned view (next_save_of stop)) answer mid →
         CarriedBy verdict answer
     carried (Stays told) fine does = subst (CarriedBy (Stays told)) (sym does.0) (record {
       course = Answers (tells told);
@@ -152,16 +145,17 @@ module _ {A R : Type 0} (tells : R → Reply A) (failed : Reply A) (memory save 
     carried (Becomes next told) fit does = by_outcome does.0 does.1 does.2
       where
         by_outcome : (outcome : Outcome) → answer ≡ answer_by told memory save outcome →
-            holding.Ends id next outcome (desk_planned view (next_save_of stop)) mid → CarriedBy (Becomes next told) answer
+            holding.SaveEnds id next outcome (desk_planned view (next_save_of stop)) mid →
+            CarriedBy (Becomes next told) answer
         by_outcome Done is e = subst (CarriedBy (Becomes next told)) (sym is) (record {
-          course = Saves next nothing (tells told);
+          course = Saves next no_goods (tells told);
           comes = inl refl;
           tells = fit.fine;
           ends_so = done_ends stop view mid next told s fit e;
           leaves = saved_empty faults stop next (tells told) (Running view.held);
         })
         by_outcome Faulted is e = subst (CarriedBy (Becomes next told)) (sym is) (record {
-          course = Saves next nothing (tells told);
+          course = Saves next no_goods (tells told);
           comes = inl refl;
           tells = fit.fine;
           ends_so = faulted_ends stop view mid next told s fit e;
@@ -190,7 +184,7 @@ module _ {A X : Type 0} (faults : Faults A) (reply : X → Reply A) (failed_answ
 
   abbrev EndsAs : Actor Documents → Reply A → Type 0
   EndsAs shown told = EndsSo (ShowsDesk room) (Calls faults stop Comes) IsEmpty shown (ended_reply stop told)
-      (ended down_desk stop told Now)
+      (state_after down_desk stop told Now)
 
   running_ends : DeskIs view room view.held view.held false → EndsAs (Running view.held) (reply answer)
   running_ends s =
@@ -248,7 +242,7 @@ made_under failed_answer Call stop next view before mid after answer next_is bef
 -- a desk that is down
 pub down_ends : {A : Type 0} (room : ℕ) (exports : List (LeftExport A))
     (Acts : Actor Documents → Ending A Documents → Type 0) →
-    ((stored : Documents) → Acts (Down stored) (ending replies.Down (Down stored) nothing)) → (state : DeskState A)
+    ((stored : Documents) → Acts (Down stored) (ending replies.Down (Down stored) no_goods)) → (state : DeskState A)
     (saved : SavedSet) → state ≡ states.Down saved →
     EndsEach (ShowsDesk room) Acts (λ goods. Left {A = A} [] [] exports goods [] [] exports) state replies.Down state
 down_ends {A} room exports Acts acts state saved is shown s =
@@ -259,11 +253,11 @@ down_ends {A} room exports Acts acts state saved is shown s =
     by_shown (Running held) s = absurd s
     by_shown (Failed held stored) s = absurd s
     by_shown (Down stored) s = record {
-      end = ending replies.Down (Down stored) nothing;
+      end = ending replies.Down (Down stored) no_goods;
       acts = acts stored;
       reply_is = refl;
       shows = subst (λ (a : DeskState A). ShowsDesk room a (Down stored)) (sym is) s;
-      lets = none_left [] [] exports nothing empty;
+      lets = none_left [] [] exports no_goods empty;
     }
 
 -- one that runs is not down
@@ -290,7 +284,8 @@ pub made_ends : {A X : Type 0} (faults : Faults A) (reply : X → Reply A) (fail
     reply failed_answer ≡ faults.failed → lacks_memory faults.failed ≡ false →
     stops_before stop ≡ false → (state new : DeskState A) (view after : DeskView) (answer : X) (told result : Reply A) →
     state ≡ states.Running view → IsMadeUnder desk_planned stop (Calling failed_answer Call) view answer after →
-    told ≡ reply answer → result ≡ ended_reply stop told → new ≡ ended down_desk stop told (states.Running after) →
+    told ≡ reply answer → result ≡ ended_reply stop told →
+    new ≡ state_after down_desk stop told (states.Running after) →
     ((mid : DeskView) → DeskIs view room view.held view.held false →
     Call (desk_planned view (next_save_of stop)) answer mid →
     Carried faults room stop view.held (Comes view.held) (reply answer)
@@ -307,9 +302,9 @@ made_ends {A} {X} faults reply failed_answer Call Comes room stop failed_told fa
     (call_ends faults reply failed_answer Call Comes room stop failed_told failed_fine made view under.mid answer under.call
     (carry under.mid) shown (subst (λ (a : DeskState A). ShowsDesk room a shown) is s))))
   where
-    same : new ≡ ended down_desk stop (reply answer) (states.Running (desk_planned under.mid next_save.Fine))
-    same = new_is ∙ ap (λ (t : Reply A). ended down_desk stop t (states.Running after)) told_is ∙
-        ap (λ (v : DeskView). ended down_desk stop (reply answer) (states.Running v)) under.new_is
+    same : new ≡ state_after down_desk stop (reply answer) (states.Running (desk_planned under.mid next_save.Fine))
+    same = new_is ∙ ap (λ (t : Reply A). state_after down_desk stop t (states.Running after)) told_is ∙
+        ap (λ (v : DeskView). state_after down_desk stop (reply answer) (states.Running v)) under.new_is
 
 -- ---- forgets
 
@@ -375,7 +370,7 @@ import_carried {A} export entry bytes bytes_are room stop view answer mid s does
     (carried pages_reply (ImportRefused import_fault.Failed) (Err adds.Memory) (Err adds.Save) export.id room
     refl stop view mid i.0 s (add_verdict room view.held export.id export.pages)
     (add_fits pages_reply refl refl (λ done. refl) room view.held export.id export.pages s.store.few)
-    (subst (λ (c : ℕ). holding.Carries (Err adds.Memory) (Err adds.Save) export.id
+    (subst (λ (c : ℕ). holding.DeskCarriesOut (Err adds.Memory) (Err adds.Save) export.id
     (add_verdict c view.held export.id export.pages) (desk_planned view (next_save_of stop)) i.0 mid) s.capacity i.2))
 
 abbrev Scanned : Type 0 → GridView → ℕ → Stop → DeskView → DeskView → Result Accepted ScanFault → Type 0
@@ -414,7 +409,7 @@ scan_carried {A} grid room stop view answer mid s does = by_read does.opened doe
         (add_verdict room view.held opened.page.id (lone opened.page))
         (add_fits (page_reply {A = A} opened.page) refl refl (λ done. refl) room view.held opened.page.id
         (lone opened.page) s.store.few)
-        (subst (λ (c : ℕ). holding.Carries (Err adds.Memory) (Err adds.Save) opened.page.id
+        (subst (λ (c : ℕ). holding.DeskCarriesOut (Err adds.Memory) (Err adds.Save) opened.page.id
         (add_verdict c view.held opened.page.id (lone opened.page)) (desk_planned view (next_save_of stop)) scans.0 mid)
         s.capacity scans.2) in
         subst (Scanned A grid room stop view mid) (sym scans.1) (record {

@@ -3,30 +3,26 @@ use Rattle.std.proofs.Common.{arith, ◌≡◌, ◌++◌, ◌∷◌, inl, inr, �
 use Rattle.std.specs.Prelude.{IsTrue}
 use Rattle.std.specs.FinMap as finite
 use Rattle.dm_store.specs.Saved.{SavedSet}
-use Rattle.dm_assembly_desk.specs.declared.fault.AskFault.{AskFault}
+use Rattle.dm_assembly_desk.specs.declared.fault.{AskFault.AskFault, DeskFault.DeskFault, ExportFault.ExportFault}
 use Rattle.dm_assembly_desk.specs.declared.fault.AskFault.TheVariants as ask_fault
-use Rattle.dm_assembly_desk.specs.declared.fault.DeskFault.{DeskFault}
 use Rattle.dm_assembly_desk.specs.declared.fault.DeskFault.TheVariants as desk_fault
-use Rattle.dm_assembly_desk.specs.declared.fault.ExportFault.{ExportFault}
 use Rattle.dm_assembly_desk.specs.declared.fault.ExportFault.TheVariants as export_fault
-use Rattle.dm_assembly_desk.specs.Desk.{Asks, Exports, Gives, HasDeskFault, Opens}
-use Rattle.dm_assembly_desk.specs.Documents.{Documents, HoldsFiles, IsEntry, file, Pages, mask, DeskView, IsInOrder}
+use Rattle.dm_assembly_desk.specs.Desk.{Asks, Exports, GivesByVerdict, HasDeskFault, DeskOpens}
+use Rattle.dm_assembly_desk.specs.Documents.{Documents, HoldsFiles, IsEntry, file, Pages, mask, DeskView, DeskIsInOrder}
 use Rattle.dm_event_history.specs.declared.reply.Reply.{Reply}
 use Rattle.dm_event_history.specs.declared.reply.Reply.TheVariants as replies
-use Rattle.dm_event_history.specs.Relay.{Actor, Running, Failed, Down, stored_of, Export, Goods, nothing}
+use Rattle.dm_event_history.specs.Relay.{Actor, Running, Failed, Down, stored_of, Export, Goods, no_goods}
 use Rattle.dm_event_history.specs.Steps.{Ending, Looks, MayLackFirst, Restarts, ending, AskTells, ExportTells, ExportsHeld, ask_reply}
-use Rattle.dm_event_world.specs.declared.actor.DeskState.{DeskState}
+use Rattle.dm_event_world.specs.declared.actor.{DeskState.DeskState, LeftExport.LeftExport}
 use Rattle.dm_event_world.specs.declared.actor.DeskState.TheVariants as desks
-use Rattle.dm_event_world.specs.declared.actor.LeftExport.{LeftExport}
-use Rattle.dm_event_world.specs.Shows.{ShowsDesk, StoresDocuments}
+use Rattle.dm_event_world.specs.{Shows.ShowsDesk, Shows.StoresDocuments, inner.Desks.desk_saved}
 use Rattle.dm_event_world.specs.inner.Calls.{EndsEach, EndsSo, Left}
-use Rattle.dm_event_world.specs.inner.Desks.{desk_saved}
 use Rattle.dm_event_world.proofs.Endings.{IsEmpty, empty, lacks_first, none_left, not_first, with_goods}
 use Rattle.dm_assembly_desk.proofs.StoredFiles.{only_memory}
 
 -- a desk that is down answers so
 pub down_answers : {A : Type 0} (room : ℕ) (Acts : Actor Documents → Ending A Documents → Type 0) →
-    ((stored : Documents) → Acts (Down stored) (ending replies.Down (Down stored) nothing)) →
+    ((stored : Documents) → Acts (Down stored) (ending replies.Down (Down stored) no_goods)) →
     (exports : List (LeftExport A)) (state : DeskState A) (saved : _) → state ≡ desks.Down saved →
     EndsEach (ShowsDesk room) Acts (λ goods. Left [] [] exports goods [] [] exports) state replies.Down state
 down_answers {A} room Acts acts exports state saved is shown s =
@@ -37,11 +33,11 @@ down_answers {A} room Acts acts exports state saved is shown s =
     by_shown (Running held) t s = absurd t
     by_shown (Failed held stored) t s = absurd t
     by_shown (Down stored) t s = record {
-      end = ending replies.Down (Down stored) nothing;
+      end = ending replies.Down (Down stored) no_goods;
       acts = acts stored;
       reply_is = refl;
       shows = s;
-      lets = none_left [] [] exports nothing empty;
+      lets = none_left [] [] exports no_goods empty;
     }
 
 -- memory for an export among the others is refused
@@ -83,12 +79,13 @@ looks_so {A} room Tells Q state view reply goods is tells q shown s =
 -- ---- asks
 
 pub given_so : {X : Type 0} (list : X → List ℕ) (verdict : Result (List ℕ) AskFault) (given : X) →
-    Gives list ask_fault.Memory verdict (Ok given) → Gives (λ bytes. bytes) ask_fault.Memory verdict (Ok (list given))
+    GivesByVerdict list ask_fault.Memory verdict (Ok given) →
+    GivesByVerdict (λ bytes. bytes) ask_fault.Memory verdict (Ok (list given))
 given_so list verdict given g = grind arith
 
 pub refused_so : (X : Type 0) (list : X → List ℕ) (verdict : Result (List ℕ) AskFault) (fault : AskFault) →
-    Gives {X = X} list ask_fault.Memory verdict (Err fault) →
-    Gives (λ (bytes : List ℕ). bytes) ask_fault.Memory verdict (Err fault)
+    GivesByVerdict {X = X} list ask_fault.Memory verdict (Err fault) →
+    GivesByVerdict (λ (bytes : List ℕ). bytes) ask_fault.Memory verdict (Err fault)
 refused_so X list verdict fault g = grind arith
 
 pub asked : {A : Type 0} (room id : ℕ) (state : DeskState A) (view : DeskView) (answer : Result (List ℕ) AskFault) →
@@ -96,8 +93,8 @@ pub asked : {A : Type 0} (room id : ℕ) (state : DeskState A) (view : DeskView)
     EndsEach {A = A} (ShowsDesk room) (Looks (AskTells id)) (λ goods. Left {A = A} [] [] [] goods [] [] []) state
     (ask_reply answer) state
 asked {A} room id state view answer is asks =
-    looks_so room (AskTells {A = A} id) _ state view (ask_reply answer) nothing is (answer, asks, refl, refl)
-    (none_left [] [] [] nothing empty)
+    looks_so room (AskTells {A = A} id) _ state view (ask_reply answer) no_goods is (answer, asks, refl, refl)
+    (none_left [] [] [] no_goods empty)
 
 -- ---- exports
 
@@ -117,9 +114,9 @@ pub not_held : {A : Type 0} (room before id : ℕ) (exports : List (LeftExport A
     EndsEach {A = A} (ShowsDesk room) (MayLackFirst (Looks (ExportTells before id)))
     (λ goods. Left [] [] exports goods [] [] exports) state (replies.ExportRefused export_fault.NotHeld) state
 not_held {A} room before id exports state view is none =
-    export_so room before id exports exports state view (replies.ExportRefused export_fault.NotHeld) nothing is
-    (subst (λ (o : Option Pages). ExportsHeld {A = A} before id o (replies.ExportRefused export_fault.NotHeld) nothing)
-    (sym none) (refl, refl)) (none_left [] [] exports nothing empty)
+    export_so room before id exports exports state view (replies.ExportRefused export_fault.NotHeld) no_goods is
+    (subst (λ (o : Option Pages). ExportsHeld {A = A} before id o (replies.ExportRefused export_fault.NotHeld) no_goods)
+    (sym none) (refl, refl)) (none_left [] [] exports no_goods empty)
 
 pub no_bytes : {A X : Type 0} (list : X → List ℕ) (room before id : ℕ) (exports : List (LeftExport A))
     (state : DeskState A) (view : DeskView) (pages : Pages) (fault : ExportFault) → state ≡ desks.Running view →
@@ -127,9 +124,9 @@ pub no_bytes : {A X : Type 0} (list : X → List ℕ) (room before id : ℕ) (ex
     EndsEach {A = A} (ShowsDesk room) (MayLackFirst (Looks (ExportTells before id)))
     (λ goods. Left [] [] exports goods [] [] exports) state (replies.ExportRefused fault) state
 no_bytes {A} {X} list room before id exports state view pages fault is at refused =
-    export_so room before id exports exports state view (replies.ExportRefused fault) nothing is
-    (subst (λ (o : Option Pages). ExportsHeld {A = A} before id o (replies.ExportRefused fault) nothing) (sym at)
-    (inr (ap (λ (f : ExportFault). refusal f) memory, refl))) (none_left [] [] exports nothing empty)
+    export_so room before id exports exports state view (replies.ExportRefused fault) no_goods is
+    (subst (λ (o : Option Pages). ExportsHeld {A = A} before id o (replies.ExportRefused fault) no_goods) (sym at)
+    (inr (ap (λ (f : ExportFault). refusal f) memory, refl))) (none_left [] [] exports no_goods empty)
   where
     refusal : ExportFault → Reply A
     refusal f = replies.ExportRefused f
@@ -138,7 +135,7 @@ no_bytes {A} {X} list room before id exports state view pages fault is at refuse
     memory = subst (λ (o : Option Pages). Exports {X = X} list id o (Err fault)) at refused
 
 pub exported : {A : Type 0} (room id : ℕ) (exports all : List (LeftExport A)) (state : DeskState A) (view : DeskView)
-    (pages : Pages) (bytes : List ℕ) (index n bits : ℕ) → state ≡ desks.Running view → IsInOrder view →
+    (pages : Pages) (bytes : List ℕ) (index n bits : ℕ) → state ≡ desks.Running view → DeskIsInOrder view →
     finite.get view.held id ≡ Some pages → bytes ≡ file id pages → index ≡ length exports → n ≡ length pages →
     bits ≡ mask pages → all ≡ exports ++ record { bytes = bytes; id = id; count = n; mask = bits } ∷ [] →
     EndsEach {A = A} (ShowsDesk room) (MayLackFirst (Looks (ExportTells (length exports) id)))
@@ -187,7 +184,7 @@ stored_store : {A : Type 0} (room : ℕ) (state : DeskState A) (shown : Actor Do
 stored_store room state shown s = grind arith
 
 pub restarted : {A : Type 0} (room : ℕ) (state : DeskState A) (saved : SavedSet) (view : DeskView) →
-    saved ≡ desk_saved state → Opens saved room view →
+    saved ≡ desk_saved state → DeskOpens saved room view →
     ((held : Documents) → IsTrue saved.is_honest → HoldsFiles saved.content held → view.held ≡ held) →
     EndsEach {A = A} (ShowsDesk room) (Restarts (replies.DeskRefused desk_fault.Memory))
     (λ goods. Left {A = A} [] [] [] goods [] [] []) state replies.Restarted (desks.Running view)
@@ -195,7 +192,7 @@ restarted {A} room state saved view is opens found shown s =
     let store : StoresDocuments saved room (stored_of shown) =
     subst (λ (x : SavedSet). StoresDocuments x room (stored_of shown)) (sym is) (stored_store room state shown s) in
     record {
-      end = ending replies.Restarted (Running (stored_of shown)) nothing;
+      end = ending replies.Restarted (Running (stored_of shown)) no_goods;
       acts = inl refl;
       reply_is = refl;
       shows = record {
@@ -204,7 +201,7 @@ restarted {A} room state saved view is opens found shown s =
         failed = opens.running;
         held_is = found (stored_of shown) store.ready.honest store.holds;
       };
-      lets = none_left [] [] [] nothing empty;
+      lets = none_left [] [] [] no_goods empty;
     }
 
 pub restart_refused : {A : Type 0} (room : ℕ) (state : DeskState A) (saved back : SavedSet) (fault : DeskFault) →
@@ -215,12 +212,12 @@ restart_refused {A} room state saved back fault is refused back_is shown s =
     let store : StoresDocuments saved room (stored_of shown) =
     subst (λ (x : SavedSet). StoresDocuments x room (stored_of shown)) (sym is) (stored_store room state shown s) in
     record {
-      end = ending (replies.DeskRefused desk_fault.Memory) (Down (stored_of shown)) nothing;
+      end = ending (replies.DeskRefused desk_fault.Memory) (Down (stored_of shown)) no_goods;
       acts = inr refl;
       reply_is = ap refusal (only_memory saved room (stored_of shown) store.ready.honest store.holds store.is_room store.few
           store.ready.loads_fine fault refused);
       shows = subst (λ (x : SavedSet). StoresDocuments x room (stored_of shown)) (sym back_is) store;
-      lets = none_left [] [] [] nothing empty;
+      lets = none_left [] [] [] no_goods empty;
     }
   where
     refusal : DeskFault → Reply A

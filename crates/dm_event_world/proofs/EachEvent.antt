@@ -4,26 +4,19 @@ use Rattle.std.proofs.lemmas.Option.{slice_get_within}
 use Rattle.dm_size.specs.declared.size.Size.{Size}
 use Rattle.dm_encodation.specs.declared.scheme.Scheme.{Scheme}
 use Rattle.dm_finder_frame.specs.Frame.{GridView, flipped}
-use Rattle.dm_print_ledger.specs.declared.range.Range.{Range}
+use Rattle.dm_print_ledger.specs.{declared.range.Range.Range, Ledger.TicketView}
 use Rattle.dm_print_ledger.specs.declared.fault.OpenFault.TheVariants as open_fault
-use Rattle.dm_print_ledger.specs.Ledger.{TicketView}
 use Rattle.dm_assembly_desk.specs.declared.fault.DeskFault.TheVariants as desk_fault
 use Rattle.dm_assembly_desk.specs.Documents.{Documents, IsEntry, file}
 use Rattle.dm_event_history.specs.declared.event.Event.TheVariants.{Print, Scan, RestartPrinter, RestartDesk, Ask, Forget, Give, Take, Export, Import}
-use Rattle.dm_event_history.specs.declared.reply.Reply.{Reply}
-use Rattle.dm_event_history.specs.declared.reply.Reply.TheVariants.{PrinterRefused, DeskRefused}
-use Rattle.dm_event_history.specs.declared.stop.Stop.{Stop}
-use Rattle.dm_event_history.specs.Relay.{Actor, Goods, Label, Relay}
+use Rattle.dm_event_history.specs.declared.reply.Reply.{Reply, TheVariants.PrinterRefused, TheVariants.DeskRefused}
+use Rattle.dm_event_history.specs.{declared.stop.Stop.Stop, Relay.Actor, Relay.Goods, Relay.Label, Relay.Relay}
 use Rattle.dm_event_history.specs.Relay as relays
 use Rattle.dm_event_history.specs.Steps.{Ending, Calls, MayLackFirst, Looks, Restarts, PrintComes, GiveComes, TakeComes, print_faults, give_faults, take_faults, ScanComes, ForgetComes, ImportComes, AskTells, ExportTells, scan_faults, forget_faults, import_faults, DeskGoes, HasModules, PrinterGoes}
-use Rattle.dm_event_world.specs.declared.actor.PrinterActor.{PrinterActor}
-use Rattle.dm_event_world.specs.declared.actor.DeskActor.{DeskActor}
-use Rattle.dm_event_world.specs.declared.actor.DeskState.{DeskState}
-use Rattle.dm_event_world.specs.declared.actor.LeftLabel.{LeftLabel}
-use Rattle.dm_event_world.specs.declared.actor.LeftExport.{LeftExport}
+use Rattle.dm_event_world.specs.declared.actor.{PrinterActor.PrinterActor, DeskActor.DeskActor, DeskState.DeskState}
+use Rattle.dm_event_world.specs.declared.actor.{LeftLabel.LeftLabel, LeftExport.LeftExport}
 use Rattle.dm_event_world.specs.Shows.{WorldView, AreWithin, Shows, ShowsDesk, ShowsPrinter, left_export, left_label}
-use Rattle.dm_event_world.specs.inner.Calls.{EndsEach, EndsSo, Left, RestartsAs}
-use Rattle.dm_event_world.specs.inner.Events.{Steps}
+use Rattle.dm_event_world.specs.inner.{Calls.EndsEach, Calls.EndsSo, Calls.Left, Calls.RestartsAs, Events.StepsEach}
 use Rattle.dm_event_world.proofs.Mapped.{get_map, get_map_from}
 use Rattle.dm_event_world.proofs.Changing.{world_of, printer_steps, desk_steps, lets_as, past_map, same_set, left_labels_alone, left_tickets_alone, left_exports_alone, left_none, label_count, export_count}
 
@@ -35,7 +28,7 @@ pub printed : {A : Type 0} (old : WorldView A) (labels : List (LeftLabel A)) (se
     EndsEach ShowsPrinter
     (MayLackFirst (Calls print_faults stop (PrintComes (length old.labels) document size scheme)))
     (λ goods. Left old.labels [] [] goods labels [] []) actor reply after →
-    Steps seen (Print printer document size scheme stop) reply
+    StepsEach seen (Print printer document size scheme stop) reply
     (world_of (slice_set old.printers printer after) old.desks labels old.tickets old.exports)
 printed {A} old labels seen printer document size scheme stop reply actor after is was ends =
     printer_steps old labels old.tickets seen (Print printer document size scheme stop) reply printer actor after
@@ -58,7 +51,7 @@ pub gave : {A : Type 0} (old : WorldView A) (tickets : List TicketView) (seen : 
     EndsEach ShowsPrinter
     (MayLackFirst (Calls give_faults stop (GiveComes (length old.tickets) receiver range)))
     (λ goods. Left {A = A} [] old.tickets [] goods [] tickets []) actor reply after →
-    Steps seen (Give printer receiver range stop) reply
+    StepsEach seen (Give printer receiver range stop) reply
     (world_of (slice_set old.printers printer after) old.desks old.labels tickets old.exports)
 gave {A} old tickets seen printer receiver range stop reply actor after is was ends =
     printer_steps old old.labels tickets seen (Give printer receiver range stop) reply printer actor after
@@ -80,7 +73,7 @@ pub took : {A : Type 0} (old seen : WorldView A) (printer number : ℕ) (ticket 
     old ≡ seen → slice_get old.printers printer ≡ Some actor → slice_get old.tickets number ≡ Some ticket →
     EndsEach ShowsPrinter (Calls take_faults stop (TakeComes number ticket))
     (λ goods. Left {A = A} [] [] [] goods [] [] []) actor reply after →
-    Steps seen (Take printer number stop) reply
+    StepsEach seen (Take printer number stop) reply
     (world_of (slice_set old.printers printer after) old.desks old.labels old.tickets old.exports)
 took {A} old seen printer number ticket stop reply actor after is was it ends =
     printer_steps old old.labels old.tickets seen (Take printer number stop) reply printer actor after
@@ -96,7 +89,7 @@ took {A} old seen printer number ticket stop reply actor after is was it ends =
 pub restarted : {A : Type 0} (old seen : WorldView A) (printer : ℕ)
     (reply : Reply A) (actor after : PrinterActor A) →
     old ≡ seen → slice_get old.printers printer ≡ Some actor → RestartsAs printer actor reply after →
-    Steps seen (RestartPrinter printer) reply
+    StepsEach seen (RestartPrinter printer) reply
     (world_of (slice_set old.printers printer after) old.desks old.labels old.tickets old.exports)
 restarted {A} old seen printer reply actor after is was ends =
     printer_steps old old.labels old.tickets seen (RestartPrinter printer) reply printer actor after
@@ -148,7 +141,7 @@ pub scanned : {A : Type 0} (old seen : WorldView A) (desk number : ℕ) (flips :
     ((room : ℕ) → EndsEach (ShowsDesk room)
     (MayLackFirst (Calls scan_faults stop (ScanComes room (flipped left.grid flips))))
     (λ goods. Left {A = A} [] [] [] goods [] [] []) actor.state reply after) →
-    Steps seen (Scan desk number flips stop) reply (desk_after old desk actor.capacity after)
+    StepsEach seen (Scan desk number flips stop) reply (desk_after old desk actor.capacity after)
 scanned {A} old seen desk number flips stop left reply actor after is was it within ends =
     desk_steps old old.exports seen (Scan desk number flips stop) reply desk actor after
     (λ relay s room. MayLackFirst (Calls scan_faults stop (ScanComes room (flipped left.grid flips)))) is was
@@ -173,7 +166,7 @@ pub forgot : {A : Type 0} (old seen : WorldView A) (desk id : ℕ) (stop : Stop)
     (after : DeskState A) → old ≡ seen → slice_get old.desks desk ≡ Some actor →
     ((room : ℕ) → EndsEach (ShowsDesk room) (Calls forget_faults stop (ForgetComes id))
     (λ goods. Left {A = A} [] [] [] goods [] [] []) actor.state reply after) →
-    Steps seen (Forget desk id stop) reply (desk_after old desk actor.capacity after)
+    StepsEach seen (Forget desk id stop) reply (desk_after old desk actor.capacity after)
 forgot {A} old seen desk id stop reply actor after is was ends =
     desk_steps old old.exports seen (Forget desk id stop) reply desk actor after
     (λ relay s room. Calls forget_faults stop (ForgetComes id)) is was
@@ -185,10 +178,10 @@ pub asked : {A : Type 0} (old seen : WorldView A) (desk id : ℕ) (reply : Reply
     old ≡ seen → slice_get old.desks desk ≡ Some actor →
     ((room : ℕ) → EndsEach (ShowsDesk room) (Looks (AskTells id))
     (λ goods. Left {A = A} [] [] [] goods [] [] []) actor.state reply actor.state) →
-    Steps seen (Ask desk id) reply seen
+    StepsEach seen (Ask desk id) reply seen
 asked {A} old seen desk id reply actor is was ends =
-    subst (λ (w : WorldView A). Steps seen (Ask desk id) reply w) is
-    (subst (λ (desks : List (DeskActor A)). Steps seen (Ask desk id) reply
+    subst (λ (w : WorldView A). StepsEach seen (Ask desk id) reply w) is
+    (subst (λ (desks : List (DeskActor A)). StepsEach seen (Ask desk id) reply
     (world_of old.printers desks old.labels old.tickets old.exports)) (same_set old.desks desk actor was)
     (desk_steps old old.exports seen (Ask desk id) reply desk actor actor.state
     (λ relay s room. Looks (AskTells id)) is was
@@ -200,7 +193,7 @@ pub desk_restarted : {A : Type 0} (old seen : WorldView A) (desk : ℕ) (reply :
     (after : DeskState A) → old ≡ seen → slice_get old.desks desk ≡ Some actor →
     EndsEach (ShowsDesk actor.capacity) (Restarts (DeskRefused desk_fault.Memory))
     (λ goods. Left {A = A} [] [] [] goods [] [] []) actor.state reply after →
-    Steps seen (RestartDesk desk) reply (desk_after old desk actor.capacity after)
+    StepsEach seen (RestartDesk desk) reply (desk_after old desk actor.capacity after)
 desk_restarted {A} old seen desk reply actor after is was ends =
     desk_steps old old.exports seen (RestartDesk desk) reply desk actor after
     (λ relay s room. Restarts (DeskRefused desk_fault.Memory)) is was
@@ -213,9 +206,9 @@ pub exported : {A : Type 0} (old : WorldView A) (exports : List (LeftExport A)) 
     (reply : Reply A) (actor : DeskActor A) → old ≡ seen → slice_get old.desks desk ≡ Some actor →
     ((room : ℕ) → EndsEach (ShowsDesk room) (MayLackFirst (Looks (ExportTells (length old.exports) id)))
     (λ goods. Left [] [] old.exports goods [] [] exports) actor.state reply actor.state) →
-    Steps seen (Export desk id) reply (world_of old.printers old.desks old.labels old.tickets exports)
+    StepsEach seen (Export desk id) reply (world_of old.printers old.desks old.labels old.tickets exports)
 exported {A} old exports seen desk id reply actor is was ends =
-    subst (λ (desks : List (DeskActor A)). Steps seen (Export desk id) reply
+    subst (λ (desks : List (DeskActor A)). StepsEach seen (Export desk id) reply
     (world_of old.printers desks old.labels old.tickets exports)) (same_set old.desks desk actor was)
     (desk_steps old exports seen (Export desk id) reply desk actor actor.state
     (λ relay s room. MayLackFirst (Looks (ExportTells (length old.exports) id))) is was
@@ -235,7 +228,7 @@ pub imported : {A : Type 0} (old seen : WorldView A) (desk number : ℕ) (stop :
     ((export : relays.Export) → IsEntry export.id export.pages → left.bytes ≡ file export.id export.pages →
     (room : ℕ) → EndsEach (ShowsDesk room) (Calls import_faults stop (ImportComes room export))
     (λ goods. Left {A = A} [] [] [] goods [] [] []) actor.state reply after) →
-    Steps seen (Import desk number stop) reply (desk_after old desk actor.capacity after)
+    StepsEach seen (Import desk number stop) reply (desk_after old desk actor.capacity after)
 imported {A} old seen desk number stop left reply actor after is was it ends =
     desk_steps old old.exports seen (Import desk number stop) reply desk actor after
     (λ relay s room. Calls import_faults stop (ImportComes room (own relay s).0)) is was

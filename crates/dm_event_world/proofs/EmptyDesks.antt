@@ -1,20 +1,14 @@
 -- Desks that are opened on sets that hold nothing, one after another.
 use Rattle.std.proofs.Common.{◌≡◌, ◌<◌, ◌≤◌, ◌+◌, ◌++◌, ◌⊎◌, inl, inr, ℕ, zero, suc, true, List, [], ◌∷◌, Some, length, get_or, slice_get, refl, sym, ◌∙◌, ap, subst, arith}
-use Rattle.std.specs.Prelude.{IsTrue, option_map}
+use Rattle.std.specs.{Prelude.IsTrue, Prelude.option_map, FinMap.get-empty, FinMap.len-empty, Ordering.nat_cmp}
 use Rattle.std.specs.FinMap as map
-use Rattle.std.specs.FinMap.{get-empty, len-empty}
-use Rattle.std.specs.Ordering.{nat_cmp}
-use Rattle.std.proofs.lemmas.List.{length-append}
-use Rattle.std.proofs.lemmas.Option.{slice_get-get_or}
+use Rattle.std.proofs.lemmas.{List.length-append, Option.slice_get-get_or}
 use Rattle.dm_store.specs.Saved.{LoadsFine, SavesFine, SavedSet, Contents}
 use Rattle.dm_assembly_desk.specs.Documents.{Pages, file, Documents, AreEntries, HoldsFiles, DeskView}
-use Rattle.dm_assembly_desk.specs.Desk.{Opens}
-use Rattle.dm_event_world.specs.declared.actor.DeskActor.{DeskActor}
-use Rattle.dm_event_world.specs.declared.actor.DeskState.{DeskState}
-use Rattle.dm_event_world.specs.declared.actor.DeskState.TheVariants.{Running}
+use Rattle.dm_assembly_desk.specs.Desk.{DeskOpens}
+use Rattle.dm_event_world.specs.declared.actor.{DeskActor.DeskActor, DeskState.DeskState, DeskState.TheVariants.Running}
 use Rattle.dm_event_history.specs.Relay as actors
-use Rattle.dm_event_world.specs.Shows.{IsReadySet, ShowsDesk}
-use Rattle.dm_event_world.specs.inner.Desks.{AreEmpty}
+use Rattle.dm_event_world.specs.{Shows.IsReadySet, Shows.ShowsDesk, inner.Desks.AreEmpty}
 
 -- the desk is empty, and has this room
 abbrev pub IsEmptyDesk : {A : Type 0} → ℕ → DeskState A → Type 0
@@ -41,7 +35,7 @@ no_files = record {
 
 -- a desk that was opened on it holds nothing
 pub opened_empty : (A : Type 0) (set : SavedSet) (capacity : ℕ) (view : DeskView) → set ≡ empty_set →
-    Opens set capacity view →
+    DeskOpens set capacity view →
     ((held : Documents) → IsTrue set.is_honest → HoldsFiles set.content held → view.held ≡ held) →
     (let state : DeskState A = Running view in IsEmptyDesk capacity state)
 opened_empty A set capacity view is opens found =

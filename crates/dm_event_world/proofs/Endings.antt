@@ -1,20 +1,17 @@
 -- A call that was made ends as the table of calls says, whatever the stop.
 use Rattle.std.proofs.Common.{arith, ◌≡◌, ◌++◌, inl, true, false, List, [], None, map, slice_get, refl, sym, ap, ◌∙◌}
 use Rattle.std.proofs.lemmas.List.{append-nil}
-use Rattle.dm_store.specs.declared.fuse.Kept.{Kept}
-use Rattle.dm_store.specs.declared.fuse.Kept.TheVariants.{Old, New}
+use Rattle.dm_store.specs.declared.fuse.Kept.{Kept, TheVariants.Old, TheVariants.New}
 use Rattle.dm_print_ledger.specs.Ledger.{TicketView}
-use Rattle.dm_event_history.specs.declared.reply.Reply.{Reply}
+use Rattle.dm_event_history.specs.declared.{reply.Reply.Reply, stop.Stop.Stop}
 use Rattle.dm_event_history.specs.declared.reply.Reply.TheVariants as replies
-use Rattle.dm_event_history.specs.declared.stop.Stop.{Stop}
 use Rattle.dm_event_history.specs.declared.stop.Stop.TheVariants as stops
 use Rattle.dm_event_history.specs.declared.stop.Stop.TheVariants.{BeforeSave, InSave, SaveFault, AfterLabels}
-use Rattle.dm_event_history.specs.Relay.{Actor, Running, Failed, Down, stored_of, Export, Goods, Label, nothing}
-use Rattle.dm_event_world.specs.declared.actor.LeftLabel.{LeftLabel}
-use Rattle.dm_event_world.specs.declared.actor.LeftExport.{LeftExport}
+use Rattle.dm_event_history.specs.Relay.{Actor, Running, Failed, Down, stored_of, Export, Goods, Label, no_goods}
+use Rattle.dm_event_world.specs.declared.actor.{LeftLabel.LeftLabel, LeftExport.LeftExport}
 use Rattle.dm_event_world.specs.Shows.{left_export, left_label}
 use Rattle.dm_event_history.specs.Steps.{Answers, Calls, Course, Ending, Faults, LacksMemory, MayLackFirst, Reaches, Saves, ending, ends}
-use Rattle.dm_event_world.specs.inner.Calls.{stops_before, EndsSo, Left, ended, ended_reply, lacks_memory}
+use Rattle.dm_event_world.specs.inner.Calls.{stops_before, EndsSo, Left, state_after, ended_reply, lacks_memory}
 
 -- the stop without its early end: its plan for the save is left
 abbrev pub plain : Stop → Stop
@@ -38,7 +35,7 @@ module _ {A C S : Type 0} (Shows : S → Actor C → Type 0) (down : S → S)
     (faults : Faults A) where
   pub finish : (stop : Stop) (course : Course A C) (old : Actor C) (told : Reply A) (state : S) →
       stops_before stop ≡ false → TellsMemory faults course → Ends Shows faults (plain stop) course old told state →
-      Ends Shows faults stop course old (ended_reply stop told) (ended down stop told state)
+      Ends Shows faults stop course old (ended_reply stop told) (state_after down stop told state)
   finish stop course old told state made tells e = grind arith
 
 -- ---- what reaches a call
@@ -59,7 +56,7 @@ pub record IsEmpty (goods : Goods) : Type 0 where
   pub tickets : goods.tickets ≡ []
   pub exports : goods.exports ≡ []
 
-pub empty : IsEmpty nothing
+pub empty : IsEmpty no_goods
 empty = record { labels = refl; tickets = refl; exports = refl }
 
 module _ {A C S : Type 0} (Shows : S → Actor C → Type 0) (down : S → S)
@@ -69,28 +66,28 @@ module _ {A C S : Type 0} (Shows : S → Actor C → Type 0) (down : S → S)
     pub stopped_before : (stop : Stop) (shown : Actor C) → stops_before stop ≡ true → Shows state shown →
         EndsSo Shows (Calls faults stop Comes) IsEmpty shown replies.Stopped (down state)
     stopped_before BeforeSave (Running held) before shows = record {
-      end = ending replies.Stopped (Down held) nothing;
+      end = ending replies.Stopped (Down held) no_goods;
       acts = (LacksMemory, tt, refl);
       reply_is = refl;
       shows = down_shows state (Running held) shows;
       lets = empty;
     }
     stopped_before BeforeSave (Failed held stored) before shows = record {
-      end = ending replies.Stopped (Down stored) nothing;
+      end = ending replies.Stopped (Down stored) no_goods;
       acts = refl;
       reply_is = refl;
       shows = down_shows state (Failed held stored) shows;
       lets = empty;
     }
     stopped_before (InSave Old) (Running held) before shows = record {
-      end = ending replies.Stopped (Down held) nothing;
+      end = ending replies.Stopped (Down held) no_goods;
       acts = (LacksMemory, tt, refl);
       reply_is = refl;
       shows = down_shows state (Running held) shows;
       lets = empty;
     }
     stopped_before (InSave Old) (Failed held stored) before shows = record {
-      end = ending replies.Stopped (Down stored) nothing;
+      end = ending replies.Stopped (Down stored) no_goods;
       acts = refl;
       reply_is = refl;
       shows = down_shows state (Failed held stored) shows;
@@ -107,14 +104,14 @@ pub lacks_first : {A C S : Type 0} (Shows : S → Actor C → Type 0) (Acts : Ac
     ((stored : C) → Shows state (Down stored) → ⊥) → (shown : Actor C) → Shows state shown →
     EndsSo Shows (MayLackFirst Acts) IsEmpty shown replies.Memory state
 lacks_first Shows Acts state up (Running held) shows = record {
-  end = ending replies.Memory (Running held) nothing;
+  end = ending replies.Memory (Running held) no_goods;
   acts = inl refl;
   reply_is = refl;
   shows = shows;
   lets = empty;
 }
 lacks_first Shows Acts state up (Failed held stored) shows = record {
-  end = ending replies.Memory (Failed held stored) nothing;
+  end = ending replies.Memory (Failed held stored) no_goods;
   acts = inl refl;
   reply_is = refl;
   shows = shows;

@@ -1,13 +1,9 @@
 -- Disjoint ranges are few, so the number of each printer has two bytes.
 use Rattle.std.proofs.Common.{◌≡◌, ◌≢◌, ◌<◌, ◌≤◌, ◌||◌, ◌==◌, eqb, inl, inr, ℕ, suc, Bool, true, false, List, [], ◌∷◌, length, map, All, slice_index_or, refl, arith}
-use Rattle.std.specs.Prelude.{IsTrue}
-use Rattle.std.specs.List.{list_any, AllByRecursion, IsDistinct}
-use Rattle.std.proofs.lemmas.List.{length-map}
-use Rattle.std.proofs.lemmas.List.Elements.{All-head, All-tail}
+use Rattle.std.specs.{Prelude.IsTrue, List.list_any, List.AllByRecursion, List.IsDistinct}
+use Rattle.std.proofs.lemmas.{List.length-map, List.Elements.All-head, List.Elements.All-tail, Bool.Decides.nat_tests}
 use Rattle.std.proofs.lemmas.Map.Steps.{length-le_from_distinct_below}
-use Rattle.std.proofs.lemmas.Bool.Decides.{nat_tests}
-use Rattle.dm_print_ledger.specs.declared.range.Range.{Range}
-use Rattle.dm_print_ledger.specs.Ledger.{is_range}
+use Rattle.dm_print_ledger.specs.{declared.range.Range.Range, Ledger.is_range}
 use Rattle.dm_event_history.specs.Headline.{IsApart, AreDisjoint}
 
 abbrev IsRange : Range → Type 0

@@ -1,18 +1,15 @@
 -- Printers that are created one after another.
 use Rattle.std.specs.Prelude.{IsTrue, MatchBool, Option, Result, Ok, Err, Bool}
 use Rattle.std.proofs.Common.{◌≡◌, ◌⊎◌, inl, inr, true, ◌++◌, ℕ, zero, suc, Some, None, List, [], ◌∷◌, length, slice_get, refl, ap, sym, ◌∙◌, subst}
-use Rattle.dm_store.specs.Saved.{Saved, SavePlan, LoadsFine, SavesFine, Done, Follows, Replaces}
-use Rattle.dm_print_ledger.specs.declared.range.Range.{Range}
-use Rattle.dm_print_ledger.specs.Ledger.{PrinterView, is_range, ledger_bytes}
+use Rattle.dm_store.specs.Saved.{Saved, SavePlan, LoadsFine, SavesFine, Done, PlanAllows, Replaces}
+use Rattle.dm_print_ledger.specs.{declared.range.Range.Range, Ledger.PrinterView, Ledger.is_range, Ledger.ledger_bytes}
 use Rattle.dm_print_ledger.specs.Verdicts.{Creates, SavesFirst, opening, open_verdict}
-use Rattle.dm_event_world.specs.declared.actor.PrinterActor.{PrinterActor}
+use Rattle.dm_event_world.specs.{declared.actor.PrinterActor.PrinterActor, Shows.ShowsPrinter}
 use Rattle.dm_event_world.specs.declared.actor.PrinterActor.TheVariants as actors
 use Rattle.dm_event_history.specs.Relay as states
-use Rattle.dm_event_world.specs.Shows.{ShowsPrinter}
 use Rattle.dm_print_ledger.specs.declared.fault.CreateFault.{CreateFault}
 use Rattle.dm_print_ledger.specs.declared.fault.CreateFault.TheVariants as creating
-use Rattle.dm_print_ledger.proofs.LedgerLaws.{opening_sound}
-use Rattle.dm_print_ledger.proofs.ReadLaws.{ledgers_are_held}
+use Rattle.dm_print_ledger.proofs.{LedgerLaws.opening_sound, ReadLaws.ledgers_are_held}
 
 -- the printer of this number, of whose range nothing was used
 abbrev pub IsFresh : {A : Type 0} → ℕ → Range → PrinterActor A → Type 0
@@ -75,7 +72,7 @@ created_fresh A saved number range view is ranged creates =
         ready = record {
           honest = saves.1.same_honesty ∙ honest;
           loads_fine = saves.1.same_load_plan ∙ ap (λ (s : Saved). s.load_plan) is;
-          saves_fine = subst (λ (plan : SavePlan). Follows plan Done view.saved.save_plan)
+          saves_fine = subst (λ (plan : SavePlan). PlanAllows plan Done view.saved.save_plan)
               (ap (λ (s : Saved). s.save_plan) is) saves.1.follows;
         };
         holds = λ yes. ap (λ (bytes : Option (List ℕ)). open_verdict bytes number) content ∙

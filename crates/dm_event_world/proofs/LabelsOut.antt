@@ -1,8 +1,7 @@
 -- Labels that leave one after another.
 use Rattle.std.proofs.Common.{◌≡◌, ◌+◌, ◌-◌, ◌<◌, ◌++◌, ◌∷◌, [], ℕ, suc, List, take, ap, sym, ◌∙◌, arith, append_assoc}
 use Rattle.dm_finder_frame.specs.Frame.{GridView}
-use Rattle.dm_event_world.specs.declared.actor.LeftLabel.{LeftLabel}
-use Rattle.dm_event_world.specs.inner.Calls.{left_labels}
+use Rattle.dm_event_world.specs.{declared.actor.LeftLabel.LeftLabel, inner.Calls.left_labels}
 
 -- one label more has left, and one fewer is to leave
 pub one_more : {A : Type 0} (id count before most : ℕ) (grid : GridView) (rest given : List GridView)

@@ -1,12 +1,9 @@
 -- Plans of stores and sets that are set for one call, and fine again.
 use Rattle.std.proofs.Common.{arith, ℕ, List, Result}
-use Rattle.dm_store.specs.Saved.{Replaces}
-use Rattle.dm_store.specs.declared.store.StoreFault.{StoreFault}
-use Rattle.dm_store.specs.declared.mem_store.NextSave.{NextSave}
+use Rattle.dm_store.specs.{Saved.Replaces, declared.store.StoreFault.StoreFault, declared.mem_store.NextSave.NextSave}
 use Rattle.dm_store.specs.declared.mem_store.NextSave.TheVariants as next_save
 use Rattle.dm_print_ledger.specs.Ledger.{PrinterView}
-use Rattle.dm_event_world.specs.Shows.{IsReady}
-use Rattle.dm_event_world.specs.inner.Calls.{planned}
+use Rattle.dm_event_world.specs.{Shows.IsReady, inner.Calls.planned}
 
 -- a store is ready after a save, however it ended
 pub ready_after : (view mid : PrinterView) (plan : NextSave) (bytes : List ℕ)

@@ -1,25 +1,22 @@
 -- A call of a printer, as a world makes it, is one of the relay that it shows.
 use Rattle.std.proofs.Common.{arith, ◌≡◌, ◌⊎◌, inl, inr, ℕ, true, false, List, Option, Some, Result, Ok, Err, refl, sym, ap, subst, ◌∙◌}
 use Rattle.std.specs.Prelude.{IsOk, IsTrue}
-use Rattle.dm_store.specs.Saved.{Done, Faulted, Follows, HeldAfterFault, Replaces, save_plan_of}
-use Rattle.dm_store.specs.declared.fuse.Kept.{Kept}
-use Rattle.dm_store.specs.declared.fuse.Kept.TheVariants.{Old, New}
+use Rattle.dm_store.specs.Saved.{Done, Faulted, PlanAllows, HeldAfterFault, Replaces, save_plan_of}
+use Rattle.dm_store.specs.declared.fuse.Kept.{Kept, TheVariants.Old, TheVariants.New}
 use Rattle.dm_store.specs.declared.store.StoreFault.TheVariants as replacing
 use Rattle.dm_store.specs.declared.mem_store.NextSave.{NextSave}
 use Rattle.dm_store.specs.declared.mem_store.NextSave.TheVariants as next_save
-use Rattle.dm_print_ledger.specs.Verdicts.{Carries, Saves as SavesLedger, HoldsLedger, open_verdict}
+use Rattle.dm_print_ledger.specs.Verdicts.{CarriesOut, SavesLedger, HoldsLedger, open_verdict}
 use Rattle.dm_print_ledger.specs.Ledger.{is_sound, ledger_bytes, LedgerView, PrinterView}
 use Rattle.dm_print_ledger.proofs.ReadLaws.{held_by}
-use Rattle.dm_event_history.specs.declared.reply.Reply.{Reply}
-use Rattle.dm_event_history.specs.declared.stop.Stop.{Stop}
+use Rattle.dm_event_history.specs.declared.{reply.Reply.Reply, stop.Stop.Stop}
 use Rattle.dm_event_history.specs.declared.stop.Stop.TheVariants as stops
 use Rattle.dm_event_history.specs.declared.stop.Stop.TheVariants.{BeforeSave, InSave, SaveFault, AfterLabels}
 use Rattle.dm_event_history.specs.Relay.{Actor, Running, Failed, Down, stored_of, Goods}
-use Rattle.dm_event_history.specs.Steps.{Answers, Calls, Course, Faults, LacksMemory, Saves, ends, Comes}
-use Rattle.dm_event_world.specs.declared.actor.PrinterActor.{PrinterActor}
+use Rattle.dm_event_history.specs.Steps.{Answers, Calls, Course, Faults, LacksMemory, Saves, ends, IsCourse}
+use Rattle.dm_event_world.specs.{declared.actor.PrinterActor.PrinterActor, Shows.ShowsPrinter, Shows.StoresLedger}
 use Rattle.dm_event_world.specs.declared.actor.PrinterActor.TheVariants as actors
-use Rattle.dm_event_world.specs.Shows.{ShowsPrinter, StoresLedger}
-use Rattle.dm_event_world.specs.inner.Calls.{next_save_of, stops_before, EndsSo, ended, ended_reply, lacks_memory, down_printer, planned}
+use Rattle.dm_event_world.specs.inner.Calls.{next_save_of, stops_before, EndsSo, state_after, ended_reply, lacks_memory, down_printer, planned}
 use Rattle.dm_event_world.proofs.Endings.{Ends, IsEmpty, TellsMemory, failed_empty, finish, plain, reaches, unsaved_empty}
 use Rattle.dm_event_world.proofs.Plans.{ready_after}
 
@@ -57,7 +54,7 @@ module _ {A X F may_lack : Type 0} (failed memory save : F) (refuses : F → Rep
     (memory_told : lacks_memory (refuses memory) ≡ true) (failed_told : lacks_memory (refuses failed) ≡ false)
     (others_told : (fault : F) → verdict ≡ Err fault → lacks_memory (refuses fault) ≡ false)
     (stop : Stop) (made : stops_before stop ≡ false) (view mid : PrinterView) (answer : Result X F)
-    (carries : Carries failed memory save may_lack verdict (planned view (next_save_of stop)) answer mid)
+    (carries : CarriesOut failed memory save may_lack verdict (planned view (next_save_of stop)) answer mid)
     (lets : ((x : X) × (answer ≡ Ok x)) ⊎ (answer ≡ Err save) → Lets Leaves Gives tell answer) where
   abbrev faults : Faults A
   faults = record { failed = refuses failed; save = refuses save; memory = refuses memory }
@@ -75,7 +72,7 @@ module _ {A X F may_lack : Type 0} (failed memory save : F) (refuses : F → Rep
   -- a running printer that has not failed, before and after a call
   record Carried (given : Result X F) : Type 0 where
     pub course : Course A LedgerView
-    pub comes : Comes refuses verdict Leaves course
+    pub comes : IsCourse refuses verdict Leaves course
     pub tells : TellsMemory faults course
     pub ends_so : Ends (ShowsPrinter {A = A}) faults (plain stop) course (Running view.ledger) (told given)
         (actors.Running (planned mid next_save.Fine))
@@ -116,11 +113,11 @@ module _ {A X F may_lack : Type 0} (failed memory save : F) (refuses : F → Rep
           }
 
           fault_old : stop ≡ SaveFault Old → ⊥
-          fault_old is_stop = (subst (λ (s : Stop). Follows (save_plan_of (next_save_of s)) Done mid.saved.save_plan)
+          fault_old is_stop = (subst (λ (s : Stop). PlanAllows (save_plan_of (next_save_of s)) Done mid.saved.save_plan)
               is_stop does.0.follows)
 
           fault_new : stop ≡ SaveFault New → ⊥
-          fault_new is_stop = (subst (λ (s : Stop). Follows (save_plan_of (next_save_of s)) Done mid.saved.save_plan)
+          fault_new is_stop = (subst (λ (s : Stop). PlanAllows (save_plan_of (next_save_of s)) Done mid.saved.save_plan)
               is_stop does.0.follows)
 
           by_stop : (s : Stop) → stop ≡ s → Carried (Ok x)
@@ -167,8 +164,8 @@ module _ {A X F may_lack : Type 0} (failed memory save : F) (refuses : F → Rep
           faulted s at_stop = subst (λ (s : Stop). HeldAfterFault (save_plan_of (next_save_of s)) view.saved.content
               (Some (ledger_bytes next)) mid.saved.content) at_stop (replaced.faulted refl store.ready.honest)
 
-          never : (s : Stop) → stop ≡ s → Follows (save_plan_of (next_save_of s)) Faulted mid.saved.save_plan
-          never s at_stop = subst (λ (s : Stop). Follows (save_plan_of (next_save_of s)) Faulted mid.saved.save_plan)
+          never : (s : Stop) → stop ≡ s → PlanAllows (save_plan_of (next_save_of s)) Faulted mid.saved.save_plan
+          never s at_stop = subst (λ (s : Stop). PlanAllows (save_plan_of (next_save_of s)) Faulted mid.saved.save_plan)
               at_stop replaced.follows
 
           by_stop : (s : Stop) → stop ≡ s → Carried (Err save)
@@ -224,13 +221,13 @@ module _ {A X F may_lack : Type 0} (failed memory save : F) (refuses : F → Rep
 
   -- The call ends as one of the relay, where what it comes to is said of the ledger that is shown.
   module _ (CallComes : LedgerView → Course A LedgerView → Type 0) (Q : Goods → Type 0)
-      (comes_so : view.is_failed ≡ false → (course : Course A LedgerView) → Comes refuses verdict Leaves course →
+      (comes_so : view.is_failed ≡ false → (course : Course A LedgerView) → IsCourse refuses verdict Leaves course →
       CallComes view.ledger course)
       (nothing_so : (fault : F) (goods : Goods) → answer ≡ Err fault → IsEmpty goods → Q goods)
       (goods_so : (x : X) (next : LedgerView) (goods : Goods) (reply : Reply A) → answer ≡ Ok x → Gives x goods →
       plain stop ≡ stops.None → Q (ends faults stop (Saves next goods reply) (Running view.ledger)).goods) where
     abbrev After : PrinterActor A
-    After = ended down_printer stop (told answer) (actors.Running (planned mid next_save.Fine))
+    After = state_after down_printer stop (told answer) (actors.Running (planned mid next_save.Fine))
 
     running_ends : StoresLedger view.saved view.ledger → view.is_failed ≡ false →
         EndsSo ShowsPrinter (Calls faults stop CallComes) Q (Running view.ledger) (ended_reply stop (told answer)) After
@@ -269,7 +266,7 @@ module _ {A X F may_lack : Type 0} (failed memory save : F) (refuses : F → Rep
           acts = refl;
           reply_is = ap (λ (r : Reply A). ended_reply stop r) reply ∙ e.reply_is;
           shows = subst (λ (r : Reply A). ShowsPrinter {A = A}
-              (ended down_printer stop r (actors.Running (planned mid next_save.Fine)))
+              (state_after down_printer stop r (actors.Running (planned mid next_save.Fine)))
               (ends faults stop (Answers (refuses failed)) (Failed view.ledger stored)).actor) (sym reply) e.shows;
           lets = nothing_so failed _ f.0
               (unsaved_empty faults stop (Answers (refuses failed)) (Failed view.ledger stored) tt);

@@ -6,34 +6,27 @@ use Rattle.dm_size.specs.declared.size.Size.{Size}
 use Rattle.dm_encodation.specs.declared.scheme.Scheme.{Scheme}
 use Rattle.dm_finder_frame.specs.Frame.{GridView}
 use Rattle.dm_append_label.specs.Labels.{parts_from}
-use Rattle.dm_store.specs.declared.fuse.Kept.TheVariants.{Old, New}
+use Rattle.dm_store.specs.{declared.fuse.Kept.TheVariants.Old, declared.fuse.Kept.TheVariants.New, Saved.Saved}
 use Rattle.dm_store.specs.declared.mem_store.NextSave.TheVariants as next_save
-use Rattle.dm_print_ledger.specs.declared.range.Range.{Range}
-use Rattle.dm_print_ledger.specs.declared.fault.PrintFault.{PrintFault}
+use Rattle.dm_print_ledger.specs.declared.{range.Range.Range, fault.PrintFault.PrintFault, fault.GiveFault.GiveFault}
 use Rattle.dm_print_ledger.specs.declared.fault.PrintFault.TheVariants as print_fault
-use Rattle.dm_print_ledger.specs.declared.fault.GiveFault.{GiveFault}
 use Rattle.dm_print_ledger.specs.declared.fault.GiveFault.TheVariants as give_fault
-use Rattle.dm_print_ledger.specs.declared.fault.TakeFault.{TakeFault}
+use Rattle.dm_print_ledger.specs.declared.fault.{TakeFault.TakeFault, OpenFault.OpenFault}
 use Rattle.dm_print_ledger.specs.declared.fault.TakeFault.TheVariants as take_fault
-use Rattle.dm_print_ledger.specs.Verdicts.{Carries, least, LoadsLedger, Opens, open_verdict, AreLabels, IsCutting, IsMade, Prints, give_verdict, print_verdict, take_verdict, ticket_of}
-use Rattle.dm_store.specs.Saved.{Saved}
-use Rattle.dm_print_ledger.specs.declared.fault.OpenFault.{OpenFault}
+use Rattle.dm_print_ledger.specs.Verdicts.{CarriesOut, least, LoadsLedger, PrinterOpens, open_verdict, AreLabels, IsCutting, IsMade, Prints, give_verdict, print_verdict, take_verdict, ticket_of}
 use Rattle.dm_print_ledger.specs.declared.fault.OpenFault.TheVariants as open_fault
 use Rattle.dm_print_ledger.specs.Ledger.{is_range, JobView, LedgerView, PrinterView, TicketView}
 use Rattle.dm_print_ledger.specs.Verdicts as verdicts
-use Rattle.dm_event_history.specs.declared.reply.Reply.{Reply}
+use Rattle.dm_event_history.specs.declared.{reply.Reply.Reply, stop.Stop.Stop}
 use Rattle.dm_event_history.specs.declared.reply.Reply.TheVariants as replies
-use Rattle.dm_event_history.specs.declared.stop.Stop.{Stop}
 use Rattle.dm_event_history.specs.declared.stop.Stop.TheVariants as stops
 use Rattle.dm_event_history.specs.declared.stop.Stop.TheVariants.{BeforeSave, InSave, SaveFault, AfterLabels}
-use Rattle.dm_event_history.specs.Relay.{Actor, Running, Failed, Down, stored_of, CutDocument, Export, Goods, Label, Took, Used, nothing}
+use Rattle.dm_event_history.specs.Relay.{Actor, Running, Failed, Down, stored_of, CutDocument, Export, Goods, Label, Took, Used, no_goods}
 use Rattle.dm_event_history.specs.Steps.{Calls, Course, Ending, Faults, MayLackFirst, Saves, ending, ends, AreLabelsFor, GiveComes, PrintComes, PrintLeaves, TakeComes, cut_of, give_faults, print_faults, take_faults}
-use Rattle.dm_event_world.specs.declared.actor.LeftLabel.{LeftLabel}
-use Rattle.dm_event_world.specs.declared.actor.LeftExport.{LeftExport}
-use Rattle.dm_event_world.specs.declared.actor.PrinterActor.{PrinterActor}
+use Rattle.dm_event_world.specs.declared.actor.{LeftLabel.LeftLabel, LeftExport.LeftExport, PrinterActor.PrinterActor}
 use Rattle.dm_event_world.specs.declared.actor.PrinterActor.TheVariants as actors
 use Rattle.dm_event_world.specs.Shows.{ShowsPrinter, StoresLedger, left_export, left_label}
-use Rattle.dm_event_world.specs.inner.Calls.{IsMadeUnder, ends_early, most_labels, next_save_of, stops_before, EndsEach, EndsSo, Left, ended, ended_reply, lacks_memory, RestartsAs, saved_of, down_printer, give_reply, job_labels, left_labels, left_ticket, planned, print_reply, take_reply}
+use Rattle.dm_event_world.specs.inner.Calls.{IsMadeUnder, ends_early, most_labels, next_save_of, stops_before, EndsEach, EndsSo, Left, state_after, ended_reply, lacks_memory, RestartsAs, saved_of, down_printer, give_reply, job_labels, left_labels, left_ticket, planned, print_reply, take_reply}
 use Rattle.dm_event_world.proofs.Endings.{IsEmpty, empty, lacks_first, none_left, not_first, plain, stopped_before, with_goods}
 use Rattle.dm_event_world.proofs.JobLabels.{length-AreLabels}
 use Rattle.dm_event_world.proofs.PrinterCalls.{Lets, call_ends, down_shows}
@@ -42,7 +35,7 @@ use Rattle.dm_event_world.proofs.PrinterCalls.{Lets, call_ends, down_shows}
 
 -- a printer that is down answers so
 pub down_answers : {A : Type 0} (Acts : Actor LedgerView → Ending A LedgerView → Type 0) →
-    ((stored : LedgerView) → Acts (Down stored) (ending replies.Down (Down stored) nothing)) →
+    ((stored : LedgerView) → Acts (Down stored) (ending replies.Down (Down stored) no_goods)) →
     (labels : List (LeftLabel A)) (tickets : List TicketView) (exports : List (LeftExport A)) (actor : PrinterActor A)
     (saved : _) → actor ≡ actors.Down saved →
     EndsEach ShowsPrinter Acts (λ goods. Left labels tickets exports goods labels tickets exports) actor replies.Down actor
@@ -55,11 +48,11 @@ down_answers {A} Acts acts labels tickets exports actor saved is shown s =
     by_shown (Running held) t s = absurd t
     by_shown (Failed held stored) t s = absurd t
     by_shown (Down stored) t s = record {
-      end = ending replies.Down (Down stored) nothing;
+      end = ending replies.Down (Down stored) no_goods;
       acts = acts stored;
       reply_is = refl;
       shows = s;
-      lets = none_left labels tickets exports nothing empty;
+      lets = none_left labels tickets exports no_goods empty;
     }
 
 not_down : (A : Type 0) (view : PrinterView) (stored : LedgerView) → ShowsPrinter {A = A} (actors.Running view) (Down stored) → ⊥
@@ -97,8 +90,8 @@ stopped_first {A} faults stop CallComes Acts acts labels tickets exports actor a
 -- it was made, and is answered so
 made_so : {A : Type 0} (Acts : Actor LedgerView → Ending A LedgerView → Type 0) (Q : Goods → Type 0) (stop : Stop)
     (told reply result : Reply A) (shown : Actor LedgerView) (running new : PrinterActor A) → told ≡ reply →
-    result ≡ ended_reply stop reply → new ≡ ended down_printer stop reply running →
-    EndsSo ShowsPrinter Acts Q shown (ended_reply stop told) (ended down_printer stop told running) →
+    result ≡ ended_reply stop reply → new ≡ state_after down_printer stop reply running →
+    EndsSo ShowsPrinter Acts Q shown (ended_reply stop told) (state_after down_printer stop told running) →
     EndsSo ShowsPrinter Acts Q shown result new
 made_so {A} Acts Q stop told reply result shown running new told_is result_is new_is e = grind arith
 
@@ -134,16 +127,16 @@ take_told A old ticket fault is = grind arith
 pub take_ends : {A : Type 0} (number : ℕ) (ticket : TicketView) (stop : Stop) (view after : PrinterView)
     (actor new : PrinterActor A) (answer : Result (Unit {0}) TakeFault) (reply result : Reply A) →
     actor ≡ actors.Running view → stops_before stop ≡ false →
-    IsMadeUnder planned stop (λ old a now. verdicts.Takes old ticket a now) view answer after →
+    IsMadeUnder planned stop (λ old a now. verdicts.TakesTicket old ticket a now) view answer after →
     (view.is_failed ≡ false → IsTrue (is_range ticket.range)) → reply ≡ take_reply answer →
-    result ≡ ended_reply stop reply → new ≡ ended down_printer stop reply (actors.Running after) →
+    result ≡ ended_reply stop reply → new ≡ state_after down_printer stop reply (actors.Running after) →
     EndsEach ShowsPrinter (Calls take_faults stop (TakeComes number ticket)) (λ goods. Left {A = A} [] [] [] goods [] [] [])
     actor result new
 take_ends {A} number ticket stop view after actor new answer reply result is made under range reply_is result_is new_is
     shown s =
     made_so (Calls take_faults stop (TakeComes number ticket)) Q stop (told answer) reply result shown
     (actors.Running (planned under.mid next_save.Fine)) new (same answer ∙ sym reply_is) result_is
-    (new_is ∙ ap (λ (v : PrinterView). ended down_printer stop reply (actors.Running v)) under.new_is)
+    (new_is ∙ ap (λ (v : PrinterView). state_after down_printer stop reply (actors.Running v)) under.new_is)
     (call_ends take_fault.Failed take_fault.Memory take_fault.Save refuses tell (take_verdict view.ledger ticket)
     (λ goods r. (goods ≡ took number) × (r ≡ replies.Taken)) (λ done goods. IsEmpty goods) refl refl
     (take_told A view.ledger ticket) stop made view under.mid answer under.call
@@ -225,17 +218,17 @@ pub give_ends : {A : Type 0} (receiver : ℕ) (range : Range) (stop : Stop) (vie
     (actor new : PrinterActor A) (answer : Result TicketView GiveFault) (reply result : Reply A)
     (tickets all : List TicketView) →
     actor ≡ actors.Running view → stops_before stop ≡ false →
-    IsMadeUnder planned stop (λ old a now. verdicts.Gives old receiver range a now) view answer after →
+    IsMadeUnder planned stop (λ old a now. verdicts.GivesTicket old receiver range a now) view answer after →
     reply ≡ give_reply (length tickets) answer →
     all ≡ tickets ++ (if ends_early stop then [] else left_ticket answer) →
-    result ≡ ended_reply stop reply → new ≡ ended down_printer stop reply (actors.Running after) →
+    result ≡ ended_reply stop reply → new ≡ state_after down_printer stop reply (actors.Running after) →
     EndsEach ShowsPrinter (MayLackFirst (Calls give_faults stop (GiveComes (length tickets) receiver range)))
     (λ goods. Left {A = A} [] tickets [] goods [] all []) actor result new
 give_ends {A} receiver range stop view after actor new answer reply result tickets all is made under reply_is all_is
     result_is new_is shown s =
     made_so (MayLackFirst (Calls give_faults stop (GiveComes (length tickets) receiver range))) Q stop (told answer) reply
     result shown (actors.Running (planned under.mid next_save.Fine)) new (same answer ∙ sym reply_is) result_is
-    (new_is ∙ ap (λ (v : PrinterView). ended down_printer stop reply (actors.Running v)) under.new_is)
+    (new_is ∙ ap (λ (v : PrinterView). state_after down_printer stop reply (actors.Running v)) under.new_is)
     (with_goods ShowsPrinter (Calls give_faults stop (GiveComes (length tickets) receiver range)) _ Q Q shown _ _
     (not_first (Calls give_faults stop (GiveComes (length tickets) receiver range)) shown) (λ goods q. q)
     (call_ends give_fault.Failed give_fault.Memory give_fault.Save refuses tell (give_verdict view.ledger receiver range)
@@ -385,7 +378,7 @@ module _ {A : Type 0} (size : Size) (scheme : Scheme) (document : List ℕ) (sto
     (reply_is : reply ≡ print_reply (length labels) answer) (all_is : all ≡ labels ++ job_labels (most_labels stop) answer)
     (result_is : result ≡ ended_reply stop reply)
     (mid : PrinterView) (after_is : after ≡ planned mid next_save.Fine)
-    (new_is : new ≡ ended down_printer stop reply (actors.Running after)) where
+    (new_is : new ≡ state_after down_printer stop reply (actors.Running after)) where
   abbrev Q : Goods → Type 0
   Q goods = Left labels [] [] goods all [] []
 
@@ -410,7 +403,8 @@ module _ {A : Type 0} (size : Size) (scheme : Scheme) (document : List ℕ) (sto
 
   by_cutting : (cutting : Option (List ℕ)) →
       (view.is_failed ≡ false → IsCutting size scheme document cutting) →
-      Carries print_fault.Failed print_fault.Memory print_fault.Save (Unit {0}) (print_verdict view.ledger (is_some cutting))
+      CarriesOut print_fault.Failed print_fault.Memory print_fault.Save (Unit {0})
+      (print_verdict view.ledger (is_some cutting))
       (planned view (next_save_of stop)) answer mid →
       IfOk answer (IsMade view.ledger size scheme document cutting) →
       (answer ≡ Err print_fault.Save → (job : JobView) × IsMade view.ledger size scheme document cutting job) →
@@ -418,7 +412,7 @@ module _ {A : Type 0} (size : Size) (scheme : Scheme) (document : List ℕ) (sto
   by_cutting None is_cutting carries made_job lost shown s =
       made_so (MayLackFirst Acts) Q stop (told answer) reply result shown (actors.Running (planned mid next_save.Fine)) new
       (same answer ∙ sym reply_is) result_is
-      (new_is ∙ ap (λ (v : PrinterView). ended down_printer stop reply (actors.Running v)) after_is)
+      (new_is ∙ ap (λ (v : PrinterView). state_after down_printer stop reply (actors.Running v)) after_is)
       (with_goods ShowsPrinter Acts (MayLackFirst Acts) Q Q shown _ _ (not_first Acts shown) (λ goods q. q)
       (call_ends print_fault.Failed print_fault.Memory print_fault.Save refuses tell (print_verdict view.ledger false)
       (λ goods r. ⊥) (HaveIts A) refl refl (print_told A view.ledger false) stop made view mid answer carries
@@ -437,7 +431,7 @@ module _ {A : Type 0} (size : Size) (scheme : Scheme) (document : List ℕ) (sto
   by_cutting (Some ends_at) is_cutting carries made_job lost shown s =
       made_so (MayLackFirst Acts) Q stop (told answer) reply result shown (actors.Running (planned mid next_save.Fine)) new
       (same answer ∙ sym reply_is) result_is
-      (new_is ∙ ap (λ (v : PrinterView). ended down_printer stop reply (actors.Running v)) after_is)
+      (new_is ∙ ap (λ (v : PrinterView). state_after down_printer stop reply (actors.Running v)) after_is)
       (with_goods ShowsPrinter Acts (MayLackFirst Acts) Q Q shown _ _ (not_first Acts shown) (λ goods q. q)
       (call_ends print_fault.Failed print_fault.Memory print_fault.Save refuses tell (print_verdict view.ledger true)
       (PrintLeaves (length labels) cut id) (HaveIts A) refl refl (print_told A view.ledger true) stop made view mid answer
@@ -514,7 +508,7 @@ pub print_ends : {A : Type 0} (size : Size) (scheme : Scheme) (document : List �
     (labels all : List (LeftLabel A)) → actor ≡ actors.Running view → stops_before stop ≡ false →
     IsMadeUnder planned stop (λ old a now. Prints old size scheme document a now) view answer after →
     reply ≡ print_reply (length labels) answer → all ≡ labels ++ job_labels (most_labels stop) answer →
-    result ≡ ended_reply stop reply → new ≡ ended down_printer stop reply (actors.Running after) →
+    result ≡ ended_reply stop reply → new ≡ state_after down_printer stop reply (actors.Running after) →
     EndsEach ShowsPrinter (MayLackFirst (Calls print_faults stop (PrintComes (length labels) document size scheme)))
     (λ goods. Left labels [] [] goods all [] []) actor result new
 print_ends size scheme document stop view after actor new answer reply result labels all is made under reply_is all_is
@@ -562,14 +556,15 @@ module _ (saved : Saved) (stored : LedgerView) (number : ℕ) (store : StoresLed
   refuses_memory fault l = grind arith
 
 pub restarted : {A : Type 0} (number : ℕ) (actor : PrinterActor A) (saved : Saved) (view : PrinterView) →
-    saved ≡ saved_of actor → Opens saved number (Ok view) → RestartsAs number actor replies.Restarted (actors.Running view)
+    saved ≡ saved_of actor → PrinterOpens saved number (Ok view) →
+    RestartsAs number actor replies.Restarted (actors.Running view)
 restarted {A} number actor saved view is opens shown s own =
     let store : StoresLedger saved (stored_of shown) =
     subst (λ (x : Saved). StoresLedger x (stored_of shown)) (sym is) (stored_store actor shown s) in
     let ledger : view.ledger ≡ stored_of shown = loads saved (stored_of shown) number store own view.ledger opens.0 in
     let saved_is : view.saved ≡ saved = ap (λ (v : PrinterView). v.saved) opens.1 in
     record {
-      end = ending replies.Restarted (Running (stored_of shown)) nothing;
+      end = ending replies.Restarted (Running (stored_of shown)) no_goods;
       acts = inl refl;
       reply_is = refl;
       shows = (
@@ -577,23 +572,23 @@ restarted {A} number actor saved view is opens shown s own =
         ap (λ (v : PrinterView). v.is_failed) opens.1,
         ledger,
       );
-      lets = none_left [] [] [] nothing empty;
+      lets = none_left [] [] [] no_goods empty;
     }
 
 abbrev refused_so : (A : Type 0) → OpenFault → Reply A
 refused_so A fault = replies.PrinterRefused fault
 
 pub restart_refused : {A : Type 0} (number : ℕ) (actor : PrinterActor A) (saved back : Saved) (fault : OpenFault) →
-    saved ≡ saved_of actor → Opens saved number (Err fault) → back ≡ saved →
+    saved ≡ saved_of actor → PrinterOpens saved number (Err fault) → back ≡ saved →
     RestartsAs number actor (replies.PrinterRefused fault) (actors.Down back)
 restart_refused {A} number actor saved back fault is opens back_is shown s own =
     let store : StoresLedger saved (stored_of shown) =
     subst (λ (x : Saved). StoresLedger x (stored_of shown)) (sym is) (stored_store actor shown s) in
     let memory : fault ≡ open_fault.Memory = refuses_memory saved (stored_of shown) number store own fault opens in
     record {
-      end = ending (replies.PrinterRefused open_fault.Memory) (Down (stored_of shown)) nothing;
+      end = ending (replies.PrinterRefused open_fault.Memory) (Down (stored_of shown)) no_goods;
       acts = inr refl;
       reply_is = ap (refused_so A) memory;
       shows = subst (λ (x : Saved). StoresLedger x (stored_of shown)) (sym back_is) store;
-      lets = none_left [] [] [] nothing empty;
+      lets = none_left [] [] [] no_goods empty;
     }

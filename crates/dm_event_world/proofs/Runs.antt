@@ -3,19 +3,13 @@ use Rattle.std.proofs.Common.{◌≡◌, ◌<◌, ◌≤◌, ℕ, zero, suc, Som
 use Rattle.dm_finder_frame.specs.Frame.{flipped}
 use Rattle.dm_symbol.specs.Correction.{IsNear}
 use Rattle.dm_print_ledger.specs.declared.range.Range.{Range}
-use Rattle.dm_event_history.specs.declared.event.Event.{Event}
-use Rattle.dm_event_history.specs.declared.event.Event.TheVariants.{Scan}
-use Rattle.dm_event_history.specs.declared.reply.Reply.{Reply}
-use Rattle.dm_event_history.specs.Headline.{IsFairEvent}
-use Rattle.dm_event_history.specs.Relay.{Relay}
-use Rattle.dm_event_history.specs.Steps.{Moment, onto, HasModules}
+use Rattle.dm_event_history.specs.declared.{event.Event.Event, event.Event.TheVariants.Scan, reply.Reply.Reply}
+use Rattle.dm_event_history.specs.{Headline.IsFairEvent, Relay.Relay, Steps.Moment, Steps.onto, Steps.HasModules}
 use Rattle.dm_event_history.proofs.Headline.{each_run_is_true}
-use Rattle.dm_event_world.specs.declared.actor.LeftLabel.{LeftLabel}
+use Rattle.dm_event_world.specs.{declared.actor.LeftLabel.LeftLabel, inner.Events.Answers, inner.Events.AnswersAll}
 use Rattle.dm_event_world.specs.Shows.{Shows, left_label, GoesOn, GoesOnByAll, HearsAll, StandsFor, AreWithin, IsFairIn, IsLookedAt, WorldView, AreAnswers, IsWatched, MayBeLookedAt, first_of}
-use Rattle.dm_event_world.specs.inner.Events.{Answers, AnswersAll}
 use Rattle.dm_event_world.proofs.Mapped.{get_map, get_map_from}
-use Rattle.dm_event_world.specs.declared.answers.Answer.{Answer}
-use Rattle.dm_event_world.specs.declared.answers.Answer.TheVariants.{Given, NotGiven}
+use Rattle.dm_event_world.specs.declared.answers.Answer.{Answer, TheVariants.Given, TheVariants.NotGiven}
 
 -- each event of several goes on, one after another
 abbrev pub Goes : {A : Type 0} → WorldView A → List (Event A) → List (Reply A) → WorldView A → Type 0

@@ -2,9 +2,7 @@
 use Rattle.std.proofs.Common.{◌≡◌, ◌↔◌, ◌<◌, ℕ, Bool, true, Some, Result, Ok, Err, IfOk, OnErr, IsTrue, List, length, slice_get, sym, subst, arith}
 use Rattle.dm_finder_frame.specs.Frame.{flipped}
 use Rattle.dm_symbol.specs.Correction.{IsNear}
-use Rattle.dm_event_history.specs.declared.event.Event.{Event}
-use Rattle.dm_event_history.specs.declared.event.Event.TheVariants.{Scan}
-use Rattle.dm_event_history.specs.declared.stop.Stop.{Stop}
+use Rattle.dm_event_history.specs.declared.{event.Event.Event, event.Event.TheVariants.Scan, stop.Stop.Stop}
 use Rattle.dm_event_world.specs.declared.actor.LeftLabel.{LeftLabel}
 use Rattle.dm_event_world.specs.Shows.{AreWithin, WorldView, IsFairIn, IsLookedAt}
 

@@ -4,23 +4,16 @@ use Rattle.std.specs.FinMap as finite
 use Rattle.dm_size.specs.Sizes.{side}
 use Rattle.dm_finder_frame.specs.Frame.{GridView, flipped}
 use Rattle.dm_symbol.specs.Correction.{IsNear}
-use Rattle.dm_print_ledger.specs.Ledger.{TicketView, LedgerView, is_range}
-use Rattle.dm_event_history.specs.declared.event.Event.{Event}
-use Rattle.dm_event_history.specs.declared.event.Event.TheVariants.{Scan}
-use Rattle.dm_event_world.specs.declared.actor.PrinterActor.{PrinterActor}
-use Rattle.dm_event_world.specs.declared.actor.DeskActor.{DeskActor}
-use Rattle.dm_event_world.specs.declared.actor.LeftLabel.{LeftLabel}
-use Rattle.dm_event_world.specs.declared.actor.LeftExport.{LeftExport}
+use Rattle.dm_print_ledger.specs.{Ledger.TicketView, Ledger.LedgerView, Ledger.is_range, Verdicts.HoldsLedger}
+use Rattle.dm_event_history.specs.declared.{event.Event.Event, event.Event.TheVariants.Scan, reply.Reply.Reply}
+use Rattle.dm_event_world.specs.declared.actor.{PrinterActor.PrinterActor, DeskActor.DeskActor, LeftLabel.LeftLabel}
+use Rattle.dm_event_world.specs.declared.{actor.LeftExport.LeftExport, actor.DeskState.DeskState, answers.Answer.Answer}
 use Rattle.dm_store.specs.Saved.{Saved, LoadsFine, SavesFine, SavedSet}
-use Rattle.dm_print_ledger.specs.Verdicts.{HoldsLedger}
 use Rattle.dm_assembly_desk.specs.Documents.{Documents, HoldsFiles, IsEntry, file, mask, DeskView, IsCapacity}
-use Rattle.dm_event_world.specs.declared.actor.DeskState.{DeskState}
 use Rattle.dm_event_history.specs.Relay.{Actor, Running, Failed, Down, Desk, Export, Label, Relay, start}
 use Rattle.dm_print_ledger.specs.declared.range.Range.{Range}
-use Rattle.dm_event_history.specs.declared.reply.Reply.{Reply}
 use Rattle.dm_event_history.specs.Headline.{AreDisjoint, AreTrueMoments, IsFairEvent, PrintsOnce}
 use Rattle.dm_event_history.specs.Steps.{AreMomentsOf, IsRun, Moment, onto}
-use Rattle.dm_event_world.specs.declared.answers.Answer.{Answer}
 use Rattle.dm_event_world.specs.declared.answers.Answer.TheVariants.{Given, NotGiven}
 use Rattle.dm_event_world.specs.declared.fault.WorldFault.{WorldFault}
 use Rattle.dm_event_world.specs.declared.fault.WorldFault.TheVariants as faults
@@ -36,7 +29,7 @@ pub record WorldView (A : Type 0) : Type 0 where
   pub tickets : List TicketView
   pub exports : List (LeftExport A)
 
--- the name of a label that left: its identification, its number, and how many labels its document has
+-- the name of a label that left: its ID, its number, and how many labels its document has
 abbrev pub label_name : {A : Type 0} → LeftLabel A → ℕ × ℕ × ℕ
 label_name label = (label.id, label.number, label.count)
 
@@ -134,15 +127,15 @@ pub record Shows {A : Type 0} (world : WorldView A) (relay : Relay) : Type 0 whe
   pub entries : (number : ℕ) (export : Export) → slice_get relay.exports number ≡ Some export →
       IsEntry export.id export.pages
 
--- each range has numbers, all of them of identifications
-abbrev pub AreRanges : List Range → Type 0
-AreRanges ranges = All (λ range. IsTrue (is_range range)) ranges
+-- each range has numbers, all of them of IDs
+abbrev pub AreIdRanges : List Range → Type 0
+AreIdRanges ranges = All (λ range. IsTrue (is_range range)) ranges
 
 -- The world, whose printers began with these ranges and whose desks have room for that many documents each. Of the
 -- moments of the history the newest is the first.
 pub record StandsFor {A : Type 0} (ranges : List Range) (rooms : List ℕ) (world : WorldView A) (h : List (Moment A))
     : Type 0 where
-  pub are_ranges : AreRanges ranges
+  pub are_ranges : AreIdRanges ranges
   pub disjoint : AreDisjoint ranges
   pub are_capacities : All IsCapacity rooms
   pub relay : Relay
@@ -165,7 +158,7 @@ GoesOnByAll {A} old events replies new = (ranges : List Range) (rooms : List ℕ
 
 -- a scan of what is there: no other event is looked at
 abbrev pub MayBeLookedAt : {A : Type 0} → Relay → Event A → Type 0
-MayBeLookedAt {A} relay (Scan desk number flips stop) = relays.IsNamed {A = A} relay (Scan desk number flips stop)
+MayBeLookedAt {A} relay (Scan desk number flips stop) = relays.IsNamedThere {A = A} relay (Scan desk number flips stop)
 MayBeLookedAt relay event = ⊥
 
 -- the relay before the first of these moments
@@ -191,13 +184,13 @@ HearsAll hears first [] last = last ≡ first
 HearsAll {A} {L} hears first (answer ∷ answers) last =
     (next : L) × hears first answer next × HearsAll hears next answers last
 
--- The headline. The events had these answers in a run of a relay whose printers began with these ranges, and whose desks
--- have room for that many documents. No identification was printed twice; whatever document a clean desk gave for an
--- identification is the one document printed under it; and all desks were clean as long as each scan that may have
--- saved its page was fair.
+-- The headline. The events had these answers in a run of a relay whose printers began with these ranges, and whose
+-- desks have room for that many documents. No ID was printed twice; whatever document a clean desk gave for an ID is
+-- the one document printed under it; and all desks were clean as long as each scan that may have saved its page was
+-- fair.
 pub record IsWatched {A : Type 0} (ranges : List Range) (rooms : List ℕ) (events : List (Event A))
     (answers : List (Answer A)) : Type 0 where
-  pub are_ranges : AreRanges ranges
+  pub are_ranges : AreIdRanges ranges
   pub disjoint : AreDisjoint ranges
   pub are_capacities : All IsCapacity rooms
   pub moments : List (Moment A)
@@ -211,11 +204,11 @@ pub record IsWatched {A : Type 0} (ranges : List Range) (rooms : List ℕ) (even
 
 -- the first of these that applies, and memory where none does
 abbrev pub HasWorldFault : List Range → List ℕ → WorldFault → Type 0
-HasWorldFault ranges capacities faults.Range = ¬ AreRanges ranges
-HasWorldFault ranges capacities faults.Overlap = AreRanges ranges × (¬ AreDisjoint ranges)
+HasWorldFault ranges capacities faults.Range = ¬ AreIdRanges ranges
+HasWorldFault ranges capacities faults.Overlap = AreIdRanges ranges × (¬ AreDisjoint ranges)
 HasWorldFault ranges capacities faults.Capacity =
-    AreRanges ranges × AreDisjoint ranges × (¬ All IsCapacity capacities)
-HasWorldFault ranges capacities faults.Memory = AreRanges ranges × AreDisjoint ranges × All IsCapacity capacities
+    AreIdRanges ranges × AreDisjoint ranges × (¬ All IsCapacity capacities)
+HasWorldFault ranges capacities faults.Memory = AreIdRanges ranges × AreDisjoint ranges × All IsCapacity capacities
 
 -- the names of these faults, as they are printed
 abbrev pub world_fault_name : WorldFault → List ℕ

@@ -10,8 +10,8 @@ ghost use Rattle.dm_event_history.specs.declared.reply.Reply.TheVariants.{DeskRe
 ghost use Rattle.dm_event_history.specs.Steps.{Calls, Looks, MayLackFirst, Restarts, AskTells, ExportTells, ForgetComes, ImportComes, ScanComes, forget_faults, forget_reply, import_faults, import_reply, scan_faults, scan_reply};
 ghost use Rattle.dm_event_history.specs.Relay.{Export};
 ghost use Rattle.dm_event_world.specs.Shows.{ShowsDesk};
-ghost use Rattle.dm_event_world.specs.inner.Calls.{IsMadeUnder, EndsEach, Left, ended, ended_reply};
-ghost use Rattle.dm_event_world.specs.inner.Desks.{Accepts, ForgetsOne, ImportsIn, down_desk, desk_planned, desk_saved};
+ghost use Rattle.dm_event_world.specs.inner.Calls.{IsMadeUnder, EndsEach, Left, state_after, ended_reply};
+ghost use Rattle.dm_event_world.specs.inner.Desks.{AcceptsOne, ForgetsOne, ImportsIn, down_desk, desk_planned, desk_saved};
 
 use crate::actor::{DeskState, LeftExport};
 use crate::call::{is_stopped_before, is_stopping, lacks_memory, next_save};
@@ -54,7 +54,7 @@ fn end<A: Allocator + Copy>(
     reply: Reply<A>,
 ) -> Reply<A>
     ensures told { result ≡ ended_reply stop reply }
-    ensures ended { state.new ≡ ended down_desk stop reply state.old }
+    ensures ended { state.new ≡ state_after down_desk stop reply state.old }
 {
     if !is_stopping(stop) {
         return reply;
@@ -96,7 +96,7 @@ fn accept_under<A: Allocator + Copy>(
     grid: &Grid<A>,
     stop: Stop,
 ) -> Result<Accepted, ScanFault>
-    ensures { IsMadeUnder desk_planned stop (Accepts A grid.now) desk.old result desk.new }
+    ensures { IsMadeUnder desk_planned stop (AcceptsOne A grid.now) desk.old result desk.new }
 {
     desk.set_next(next_save(stop));
     let answer = desk.accept(grid);

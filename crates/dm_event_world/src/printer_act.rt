@@ -5,11 +5,11 @@
 //! before its reply the printer is down then, over its store, unless the call's own memory was refused.
 
 ghost use Rattle.std.specs.Prelude.{◌≡◌, ℕ, false, ◌+◌, ◌≤◌, ◌++◌, [], IfOk, IsTrue, length, take, vec_len, vec_capacity, if◌then◌else◌};
-ghost use Rattle.dm_print_ledger.specs.Verdicts.{Prints, Gives, Takes};
+ghost use Rattle.dm_print_ledger.specs.Verdicts.{Prints, GivesTicket, TakesTicket};
 ghost use Rattle.dm_print_ledger.specs.Ledger.{is_range};
 ghost use Rattle.dm_event_history.specs.Steps.{Calls, MayLackFirst, Restarts, GiveComes, PrintComes, TakeComes, give_faults, print_faults, take_faults};
 ghost use Rattle.dm_event_world.specs.Shows.{ShowsPrinter};
-ghost use Rattle.dm_event_world.specs.inner.Calls.{IsMadeUnder, ends_early, most_labels, EndsEach, Left, ended, ended_reply, RestartsAs, down_printer, give_reply, job_labels, left_labels, left_ticket, planned, print_reply, saved_of, take_reply};
+ghost use Rattle.dm_event_world.specs.inner.Calls.{IsMadeUnder, ends_early, most_labels, EndsEach, Left, state_after, ended_reply, RestartsAs, down_printer, give_reply, job_labels, left_labels, left_ticket, planned, print_reply, saved_of, take_reply};
 
 use crate::actor::{LeftLabel, PrinterActor};
 use crate::call::{is_stopped_before, is_stopping, lacks_memory, most_labels, next_save};
@@ -50,7 +50,7 @@ fn end<A: Allocator + Copy>(
     reply: Reply<A>,
 ) -> Reply<A>
     ensures told { result ≡ ended_reply stop reply }
-    ensures ended { actor.new ≡ ended down_printer stop reply actor.old }
+    ensures ended { actor.new ≡ state_after down_printer stop reply actor.old }
 {
     if !is_stopping(stop) {
         return reply;
@@ -184,7 +184,7 @@ fn give_under<A: Allocator + Copy>(
     range: Range,
     stop: Stop,
 ) -> Result<Ticket, GiveFault>
-    ensures { IsMadeUnder planned stop (λ old answer new. Gives old receiver range answer new)
+    ensures { IsMadeUnder planned stop (λ old answer new. GivesTicket old receiver range answer new)
         printer.old result printer.new }
 {
     printer.set_next(next_save(stop));
@@ -252,7 +252,7 @@ fn take_under<A: Allocator + Copy>(
     ticket: &Ticket,
     stop: Stop,
 ) -> Result<(), TakeFault>
-    ensures takes { IsMadeUnder planned stop (λ old answer new. Takes old ticket.now answer new)
+    ensures takes { IsMadeUnder planned stop (λ old answer new. TakesTicket old ticket.now answer new)
         printer.old result printer.new }
     ensures range { printer.old.is_failed ≡ false → IsTrue (is_range ticket.now.range) }
 {

@@ -3,7 +3,7 @@
 ghost use Rattle.std.specs.Prelude.{◌↔◌, ◌≤◌, IsTrue, IfOk, All, length};
 ghost use Rattle.dm_print_ledger.specs.Ledger.{is_range};
 ghost use Rattle.dm_event_history.specs.Headline.{IsApart, AreDisjoint};
-ghost use Rattle.dm_event_world.specs.Shows.{AreRanges};
+ghost use Rattle.dm_event_world.specs.Shows.{AreIdRanges};
 ghost use Rattle.dm_event_world.specs.inner.Calls.{AreFresh};
 
 use crate::actor::PrinterActor;
@@ -11,9 +11,9 @@ use dm_print_ledger::{CreateFault, CreateRefused, Printer, Range, is_range};
 use dm_store::MemStore;
 use std::alloc::{AllocError, Allocator};
 
-/// Whether each of them has numbers, all of them of identifications.
+/// Whether each of them has numbers, all of them of IDs.
 pub(crate) fn are_ranges(ranges: &[Range]) -> bool
-    ensures { IsTrue result ↔ AreRanges ranges.now }
+    ensures { IsTrue result ↔ AreIdRanges ranges.now }
 {
     ranges.iter().all(|range| is_range(*range))
 }
@@ -52,7 +52,7 @@ pub(crate) fn create_printers<A: Allocator + Copy>(
     alloc: A,
     ranges: &[Range],
 ) -> Result<Vec<PrinterActor<A>, A>, AllocError>
-    requires ranges { AreRanges ranges.now }
+    requires ranges { AreIdRanges ranges.now }
     requires disjoint { AreDisjoint ranges.now }
     ensures fresh { IfOk result (λ printers. AreFresh ranges.now printers.items) }
     ensures few { IfOk result (λ printers. length printers.items ≤ 65536) }

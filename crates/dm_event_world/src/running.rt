@@ -81,8 +81,8 @@ pub fn watch<A: Allocator + Copy, L: Listener<A>>(
     events: &[Event<A>],
     listener: &mut L,
 ) -> Result<(), WorldFault>
-    // Whatever document a clean desk gave for an identification is the one document that was printed under it, and no
-    // identification was printed twice.
+    // Whatever document a clean desk gave for an ID is the one document that was printed under it, and no
+    // ID was printed twice.
     ensures headline { OnOk result ((answers : List (Answer A))
         × IsWatched ranges.now capacities.now events.now answers × HearsAll L.hears listener.old answers listener.new) }
     ensures refused { IfErr result (HasWorldFault ranges.now capacities.now) }

@@ -3,7 +3,7 @@
 ghost use Rattle.std.specs.Prelude.{◌≡◌, ◌↔◌, true, IfOk, OnErr};
 ghost use Rattle.dm_event_history.specs.declared.event.Event.TheVariants.{Print, Scan, RestartPrinter, RestartDesk, Ask, Forget, Give, Take, Export, Import};
 ghost use Rattle.dm_event_world.specs.Shows.{IsFairIn, IsLookedAt, GoesOn};
-ghost use Rattle.dm_event_world.specs.inner.Events.{Steps};
+ghost use Rattle.dm_event_world.specs.inner.Events.{StepsEach};
 
 use crate::scanned::are_within;
 use crate::world::World;
@@ -63,7 +63,7 @@ impl<A: Allocator + Copy> World<A> {
         scheme: Scheme,
         stop: Stop,
     ) -> Reply<A>
-        ensures { Steps self.old (Print printer document.now size scheme stop) result self.new }
+        ensures { StepsEach self.old (Print printer document.now size scheme stop) result self.new }
     {
         let Some(actor) = self.printers.get_mut(printer) else {
             return Reply::NoSuch;
@@ -80,7 +80,7 @@ impl<A: Allocator + Copy> World<A> {
     }
 
     fn give(&mut self, printer: usize, receiver: u16, range: Range, stop: Stop) -> Reply<A>
-        ensures { Steps self.old (Give printer receiver range stop) result self.new }
+        ensures { StepsEach self.old (Give printer receiver range stop) result self.new }
     {
         let Some(actor) = self.printers.get_mut(printer) else {
             return Reply::NoSuch;
@@ -89,7 +89,7 @@ impl<A: Allocator + Copy> World<A> {
     }
 
     fn take(&mut self, printer: usize, ticket: usize, stop: Stop) -> Reply<A>
-        ensures { Steps self.old (Take printer ticket stop) result self.new }
+        ensures { StepsEach self.old (Take printer ticket stop) result self.new }
     {
         let Some(ticket) = self.tickets.get(ticket) else {
             return Reply::NoSuch;
@@ -101,7 +101,7 @@ impl<A: Allocator + Copy> World<A> {
     }
 
     fn restart_printer(&mut self, printer: usize) -> Reply<A>
-        ensures { Steps self.old (RestartPrinter printer) result self.new }
+        ensures { StepsEach self.old (RestartPrinter printer) result self.new }
     {
         let Some(actor) = self.printers.get_mut(printer) else {
             return Reply::NoSuch;
@@ -110,7 +110,7 @@ impl<A: Allocator + Copy> World<A> {
     }
 
     fn scan(&mut self, desk: usize, label: usize, flips: &[(u16, u16)], stop: Stop) -> Reply<A>
-        ensures { Steps self.old (Scan desk label flips.now stop) result self.new }
+        ensures { StepsEach self.old (Scan desk label flips.now stop) result self.new }
     {
         let Some(left) = self.labels.get(label) else {
             return Reply::NoSuch;
@@ -125,7 +125,7 @@ impl<A: Allocator + Copy> World<A> {
     }
 
     fn ask(&mut self, desk: usize, id: FileId) -> Reply<A>
-        ensures { Steps self.old (Ask desk id) result self.new }
+        ensures { StepsEach self.old (Ask desk id) result self.new }
     {
         let Some(actor) = self.desks.get(desk) else {
             return Reply::NoSuch;
@@ -134,7 +134,7 @@ impl<A: Allocator + Copy> World<A> {
     }
 
     fn forget(&mut self, desk: usize, id: FileId, stop: Stop) -> Reply<A>
-        ensures { Steps self.old (Forget desk id stop) result self.new }
+        ensures { StepsEach self.old (Forget desk id stop) result self.new }
     {
         let Some(actor) = self.desks.get_mut(desk) else {
             return Reply::NoSuch;
@@ -143,7 +143,7 @@ impl<A: Allocator + Copy> World<A> {
     }
 
     fn export(&mut self, desk: usize, id: FileId) -> Reply<A>
-        ensures { Steps self.old (Export desk id) result self.new }
+        ensures { StepsEach self.old (Export desk id) result self.new }
     {
         let Some(actor) = self.desks.get(desk) else {
             return Reply::NoSuch;
@@ -152,7 +152,7 @@ impl<A: Allocator + Copy> World<A> {
     }
 
     fn import(&mut self, desk: usize, export: usize, stop: Stop) -> Reply<A>
-        ensures { Steps self.old (Import desk export stop) result self.new }
+        ensures { StepsEach self.old (Import desk export stop) result self.new }
     {
         let Some(left) = self.exports.get(export) else {
             return Reply::NoSuch;
@@ -164,7 +164,7 @@ impl<A: Allocator + Copy> World<A> {
     }
 
     fn restart_desk(&mut self, desk: usize) -> Reply<A>
-        ensures { Steps self.old (RestartDesk desk) result self.new }
+        ensures { StepsEach self.old (RestartDesk desk) result self.new }
     {
         let Some(actor) = self.desks.get_mut(desk) else {
             return Reply::NoSuch;
@@ -175,8 +175,8 @@ impl<A: Allocator + Copy> World<A> {
 }
 
 /// Whether an event is honest. A scan is honest if what it names is there (the desk, the label, and each module that it
-/// flips) and no block of the scanned grid has more wrong words than can be corrected; or if something that it names is
-/// not there. Every other event is honest. Memory is asked for only to look at such a grid.
+/// flips) and no block of the scanned grid has more wrong codewords than can be corrected; or if something that it
+/// names is not there. Every other event is honest. Memory is asked for only to look at such a grid.
 ///
 /// # Errors
 /// Where the allocator refuses its memory.

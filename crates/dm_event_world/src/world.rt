@@ -89,7 +89,7 @@ impl<A: Allocator + Copy> World<A> {
         self.labels.len()
     }
 
-    /// The identification, the number from 1, and the count of a label that left, by its number from 0.
+    /// The ID, the number from 1, and the count of a label that left, by its number from 0.
     pub fn label(&self, number: usize) -> Option<(FileId, u8, u8)>
         ensures { result ≡ option_map label_name (slice_get self.now.labels number) }
     {

@@ -2,10 +2,8 @@
 use Rattle.std.specs.Prelude.{◌/◌, ◌%◌}
 use Rattle.std.specs.List.{between}
 use Rattle.std.proofs.Common.{◌≡◌, ℕ, ◌+◌, ◌-◌, ◌*◌, ◌<◌, ◌≤◌, List, ◌++◌, length, get_or, Bool, false, inl, inr, ap, sym, ◌∙◌, arith, zero-add, length-append}
-use Rattle.std.proofs.lemmas.Bool.{cases_lt}
-use Rattle.std.proofs.lemmas.Nat.{div-mul-add, mod-mul-add, mul-add-lt}
-use Rattle.std.proofs.lemmas.List.{get_or_append_left, get_or-append_right}
-use Rattle.std.proofs.lemmas.List.Edits.{length-between, get_or-between}
+use Rattle.std.proofs.lemmas.{Bool.cases_lt, Nat.div-mul-add, Nat.mod-mul-add, Nat.mul-add-lt}
+use Rattle.std.proofs.lemmas.List.{get_or_append_left, get_or-append_right, Edits.length-between, Edits.get_or-between}
 use Rattle.std.proofs.lemmas.List.FromFn.{fill_by_all, get_or-map-range_with_len, length-map-range_with_len}
 use Rattle.dm_size.specs.Squares.{Square, IsWhole, module_at}
 use Rattle.dm_finder_frame.specs.inner.Filled.{first_modules}

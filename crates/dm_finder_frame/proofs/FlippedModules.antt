@@ -2,9 +2,7 @@
 use Rattle.std.specs.Prelude.{◌/◌, ◌%◌, not}
 use Rattle.std.proofs.Common.{◌≡◌, ℕ, ◌+◌, ◌*◌, ◌<◌, get_or, set, Bool, true, false, inl, inr, ap, sym, ◌∙◌, arith, subst, zero-add, length-set, get_or-set_same, get_or-set_other}
 use Rattle.std.proofs.lemmas.Nat.{mul-add-lt, mod_below, same_from_place, div-mul-add, mod-mul-add, div-add-mod'}
-use Rattle.std.proofs.lemmas.Bool.Decides.{eqb_tells}
-use Rattle.std.proofs.lemmas.List.{ext_get_or}
-use Rattle.std.proofs.lemmas.List.FromFn.{get_or-map-range_with_len}
+use Rattle.std.proofs.lemmas.{Bool.Decides.eqb_tells, List.ext_get_or, List.FromFn.get_or-map-range_with_len}
 use Rattle.dm_size.specs.Sizes.{side, region, across, mapping}
 use Rattle.dm_size.specs.Squares.{Square, IsWhole, module_at, with_flipped}
 use Rattle.dm_finder_frame.specs.Frame.{is_on_frame, mapping_place, grid_place, matrix_module, matrix_modules, FlipsOneModule, GridView, IsWholeGrid, grid_module_at, square_of, grid_with_flipped}

@@ -4,8 +4,7 @@ use Rattle.std.specs.List.{range_with_len}
 use Rattle.std.proofs.Common.{◌≡◌, ℕ, zero, suc, ◌+◌, ◌*◌, ◌<◌, refl, List, [], ◌∷◌, get_or, map, Bool, true, false, cond, ◌&&◌, ap, sym, ◌∙◌, arith, zero-add}
 use Rattle.std.proofs.lemmas.Nat.{mul-add-lt, div_below, mod_below, div-mul-add, mod-mul-add, div-add-mod'}
 use Rattle.std.proofs.lemmas.List.FromFn.{fill_by_all, get_or-map-range_with_len, length-map-range_with_len}
-use Rattle.dm_size.specs.declared.size.Size.{Size}
-use Rattle.dm_size.specs.Sizes.{side, region, mapping}
+use Rattle.dm_size.specs.{declared.size.Size.Size, Sizes.side, Sizes.region, Sizes.mapping}
 use Rattle.dm_size.specs.Squares.{Square, IsWhole, module_at}
 use Rattle.dm_finder_frame.specs.Frame.{is_on_frame, frame_value, mapping_place, grid_place, grid_module, grid_modules, grid_of_matrix, matrix_modules, matrix_of_grid, wrong_module, is_wrong, wrong_frame_modules, UnframeUndoesFrame, FrameHasNoWrongModule, GridView, IsWholeGrid, grid_module_at}
 use Rattle.dm_finder_frame.proofs.GridPlaces.{some_region, grid_place_rest, mapping_of_grid_place, inside_no_frame}

@@ -2,8 +2,7 @@
 use Rattle.std.specs.Prelude.{◌%◌}
 use Rattle.std.proofs.Common.{◌≡◌, ℕ, ◌+◌, ◌*◌, ◌<◌, ◌≤◌, false, arith}
 use Rattle.std.proofs.lemmas.Bool.Decides.{nat_tests}
-use Rattle.dm_size.specs.declared.size.Size.{Size}
-use Rattle.dm_size.specs.declared.size.Size.TheVariants.{Side10}
+use Rattle.dm_size.specs.declared.size.Size.{Size, TheVariants.Side10}
 use Rattle.dm_size.specs.Sizes.{row, side, region, across, mapping}
 use Rattle.dm_size.proofs.Sound.{sound}
 use Rattle.dm_finder_frame.specs.Frame.{is_on_frame, mapping_place, grid_place}

@@ -2,18 +2,14 @@
 use Rattle.std.specs.Prelude.{◌%◌, OnOk}
 use Rattle.std.specs.List.{between}
 use Rattle.std.proofs.Common.{◌≡◌, ℕ, ◌+◌, ◌*◌, ◌<◌, ◌≤◌, List, [], ◌∷◌, ◌++◌, length, get_or, take, Bool, true, false, ◌==◌, Result, Ok, Err, is_ok, cond, refl, ap, ◌∙◌, subst, arith, length-append}
-use Rattle.std.proofs.Math.Nat.{mul-le-mul_right}
-use Rattle.std.proofs.lemmas.List.{length-take-le}
-use Rattle.std.proofs.lemmas.List.Edits.{length-between}
+use Rattle.std.proofs.{Math.Nat.mul-le-mul_right, lemmas.List.length-take-le, lemmas.List.Edits.length-between}
 use Rattle.std.proofs.lemmas.List.FromFn.{length-map-range_with_len}
-use Rattle.dm_size.specs.declared.size.Size.{Size}
-use Rattle.dm_size.specs.Sizes.{side, region, across, mapping}
+use Rattle.dm_size.specs.{declared.size.Size.Size, Sizes.side, Sizes.region, Sizes.across, Sizes.mapping}
 use Rattle.dm_size.specs.Squares.{Square, IsWhole}
 use Rattle.dm_finder_frame.specs.declared.framing.TheConstants.{TOP, BOTTOM}
 use Rattle.dm_finder_frame.specs.Frame.{mapping_place, grid_place, grid_module, matrix_module, GridView, IsWholeGrid, square_of}
 use Rattle.dm_finder_frame.specs.inner.Filled.{first_modules}
-use Rattle.dm_finder_frame.proofs.Begun.{piece_more, in_row, row_length}
-use Rattle.dm_finder_frame.proofs.FramedGrids.{place_within}
+use Rattle.dm_finder_frame.proofs.{Begun.piece_more, Begun.in_row, Begun.row_length, FramedGrids.place_within}
 use Rattle.dm_finder_frame.proofs.FramedRows.{inner_piece, top_piece, bottom_piece, matrix_piece}
 use Rattle.dm_finder_frame.proofs.GridPlaces.{fills_side, most_mapping, most_side, mapping_place_below}
 

@@ -3,11 +3,8 @@ use Rattle.std.specs.Prelude.{◌%◌, not}
 use Rattle.std.specs.List.{between}
 use mir.Val.{bool_byte}
 use Rattle.std.proofs.Common.{◌≡◌, ◌⊎◌, inl, inr, ℕ, zero, suc, ◌+◌, ◌-◌, ◌*◌, ◌<◌, ◌≤◌, Bool, List, get_or, false, ◌||◌, eqb, cond, refl, true, ap, sym, ◌∙◌, arith, add-zero, zero-add}
-use Rattle.std.proofs.lemmas.Bool.Decides.{nat_tests}
-use Rattle.std.proofs.lemmas.List.Edits.{get_or-between}
-use Rattle.std.proofs.lemmas.List.FromFn.{sum_by-map-range_with_len_more}
-use Rattle.std.proofs.Math.Nat.{mul-le-mul_right}
-use Rattle.std.proofs.lemmas.Nat.{div-mul-add, mod-mul-add}
+use Rattle.std.proofs.{lemmas.Bool.Decides.nat_tests, lemmas.List.Edits.get_or-between, Math.Nat.mul-le-mul_right}
+use Rattle.std.proofs.lemmas.{List.FromFn.sum_by-map-range_with_len_more, Nat.div-mul-add, Nat.mod-mul-add}
 use Rattle.dm_size.specs.Sizes.{side, region, across}
 use Rattle.dm_finder_frame.specs.Frame.{is_wrong, is_wrong_at, wrong_module, is_on_frame, frame_value, GridView, grid_module_at}
 use Rattle.dm_finder_frame.proofs.GridPlaces.{fills_side}

@@ -1,15 +1,11 @@
 -- A whole symbol as contracts see it: its size, and its modules row by row from the top left, finder patterns included
 -- and the quiet zone left out (ISO/IEC 16022:2006, 5.5 and 5.8). Rows and columns count from 0.
 use Rattle.std.specs.Prelude.{ℕ, ◌≡◌, ◌*◌, ◌<◌, Bool, List, [], ◌∷◌, length, ◌+◌, ◌-◌, ◌/◌, ◌%◌, true, ◌==◌, ◌&&◌, ◌||◌, not, if◌then◌else◌, Option, Some, None, map, count_by, Result, Ok, Err, ◌≤◌}
-use Rattle.std.specs.List.{range_with_len}
-use Rattle.std.specs.Option.{option_map_or}
-use Rattle.dm_size.specs.declared.size.Size.{Size}
-use Rattle.dm_size.specs.Sizes.{IsSide, side, region, regions, mapping}
+use Rattle.std.specs.{List.range_with_len, Option.option_map_or}
+use Rattle.dm_size.specs.{declared.size.Size.Size, Sizes.IsSide, Sizes.side, Sizes.region, Sizes.regions, Sizes.mapping}
 use Rattle.dm_size.specs.Squares.{Square, IsWhole, module_at, with_flipped}
-use Rattle.dm_finder_frame.specs.declared.fault.GridFault.{GridFault}
-use Rattle.dm_finder_frame.specs.declared.fault.GridFault.TheVariants.{Side, Memory}
-use Rattle.dm_finder_frame.specs.declared.unframing.Framed.{Framed}
-use Rattle.dm_finder_frame.specs.declared.fault.FrameFault.{FrameFault}
+use Rattle.dm_finder_frame.specs.declared.fault.GridFault.{GridFault, TheVariants.Side, TheVariants.Memory}
+use Rattle.dm_finder_frame.specs.declared.{unframing.Framed.Framed, fault.FrameFault.FrameFault}
 use Rattle.dm_finder_frame.specs.declared.fault.FrameFault.TheVariants.{Border, Memory as NoMemory}
 
 pub record GridView : Type 0 where

@@ -64,7 +64,7 @@ impl<A: Allocator> Grid<A> {
     /// Modules along a side.
     pub fn side(&self) -> u16
         ensures value { result ≡ sizes.side self.now.size }
-        ensures sound { sizes.IsSound self.now.size }
+        ensures sound { sizes.SizeIsSound self.now.size }
     {
         self.size.side()
     }

@@ -3,9 +3,8 @@ use Rattle.std.proofs.Common.{◌≡◌, ℕ, zero, suc, ◌<◌, refl, sym, ◌
 use Rattle.std.specs.Int.Bits.{bit_xor, xor_assoc, xor_zero_r, xor_self}
 use Rattle.std.proofs.lemmas.Nat.{xor_comm}
 use Rattle.dm_gf256.specs.Field.{product, power, value, add_scaled}
-use Rattle.dm_gf256.proofs.Linear.{product-xor_r, product-xor_l, xor_interchange}
+use Rattle.dm_gf256.proofs.{Linear.product-xor_r, Linear.product-xor_l, Linear.xor_interchange, LoopSteps.value-push}
 use Rattle.dm_gf256.proofs.Ring.{product_comm, product_assoc, product-zero_l, product-zero_r, one-product, power_byte, power-add}
-use Rattle.dm_gf256.proofs.LoopSteps.{value-push}
 
 -- adding a multiple keeps the length
 pub length-add_scaled : (f : ℕ) (ts ss : List ℕ) → length (add_scaled f ts ss) ≡ length ts

@@ -2,8 +2,7 @@
 use Rattle.std.proofs.Common.{◌≡◌, ℕ, ◌+◌, ◌<◌, sym, ap, ◌∙◌, List, length, take, get_or}
 use Rattle.std.proofs.lemmas.List.{map_more}
 use Rattle.std.specs.Int.Bits.{bit_xor}
-use Rattle.dm_gf256.specs.declared.element.Gf.{Gf}
-use Rattle.dm_gf256.specs.Field.{numbers, product, value}
+use Rattle.dm_gf256.specs.{declared.element.Gf.Gf, Field.numbers, Field.product, Field.value}
 use Rattle.dm_gf256.proofs.LoopSteps.{value-push}
 
 -- one step of `eval`: the value of one coefficient more

@@ -1,9 +1,7 @@
 -- Products are additive in each factor.
 use Rattle.std.proofs.Common.{◌≡◌, ℕ, zero, suc, ◌+◌, ◌*◌, ◌^◌, ◌%◌, ◌<◌, refl, sym, ◌∙◌, ap, arith, add-zero, zero-mul, one-mul}
-use Rattle.std.specs.Int.{bit_at}
-use Rattle.std.specs.Int.Bits.{bit_xor, xor_assoc, xor_zero_r, xor_self}
-use Rattle.std.proofs.lemmas.Nat.{xor_comm, xor_block, xor_mod, pow_pos}
-use Rattle.std.proofs.lemmas.Nat.Bits.{bit_at_xor, bit_at-lt}
+use Rattle.std.specs.Int.{bit_at, Bits.bit_xor, Bits.xor_assoc, Bits.xor_zero_r, Bits.xor_self}
+use Rattle.std.proofs.lemmas.Nat.{xor_comm, xor_block, xor_mod, pow_pos, Bits.bit_at_xor, Bits.bit_at-lt}
 use Rattle.dm_gf256.specs.Field.{plain, reduced, product}
 
 -- (x + y) + (z + w) = (x + z) + (y + w)

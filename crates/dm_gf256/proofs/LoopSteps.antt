@@ -1,11 +1,9 @@
 -- What the loops of the field's functions do in one step.
 use Rattle.std.proofs.Common.{◌≡◌, ◌≢◌, ℕ, suc, ◌+◌, ◌-◌, ◌*◌, ◌/◌, ◌%◌, ◌^◌, ◌<◌, ◌≤◌, true, eqb, refl, sym, ◌∙◌, ap, subst, arith, List, [], ◌∷◌, ◌++◌, length, eqb-true, add-zero, zero-add, length-append}
-use Rattle.std.specs.Int.Bits.{bit_xor, xor_assoc, xor_zero_r}
-use Rattle.std.specs.Int.Bits.{bit_and}
+use Rattle.std.specs.Int.Bits.{bit_xor, xor_assoc, xor_zero_r, bit_and}
 use Rattle.std.proofs.lemmas.Nat.{xor_comm, xor_block, and_mask}
 use Rattle.dm_gf256.specs.Field.{product, power, plain, reduced, value}
-use Rattle.dm_gf256.proofs.TablesByComputing.{all_below}
-use Rattle.dm_gf256.proofs.Linear.{product-xor_r, product-xor_l}
+use Rattle.dm_gf256.proofs.{TablesByComputing.all_below, Linear.product-xor_r, Linear.product-xor_l}
 use Rattle.dm_gf256.proofs.Ring.{all_below-at, product_comm, product_assoc, product-zero_l, product-zero_r, one-product}
 
 -- doubling below 128 is a shift, by computing

@@ -1,11 +1,9 @@
--- Two block words of one length that differ in at most c places are equal.
+-- Two sound blocks of one length that differ in at most c places are equal.
 use Rattle.std.proofs.Common.{◌≡◌, ℕ, suc, ◌+◌, ◌<◌, ◌≤◌, true, false, cond, eqb, refl, sym, ◌∙◌, ap, arith, List, [], ◌∷◌, length, eqb-true, eq-eqb, ⊎_elim, get_or}
-use Rattle.std.proofs.lemmas.Bool.{cases_Bool}
-use Rattle.std.proofs.lemmas.Bool.Decides.{nat_tests}
+use Rattle.std.proofs.lemmas.{Bool.cases_Bool, Bool.Decides.nat_tests, Nat.xor_lt}
 use Rattle.std.specs.Bool.{◌==◌}
 use Rattle.std.specs.Int.Bits.{bit_xor, xor_assoc, xor_zero_l, xor_zero_r, xor_self}
-use Rattle.std.proofs.lemmas.Nat.{xor_lt}
-use Rattle.dm_gf256.specs.Field.{product, power, value, differ, sum_word, IsBlockWord}
+use Rattle.dm_gf256.specs.Field.{product, power, value, differ, sum_word, IsSoundBlock}
 use Rattle.dm_gf256.proofs.Linear.{product-xor_l, xor_interchange}
 use Rattle.dm_gf256.proofs.Vanish.{value-moment, nonzeros, mark, Bytes, Zeros, vanish, mark_le}
 
@@ -83,9 +81,9 @@ same_from_zeros (x ∷ xs) (y ∷ ys) e z =
     let h = same_from_zero_sum x y (z.0) in
     let t = same_from_zeros xs ys (omega arith) (z.1) in cc
 
--- two block words of one length that differ in at most c places are equal
+-- two sound blocks of one length that differ in at most c places are equal
 pub one_block_word : (c : ℕ) (a b : List ℕ) → length a ≡ length b → length a ≤ 255 → Bytes a → Bytes b →
-    IsBlockWord c a → IsBlockWord c b → differ a b ≤ c → a ≡ b
+    IsSoundBlock c a → IsSoundBlock c b → differ a b ≤ c → a ≡ b
 one_block_word c a b e l p q u v d =
     let w = sum_word a b in
     let le : length w ≡ length a = length-sum_word a b e in

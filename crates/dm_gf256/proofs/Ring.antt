@@ -1,12 +1,10 @@
 -- The laws of the field: a commutative ring, inverses, and the powers of 2.
 use Rattle.std.proofs.Common.{◌≡◌, ◌≢◌, ℕ, zero, suc, ◌+◌, ◌-◌, ◌*◌, ◌^◌, ◌%◌, ◌<◌, ◌≤◌, Bool, true, eqb, ltb, refl, sym, ◌∙◌, ap, subst, arith, add-zero, zero-add, one-mul, zero-mul, eqb-true, ltb-true, ◌&&◌, ⊎_elim}
-use Rattle.std.proofs.lemmas.Bool.{cases_lt, and_parts}
-use Rattle.std.proofs.Math.Nat.{pow-succ'}
+use Rattle.std.proofs.{lemmas.Bool.cases_lt, lemmas.Bool.and_parts, Math.Nat.pow-succ'}
 use Rattle.std.specs.Int.Bits.{bit_xor, xor_self}
 use Rattle.std.proofs.lemmas.Nat.{xor_lt, pow_pos, xor_block}
 use Rattle.dm_gf256.specs.Field.{plain, reduced, product, power}
-use Rattle.dm_gf256.proofs.Linear.{product-xor_r, product-xor_l}
-use Rattle.dm_gf256.proofs.TablesByComputing.{all_below}
+use Rattle.dm_gf256.proofs.{Linear.product-xor_r, Linear.product-xor_l, TablesByComputing.all_below}
 
 -- what the checker finds at each number below n
 pub all_below-at : (n : ℕ) (p : ℕ → Bool) → all_below n p ≡ true → (k : ℕ) → k < n → p k ≡ true

@@ -1,8 +1,7 @@
 -- The tables of the powers of 2 and of their exponents give products and inverses.
 use Rattle.std.proofs.Common.{◌≡◌, ℕ, zero, suc, ◌+◌, ◌-◌, ◌<◌, ◌≤◌, eqb, refl, sym, ◌∙◌, ap, arith, get_or, eqb-true, true, ◌&&◌, ltb, ltb-true, inl, inr, ⊎_elim}
 use Rattle.std.proofs.lemmas.Bool.{and_parts}
-use Rattle.dm_gf256.specs.inner.Exponents.{IsExponent}
-use Rattle.dm_gf256.specs.Field.{product, power, plain, reduced}
+use Rattle.dm_gf256.specs.{inner.Exponents.IsExponent, Field.product, Field.power, Field.plain, Field.reduced}
 use Rattle.dm_gf256.specs.declared.powers.TheConstants.{POWERS, LOGS}
 use Rattle.dm_gf256.proofs.TablesByComputing.{all_below}
 use Rattle.dm_gf256.proofs.Ring.{all_below-at, power-add, product-zero_l, product_comm}

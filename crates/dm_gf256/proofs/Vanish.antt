@@ -1,10 +1,9 @@
 -- A word with at most c places that are not zero, whose sums vanish at 2^1 .. 2^c, is zero.
 use Rattle.std.proofs.Common.{◌≡◌, ◌≢◌, ℕ, zero, suc, ◌+◌, ◌*◌, ◌<◌, ◌≤◌, refl, sym, ◌∙◌, ap, arith, List, [], ◌∷◌, length, mul-zero}
 use Rattle.std.proofs.Common.{⊎_elim}
-use Rattle.std.proofs.lemmas.Bool.{cases_lt}
+use Rattle.std.proofs.lemmas.{Bool.cases_lt, Nat.xor_lt}
 use Rattle.std.specs.List.{AllByRecursion}
 use Rattle.std.specs.Int.Bits.{bit_xor, xor_assoc, xor_zero_l, xor_zero_r, xor_self}
-use Rattle.std.proofs.lemmas.Nat.{xor_lt}
 use Rattle.dm_gf256.specs.Field.{product, power, value}
 use Rattle.dm_gf256.proofs.Linear.{product-xor_r, product-xor_l, xor_interchange}
 use Rattle.dm_gf256.proofs.Ring.{product_comm, product_assoc, product_byte, product-zero_l, product-zero_r, one-product, product_zero, power_byte, power-add, power_two_pos, power_two_distinct}

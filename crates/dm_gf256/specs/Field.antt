@@ -1,7 +1,6 @@
 -- The field of 256 elements, and polynomials over it (ISO/IEC 16022:2006, 5.7 and Annex E).
 use Rattle.std.specs.Prelude.{ℕ, List, map, zero, suc, ◌+◌, ◌*◌, ◌^◌, ◌%◌, ◌≡◌, ◌≤◌, [], ◌∷◌, length, cond, ◌==◌}
-use Rattle.std.specs.Int.{bit_at}
-use Rattle.std.specs.Int.Bits.{bit_xor}
+use Rattle.std.specs.Int.{bit_at, Bits.bit_xor}
 use Rattle.dm_gf256.specs.declared.element.Gf.{Gf}
 
 -- the numbers of a list of elements
@@ -31,7 +30,7 @@ unfoldable pub power : ℕ → ℕ → ℕ
 power x zero = 1
 power x (suc k) = product x (power x k)
 
--- ---- Polynomials over the field of 256 elements, as lists of their coefficients, and block words: the words of the
+-- ---- Polynomials over the field of 256 elements, as lists of their coefficients, and sound blocks: the words of the
 -- Reed-Solomon code of ISO/IEC 16022:2006, Annex E, whose generator polynomial has the roots 2^1 .. 2^c.
 
 -- the value at x of the polynomial with these coefficients, the highest power first
@@ -39,9 +38,9 @@ unfoldable pub value : List ℕ → ℕ → ℕ
 value [] x = 0
 value (c ∷ cs) x = bit_xor (product c (power x (length cs))) (value cs x)
 
--- a block word with c check words: the polynomial, the first word its highest power, vanishes at 2^1 .. 2^c
-abbrev pub IsBlockWord : ℕ → List ℕ → Type 0
-IsBlockWord c w = (k : ℕ) → 1 ≤ k → k ≤ c → value w (power 2 k) ≡ 0
+-- a sound block with c error correction codewords: the polynomial, highest power first, vanishes at 2^1 .. 2^c
+abbrev pub IsSoundBlock : ℕ → List ℕ → Type 0
+IsSoundBlock c w = (k : ℕ) → 1 ≤ k → k ≤ c → value w (power 2 k) ≡ 0
 
 -- the number of places where two lists of one length differ
 unfoldable pub differ : List ℕ → List ℕ → ℕ

@@ -1,8 +1,8 @@
-//! Laws of the field and of block words. The functions do nothing: their contracts are the laws.
+//! Laws of the field and of sound blocks. The functions do nothing: their contracts are the laws.
 
 ghost use Rattle.std.specs.Prelude.{◌≡◌, ◌<◌, ◌≤◌, ◌≢◌, ℕ, length};
 ghost use Rattle.std.specs.Int.Bits.{bit_xor};
-ghost use Rattle.dm_gf256.specs.Field.{product, power, differ, IsBlockWord};
+ghost use Rattle.dm_gf256.specs.Field.{product, power, differ, IsSoundBlock};
 
 /// With the sum, the product makes a commutative ring, in which 1 is neutral.
 pub fn ring()
@@ -23,13 +23,13 @@ pub fn powers_distinct()
     ensures { (i : ℕ) → (j : ℕ) → i < j → j < 255 → power 2 i ≢ power 2 j }
 {}
 
-/// Two block words of one length, at most 255, that differ in at most as many places as they have
-/// check words are equal.
+/// Two sound blocks of one length, at most 255, that differ in at most as many places as they have
+/// error correction codewords are equal.
 pub fn block_words_apart(left: &[u8], right: &[u8], checks: u8)
     requires same { length left.now ≡ length right.now }
     requires fits { length left.now ≤ 255 }
-    requires left_word { IsBlockWord checks left.now }
-    requires right_word { IsBlockWord checks right.now }
+    requires left_word { IsSoundBlock checks left.now }
+    requires right_word { IsSoundBlock checks right.now }
     requires near { differ left.now right.now ≤ checks }
     ensures { left.now ≡ right.now }
 {}

@@ -2,12 +2,10 @@
 use Rattle.std.proofs.Common.{◌≡◌, ℕ, ◌+◌, ◌-◌, ◌*◌, ◌/◌, ◌%◌, ◌<◌, ◌≤◌, Bool, false, List, ◌++◌, length, get_or, map, slice_index_or, ap, ◌∙◌, arith, ⊎_elim}
 use Rattle.dm_pbm_io.specs.Image.{Picture, modules_inside}
 use Rattle.std.specs.List.{between, range_with_len}
-use Rattle.std.proofs.lemmas.List.{get_or_append_left, get_or-append_right, length-append}
-use Rattle.std.proofs.lemmas.List.Edits.{length-between, get_or-between}
+use Rattle.std.proofs.lemmas.{List.get_or_append_left, List.get_or-append_right, List.length-append, Bool.cases_lt}
+use Rattle.std.proofs.{lemmas.List.Edits.length-between, lemmas.List.Edits.get_or-between, Math.Nat.mul-le-mul_right}
 use Rattle.std.proofs.lemmas.List.FromFn.{fill_by_all, get_or-map-range_with_len, length-map-range_with_len}
-use Rattle.std.proofs.Math.Nat.{mul-le-mul_right}
 use Rattle.std.proofs.lemmas.Nat.{div-mul-add, mod-mul-add}
-use Rattle.std.proofs.lemmas.Bool.{cases_lt}
 
 -- the module with this index inside the quiet zone of pixels w wide
 abbrev pub inner_module : List Bool → ℕ → ℕ → ℕ → Bool

@@ -3,13 +3,11 @@ use Rattle.std.proofs.Common.{◌≡◌, ℕ, suc, ◌+◌, ◌<◌, ◌≤◌, 
 use Rattle.std.specs.List.{concat, filter, AllByRecursion}
 use Rattle.std.proofs.lemmas.List.Elements.{filter-append}
 use Rattle.dm_pbm_io.specs.Header.{is_hidden, in_comment, signs_from, signs, magic, IsHeaderBody, stride, IsPackedRaster, digit_of, is_pixel_digit, IsPlainRaster}
-use Rattle.dm_pbm_io.specs.Image.{Picture, IsRaster, SpellsAfterMagic}
-use Rattle.dm_pbm_io.specs.Laws.{HasOneImage}
+use Rattle.dm_pbm_io.specs.{Image.Picture, Image.IsRaster, Image.SpellsAfterMagic, Laws.HasOneImage}
 use Rattle.dm_pbm_io.specs.inner.Streaming.{walk}
 use Rattle.dm_pbm_io.specs.declared.header.HeaderState.TheVariants.{AfterMagic, Done}
 use Rattle.dm_pbm_io.proofs.Walking.{walk-append, spelled_walks, at_done}
-use Rattle.dm_pbm_io.proofs.Stage.{in_comment-append, signs-append}
-use Rattle.dm_pbm_io.proofs.Rows.{digit_kept, length-packed}
+use Rattle.dm_pbm_io.proofs.{Stage.in_comment-append, Stage.signs-append, Rows.digit_kept, Rows.length-packed}
 
 -- of two fronts of one list, one is a front of the other
 pub fronts : (a b x y : List ℕ) → a ++ x ≡ b ++ y

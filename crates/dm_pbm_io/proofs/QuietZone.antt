@@ -3,14 +3,11 @@ use Rattle.std.specs.Prelude.{nat_lt, if◌then◌else◌}
 use Rattle.std.specs.List.{between}
 use Rattle.std.proofs.Common.{◌≡◌, ℕ, ◌+◌, ◌-◌, ◌*◌, ◌/◌, ◌%◌, ◌<◌, ◌≤◌, Bool, false, List, ◌++◌, length, take, drop, get_or, ap, ◌∙◌, arith, ⊎_elim}
 use Rattle.std.proofs.Math.Nat.{mul-le-mul_right, mod-lt, mod-add-div, div-lt_iff_lt-mul}
-use Rattle.std.proofs.lemmas.List.FromFn.{fill_by_all}
-use Rattle.std.proofs.lemmas.Bool.{cases_lt}
-use Rattle.std.proofs.lemmas.Bool.Decides.{nat_tests}
+use Rattle.std.proofs.lemmas.{List.FromFn.fill_by_all, Bool.cases_lt, Bool.Decides.nat_tests}
 use Rattle.std.proofs.lemmas.List.{length-append, length-drop, length-take-le, get_or_append_left, get_or-append_right, get_or-take, get_or-drop}
 use Rattle.std.proofs.lemmas.List.Edits.{length-between, get_or-between}
 use Rattle.dm_size.specs.Squares.{Square, IsWhole, module_at}
-use Rattle.dm_pbm_io.specs.inner.Streaming.{IsDrawnTo}
-use Rattle.dm_pbm_io.specs.Image.{pixel_with_quiet_zone, pixels_with_quiet_zone}
+use Rattle.dm_pbm_io.specs.{inner.Streaming.IsDrawnTo, Image.pixel_with_quiet_zone, Image.pixels_with_quiet_zone}
 
 -- a list of which a part is written over
 abbrev over : ℕ → ℕ → List Bool → List Bool → List Bool

@@ -1,14 +1,11 @@
 -- Bits of bytes, rows of bytes, and rasters of rows.
 use Rattle.std.proofs.Common.{◌≡◌, ℕ, ◌+◌, ◌-◌, ◌*◌, ◌<◌, min, Bool, true, false, ◌||◌, List, [], ◌∷◌, ◌++◌, length, take, refl, ap, ◌∙◌, arith, append-nil, length-append}
 use Rattle.std.specs.List.{list_all, flat_map, concat, filter, AllByRecursion}
-use Rattle.std.proofs.lemmas.Grind.{flat_map-append}
-use Rattle.std.proofs.lemmas.List.{take_all, take_min, map-append, length-take}
-use Rattle.std.proofs.lemmas.List.Folds.{concat-append, list_all-append}
-use Rattle.std.proofs.lemmas.List.Elements.{filter-append}
-use Rattle.std.proofs.Math.Seq.{take-append-add}
-use Rattle.std.proofs.lemmas.Bool.Decides.{nat_tests}
+use Rattle.std.proofs.lemmas.{Grind.flat_map-append, List.take_all, List.take_min, List.map-append, List.length-take}
+use Rattle.std.proofs.lemmas.List.{Folds.concat-append, Folds.list_all-append, Elements.filter-append}
+use Rattle.std.proofs.{Math.Seq.take-append-add, lemmas.Bool.Decides.nat_tests}
 use Rattle.dm_placement.specs.Placement.{byte_bits}
-use Rattle.dm_pbm_io.specs.Header.{is_white, stride, row_of, IsPackedRaster, digit_of, is_pixel_digit, is_plain_sign, ShowsPixels}
+use Rattle.dm_pbm_io.specs.Header.{is_white, stride, pixels_of_row, IsPackedRaster, digit_of, is_pixel_digit, is_plain_sign, ShowsPixels}
 
 length-bits : (row : List ℕ) → length (flat_map byte_bits row) ≡ 8 * length row
 length-bits [] = refl
@@ -19,14 +16,15 @@ bits_single b = append-nil (byte_bits b)
 
 -- one more byte of a row
 pub row_more : (width at b : ℕ) (row : List ℕ) → length row ≡ at → 8 * at < width
-    → row_of width (row ++ b ∷ []) ≡ row_of width row ++ take (min (width - 8 * at) 8) (byte_bits b)
+    → pixels_of_row width (row ++ b ∷ []) ≡ pixels_of_row width row ++ take (min (width - 8 * at) 8) (byte_bits b)
 row_more width at b row n room =
     let long : length (flat_map byte_bits row) ≡ 8 * at = length-bits row ∙ ap (λ k. 8 * k) n in
-    let whole : row_of width row ≡ flat_map byte_bits row = take_all width (flat_map byte_bits row) (omega arith) in
+    let whole : pixels_of_row width row
+    ≡ flat_map byte_bits row = take_all width (flat_map byte_bits row) (omega arith) in
     let parts : width ≡ length (flat_map byte_bits row) + (width - 8 * at) = omega arith in
     grind (arith, flat_map-append, bits_single, take-append-add, take_min)
 
-pub length-row_of : (width : ℕ) (row : List ℕ) → length row ≡ stride width → length (row_of width row) ≡ width
+pub length-row_of : (width : ℕ) (row : List ℕ) → length row ≡ stride width → length (pixels_of_row width row) ≡ width
 length-row_of width row n = let e = length-bits row in simp length-take (omega arith)
 
 pub packed_none : (width : ℕ) → IsPackedRaster [] width 0 []
@@ -39,7 +37,7 @@ all-append P (y ∷ xs) x h p = (h.0, all-append P xs x h.1 p)
 
 pub packed_more : (raster row : List ℕ) (width height : ℕ) (pixels : List Bool)
     → IsPackedRaster raster width height pixels → length row ≡ stride width
-    → IsPackedRaster (raster ++ row) width (height + 1) (pixels ++ row_of width row)
+    → IsPackedRaster (raster ++ row) width (height + 1) (pixels ++ pixels_of_row width row)
 packed_more raster row width height pixels p n = record {
   rows = p.rows ++ row ∷ [];
   count = let e = p.count in simp length-append (omega arith);

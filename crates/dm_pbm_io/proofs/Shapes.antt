@@ -1,7 +1,6 @@
 -- Which pictures have the shape of a grid.
 use Rattle.std.proofs.Common.{◌≡◌, ◌+◌, ◌-◌, ◌*◌, ◌<◌, ◌≤◌, arith}
-use Rattle.dm_size.specs.declared.size.Size.{Size}
-use Rattle.dm_size.specs.Sizes.{side, row}
+use Rattle.dm_size.specs.{declared.size.Size.Size, Sizes.side, Sizes.row}
 use Rattle.dm_pbm_io.specs.Image.{Picture, HasShape}
 
 -- no symbol has a side below 10

@@ -4,16 +4,17 @@ use Rattle.std.specs.Prelude.{◌≢◌, OnOk}
 use Rattle.std.proofs.KnownBytes.{Appends-trans, Appends-nil, Consumes-trans, Consumes-nil}
 use Rattle.relay_streams.proofs.Parts.{part_more, part_after}
 use Rattle.relay_streams.specs.Streams.{AppendsPart, InputView, OutputView}
-use Rattle.dm_pbm_io.specs.inner.Streaming.{Takes, FindsEnd, Remembers, TakesUntil, Adds}
+use Rattle.dm_pbm_io.specs.inner.Streaming.{TakesBytes, FindsEnd, Remembers, TakesUntil, AppendsText}
 use Rattle.dm_pbm_io.specs.declared.fault.PbmFault.{PbmFault}
 use Rattle.dm_pbm_io.specs.declared.fault.PbmFault.TheVariants.{Magic, Header, TooLarge, Cut, Pixel, Read, Memory}
 
 -- nothing is taken yet
-pub takes-nil : (a : InputView) → Takes a a []
+pub takes-nil : (a : InputView) → TakesBytes a a []
 takes-nil a = record { consumed = Consumes-nil a.remaining; kept = refl }
 
 -- first some bytes, and then more
-pub takes-trans : (a b c : InputView) (bs cs : List ℕ) → Takes a b bs → Takes b c cs → Takes a c (bs ++ cs)
+pub takes-trans : (a b c : InputView) (bs cs : List ℕ) → TakesBytes a b bs → TakesBytes b c cs →
+    TakesBytes a c (bs ++ cs)
 takes-trans a b c bs cs p q =
     record {
       consumed = Consumes-trans a.remaining b.remaining c.remaining bs cs p.consumed q.consumed;
@@ -31,7 +32,7 @@ pub remembers-other : (a b : InputView) (fault : PbmFault) → b.has_failed ≡ 
 remembers-other a b fault same n = record { failed = λ e. absurd (n e); kept = λ _. same }
 
 -- a fault after some bytes
-pub until-trans : (a b c : InputView) (bs cs : List ℕ) (fault : PbmFault) → Takes a b bs → TakesUntil b c cs fault
+pub until-trans : (a b c : InputView) (bs cs : List ℕ) (fault : PbmFault) → TakesBytes a b bs → TakesUntil b c cs fault
     → TakesUntil a c (bs ++ cs) fault
 until-trans a b c bs cs fault p q = record {
   consumed = Consumes-trans a.remaining b.remaining c.remaining bs cs p.consumed q.consumed;
@@ -39,17 +40,17 @@ until-trans a b c bs cs fault p q = record {
 }
 
 -- a fault that took nothing more
-pub until-here : (a b c : InputView) (bs : List ℕ) (fault : PbmFault) → Takes a b bs → TakesUntil b c [] fault →
+pub until-here : (a b c : InputView) (bs : List ℕ) (fault : PbmFault) → TakesBytes a b bs → TakesUntil b c [] fault →
     TakesUntil a c bs fault
 until-here a b c bs fault p q = grind arith
 
 -- a fault of the bytes that were taken
-pub until-now : (a b : InputView) (bs : List ℕ) (fault : PbmFault) → Takes a b bs → fault ≢ Read →
+pub until-now : (a b : InputView) (bs : List ℕ) (fault : PbmFault) → TakesBytes a b bs → fault ≢ Read →
     TakesUntil a b bs fault
 until-now a b bs fault p n = record { consumed = p.consumed; remembers = remembers-other a b fault p.kept n }
 
 -- a fault at the end
-pub until-end : (a b c : InputView) (bs : List ℕ) (fault : PbmFault) → Takes a b bs → FindsEnd b c → fault ≢ Read →
+pub until-end : (a b c : InputView) (bs : List ℕ) (fault : PbmFault) → TakesBytes a b bs → FindsEnd b c → fault ≢ Read →
     TakesUntil a c bs fault
 until-end a b c bs fault p q n = grind arith
 
@@ -73,11 +74,12 @@ pub memory_not_read : Memory ≢ Read
 memory_not_read e = cc
 
 -- nothing is written yet
-pub adds-nil : (a : OutputView) → Adds a a []
+pub adds-nil : (a : OutputView) → AppendsText a a []
 adds-nil a = record { appended = Appends-nil a.contents; kept = refl }
 
 -- first some text, and then more
-pub adds-trans : (a b c : OutputView) (bs cs : List ℕ) → Adds a b bs → Adds b c cs → Adds a c (bs ++ cs)
+pub adds-trans : (a b c : OutputView) (bs cs : List ℕ) → AppendsText a b bs → AppendsText b c cs →
+    AppendsText a c (bs ++ cs)
 adds-trans a b c bs cs p q =
     record {
       appended = Appends-trans a.contents b.contents c.contents bs cs p.appended q.appended;
@@ -87,12 +89,12 @@ adds-trans a b c bs cs p q =
 -- first some text, and then the rest of the whole, if it was written
 pub adds_rest : {E : Type 0} (a b c : OutputView) (all first rest : List ℕ) (put : Result (Unit {0}) E) →
     all ≡ first ++ rest
-    → Adds a b first → OnOk put (Adds b c rest) → OnOk put (Adds a c all)
+    → AppendsText a b first → OnOk put (AppendsText b c rest) → OnOk put (AppendsText a c all)
 adds_rest a b c all first rest put is p q = grind (arith, adds-trans)
 
 -- first some text, and then a part of what comes next
 pub adds_part : (a b : OutputView) (end : Option (List ℕ)) (all done next rest : List ℕ) → all ≡ done ++ (next ++ rest)
-    → Adds a b done → AppendsPart b.contents end next → AppendsPart a.contents end all
+    → AppendsText a b done → AppendsPart b.contents end next → AppendsPart a.contents end all
 adds_part a b end all done next rest is p q = grind (
   arith,
   part_after a.contents b.contents end done (next ++ rest)

@@ -6,11 +6,8 @@ use Rattle.std.proofs.lemmas.Nat.{div-mul-add, mod-mul-add, mul-add-lt}
 use Rattle.std.proofs.Math.Nat.{mod-lt, mod-add-div, div-lt_iff_lt-mul}
 use Rattle.dm_size.specs.Sizes.{side}
 use Rattle.dm_finder_frame.specs.Frame.{GridView, square_of, IsWholeGrid}
-use Rattle.dm_pbm_io.specs.Image.{pixel_with_quiet_zone, pixels_with_quiet_zone}
-use Rattle.dm_pbm_io.specs.Laws.{IsTakenBack}
-use Rattle.dm_pbm_io.proofs.Insides.{inner_module}
-use Rattle.dm_pbm_io.proofs.QuietZone.{within}
-use Rattle.dm_pbm_io.proofs.Shapes.{smallest_side}
+use Rattle.dm_pbm_io.specs.{Image.pixel_with_quiet_zone, Image.pixels_with_quiet_zone, Laws.IsTakenBack}
+use Rattle.dm_pbm_io.proofs.{Insides.inner_module, QuietZone.within, Shapes.smallest_side}
 
 -- the pixel of a module
 module_again : (g : GridView) (k : ℕ) → k < side g.size * side g.size

@@ -1,8 +1,7 @@
 -- The names of the faults, as they are printed.
 use Rattle.std.specs.Prelude.{ℕ, List, codes}
-use Rattle.dm_pbm_io.specs.declared.fault.PbmFault.{PbmFault}
+use Rattle.dm_pbm_io.specs.declared.fault.{PbmFault.PbmFault, ShapeFault.ShapeFault}
 use Rattle.dm_pbm_io.specs.declared.fault.PbmFault.TheVariants as pbm_faults
-use Rattle.dm_pbm_io.specs.declared.fault.ShapeFault.{ShapeFault}
 use Rattle.dm_pbm_io.specs.declared.fault.ShapeFault.TheVariants as shape_faults
 
 abbrev pub pbm_fault_name : PbmFault → List ℕ

@@ -3,7 +3,7 @@
 ghost use Rattle.std.specs.Prelude.{◌≡◌, ◌≤◌, ℕ, min, IsTrue, IfSome, List, MatchResult};
 ghost use Rattle.std.specs.Char.{is_ascii_digit};
 ghost use Rattle.dm_pbm_io.specs.Header.{is_white, is_hidden, IsHeaderBody, StopsInHeader};
-ghost use Rattle.dm_pbm_io.specs.inner.Streaming.{next_state, with_digit, HasNumber, Takes, TakesUntil};
+ghost use Rattle.dm_pbm_io.specs.inner.Streaming.{next_state, with_digit, HasNumber, TakesBytes, TakesUntil};
 
 use crate::fault::PbmFault;
 use crate::limits::HEADER_BYTES;
@@ -83,7 +83,7 @@ impl HeaderState {
 /// The width and the height that the header gives after its magic number. What is above 1,025 is 1,025.
 pub(crate) fn read_size<M, S: ByteSource<M>>(source: &mut S) -> Result<(u16, u16), PbmFault>
     ensures { MatchResult result
-        (λ size. (body : List ℕ) × (width : ℕ) × (height : ℕ) × Takes (S.view source.old) (S.view source.new) body
+        (λ size. (body : List ℕ) × (width : ℕ) × (height : ℕ) × TakesBytes (S.view source.old) (S.view source.new) body
         × IsHeaderBody body width height × (size.0 ≡ min width 1025) × (size.1 ≡ min height 1025))
         (λ fault. (body : List ℕ)
         × TakesUntil (S.view source.old) (S.view source.new) body fault

@@ -4,7 +4,7 @@ ghost use Rattle.std.specs.Prelude.{◌≡◌, ◌<◌, ◌≤◌, ◌*◌, ℕ,
 ghost use Rattle.std.specs.Io.KnownBytes.{Consumes, Keeps, IsAtEnd};
 ghost use Rattle.dm_pbm_io.specs.Header.{magic, StopsInRaster};
 ghost use Rattle.dm_pbm_io.specs.Image.{IsNoMagic, IsRaster, Spells, SpellsAfterMagic, Refuses, RefusesAfterMagic, picture};
-ghost use Rattle.dm_pbm_io.specs.inner.Streaming.{FindsEnd, Takes, TakesUntil};
+ghost use Rattle.dm_pbm_io.specs.inner.Streaming.{FindsEnd, TakesBytes, TakesUntil};
 
 use crate::fault::PbmFault;
 use crate::header::read_size;
@@ -43,7 +43,7 @@ fn magic_of(first: u8, second: u8) -> Option<bool>
 fn read_magic<M, S: ByteSource<M>>(source: &mut S) -> Result<Option<bool>, PbmFault>
     ensures { MatchResult result
         (λ found. MatchOption found (FindsEnd (S.view source.old) (S.view source.new))
-        (λ plain. Takes (S.view source.old) (S.view source.new) (magic plain)))
+        (λ plain. TakesBytes (S.view source.old) (S.view source.new) (magic plain)))
         (λ fault. (taken : List ℕ) × TakesUntil (S.view source.old) (S.view source.new) taken fault
         × Refuses fault taken (S.view source.new).remaining) }
 {
@@ -72,7 +72,7 @@ fn read_raster<M, S: ByteSource<M>, A: Allocator>(
     requires height { (0 < height) × (height ≤ GREATEST_SIDE) }
     requires room { width * height ≤ vec_capacity pixels.old }
     ensures { MatchResult result
-        (λ _. (raster : List ℕ) × Takes (S.view source.old) (S.view source.new) raster
+        (λ _. (raster : List ℕ) × TakesBytes (S.view source.old) (S.view source.new) raster
         × IsRaster plain raster width height pixels.new.items)
         (λ fault. (raster : List ℕ) × TakesUntil (S.view source.old) (S.view source.new) raster fault
         × StopsInRaster plain raster width height (S.view source.new).remaining fault) }
@@ -93,7 +93,7 @@ fn read_after_magic<M, S: ByteSource<M>, A: Allocator + Copy>(
     plain: bool,
 ) -> Result<Image<A>, PbmFault>
     ensures { MatchResult result
-        (λ image. (taken : List ℕ) × Takes (S.view source.old) (S.view source.new) taken
+        (λ image. (taken : List ℕ) × TakesBytes (S.view source.old) (S.view source.new) taken
         × SpellsAfterMagic taken (picture image) × (image.plain ≡ plain))
         (λ fault. (taken : List ℕ) × TakesUntil (S.view source.old) (S.view source.new) taken fault
         × RefusesAfterMagic plain fault taken (S.view source.new).remaining) }
@@ -122,7 +122,7 @@ fn read_from<M, S: ByteSource<M>, A: Allocator + Copy>(
 ) -> Result<Option<Image<A>>, PbmFault>
     ensures { MatchResult result
         (λ found. MatchOption found (FindsEnd (S.view source.old) (S.view source.new))
-        (λ image. (taken : List ℕ) × Takes (S.view source.old) (S.view source.new) taken
+        (λ image. (taken : List ℕ) × TakesBytes (S.view source.old) (S.view source.new) taken
         × Spells taken (picture image)))
         (λ fault. (taken : List ℕ) × TakesUntil (S.view source.old) (S.view source.new) taken fault
         × Refuses fault taken (S.view source.new).remaining) }

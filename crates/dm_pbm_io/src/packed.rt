@@ -1,8 +1,8 @@
 //! The rows of packed rasters, from a source to pixels.
 
 ghost use Rattle.std.specs.Prelude.{◌≡◌, ℕ, ◌<◌, ◌≤◌, List, length, MatchResult};
-ghost use Rattle.dm_pbm_io.specs.Header.{stride, row_of, HasNoByte};
-ghost use Rattle.dm_pbm_io.specs.inner.Streaming.{Takes, TakesUntil};
+ghost use Rattle.dm_pbm_io.specs.Header.{stride, pixels_of_row, HasNoByte};
+ghost use Rattle.dm_pbm_io.specs.inner.Streaming.{TakesBytes, TakesUntil};
 
 use crate::fault::PbmFault;
 use crate::limits::GREATEST_SIDE;
@@ -15,7 +15,7 @@ const ROW_BYTES: usize = 128;
 // Draws the pixels of the bytes of a row.
 fn draw_row(pixels: &mut [bool], row: &[u8])
     requires { length row.now ≡ stride (length pixels.old) }
-    ensures { pixels.new ≡ row_of (length pixels.old) row.now }
+    ensures { pixels.new ≡ pixels_of_row (length pixels.old) row.now }
 {
     let whole = pixels.len() / 8;
     for at in 0..whole {
@@ -35,8 +35,8 @@ pub(crate) fn draw_next<M, S: ByteSource<M>>(
 ) -> Result<(), PbmFault>
     requires { length pixels.old ≤ GREATEST_SIDE }
     ensures { MatchResult result
-        (λ _. (row : List ℕ) × Takes (S.view source.old) (S.view source.new) row
-        × (length row ≡ stride (length pixels.old)) × (pixels.new ≡ row_of (length pixels.old) row))
+        (λ _. (row : List ℕ) × TakesBytes (S.view source.old) (S.view source.new) row
+        × (length row ≡ stride (length pixels.old)) × (pixels.new ≡ pixels_of_row (length pixels.old) row))
         (λ fault. (part : List ℕ) × TakesUntil (S.view source.old) (S.view source.new) part fault
         × (length part < stride (length pixels.old)) × HasNoByte (S.view source.new).remaining fault) }
 {

@@ -2,7 +2,7 @@
 
 ghost use Rattle.std.specs.Prelude.{◌≡◌, ℕ, ◌+◌, ◌*◌, ◌<◌, ◌≤◌, List, [], ◌∷◌, ◌++◌, length, replicate, vec_len, vec_capacity, MatchResult, MatchOption, false};
 ghost use Rattle.dm_pbm_io.specs.Header.{digit_of, is_pixel_digit, IsPackedRaster, IsPlainRaster, StopsInPlain, StopsInPacked};
-ghost use Rattle.dm_pbm_io.specs.inner.Streaming.{Takes, TakesUntil};
+ghost use Rattle.dm_pbm_io.specs.inner.Streaming.{TakesBytes, TakesUntil};
 
 use crate::fault::PbmFault;
 use crate::header::{is_hidden, is_white};
@@ -45,7 +45,7 @@ pub(crate) fn read_plain<M, S: ByteSource<M>, A: Allocator>(
     requires some { 0 < count }
     requires room { count ≤ vec_capacity pixels.old }
     ensures { MatchResult result
-        (λ _. (raster : List ℕ) × Takes (S.view source.old) (S.view source.new) raster
+        (λ _. (raster : List ℕ) × TakesBytes (S.view source.old) (S.view source.new) raster
         × IsPlainRaster raster count pixels.new.items)
         (λ fault. (raster : List ℕ) × TakesUntil (S.view source.old) (S.view source.new) raster fault
         × StopsInPlain raster count (S.view source.new).remaining fault) }
@@ -94,7 +94,7 @@ pub(crate) fn read_packed<M, S: ByteSource<M>>(
     requires height { height ≤ GREATEST_SIDE }
     requires count { length pixels.old ≡ width * height }
     ensures { MatchResult result
-        (λ _. (raster : List ℕ) × Takes (S.view source.old) (S.view source.new) raster
+        (λ _. (raster : List ℕ) × TakesBytes (S.view source.old) (S.view source.new) raster
         × IsPackedRaster raster width height pixels.new)
         (λ fault. (raster : List ℕ) × TakesUntil (S.view source.old) (S.view source.new) raster fault
         × StopsInPacked raster width height (S.view source.new).remaining fault) }

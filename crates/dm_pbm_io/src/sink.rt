@@ -2,7 +2,7 @@
 
 ghost use Rattle.std.specs.Prelude.{◌≡◌, Bool, true, false, OnOk, OnErr};
 ghost use Rattle.relay_streams.specs.Streams.{AppendsPart, OutputView};
-ghost use Rattle.dm_pbm_io.specs.inner.Streaming.{Adds};
+ghost use Rattle.dm_pbm_io.specs.inner.Streaming.{AppendsText};
 
 use crate::source::{Bare, Remembering};
 use relay_streams::{Output, WriteFault, put_to};
@@ -17,7 +17,7 @@ pub(crate) trait ByteSink<M> {
 
     /// Writes the whole text.
     fn put_text(&mut self, text: &[u8]) -> Result<(), WriteFault>
-        ensures written { OnOk result (Adds (view self.old) (view self.new) text.now) }
+        ensures written { OnOk result (AppendsText (view self.old) (view self.new) text.now) }
         ensures part { AppendsPart (view self.old).contents (view self.new).contents text.now }
         ensures failed { OnErr result ((view self.new).has_failed ≡ true) }
         ensures stuck { is_stuck self.old ≡ true

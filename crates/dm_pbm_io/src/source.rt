@@ -4,7 +4,7 @@ ghost use Rattle.std.specs.Prelude.{◌≡◌, ◌<◌, List, ℕ, [], ◌∷◌
 ghost use Rattle.std.specs.Io.KnownBytes.{Keeps};
 ghost use Rattle.relay_streams.specs.Streams.{InputView, TakesFewer};
 ghost use Rattle.dm_pbm_io.specs.Header.{HasNoByte};
-ghost use Rattle.dm_pbm_io.specs.inner.Streaming.{Takes, TakesFront, TakesNext, TakesUntil};
+ghost use Rattle.dm_pbm_io.specs.inner.Streaming.{TakesBytes, TakesFront, TakesNext, TakesUntil};
 
 use crate::fault::PbmFault;
 use relay_streams::{Input, ReadFault, fill_from, next_byte_of};
@@ -99,7 +99,7 @@ pub(crate) fn read_byte<M, S: ByteSource<M>>(source: &mut S) -> Result<Option<u8
 /// The next byte, where the image needs one.
 pub(crate) fn next_byte<M, S: ByteSource<M>>(source: &mut S) -> Result<u8, PbmFault>
     ensures { MatchResult result
-        (λ byte. Takes (S.view source.old) (S.view source.new) (byte ∷ []))
+        (λ byte. TakesBytes (S.view source.old) (S.view source.new) (byte ∷ []))
         (λ fault. TakesUntil (S.view source.old) (S.view source.new) [] fault
         × HasNoByte (S.view source.new).remaining fault) }
 {
@@ -112,7 +112,7 @@ pub(crate) fn next_byte<M, S: ByteSource<M>>(source: &mut S) -> Result<u8, PbmFa
 /// Fills a row with the next bytes. The image needs all of them.
 pub(crate) fn next_row<M, S: ByteSource<M>>(source: &mut S, row: &mut [u8]) -> Result<(), PbmFault>
     ensures { MatchResult result
-        (λ _. Takes (S.view source.old) (S.view source.new) row.new)
+        (λ _. TakesBytes (S.view source.old) (S.view source.new) row.new)
         (λ fault. (part : List ℕ) × TakesUntil (S.view source.old) (S.view source.new) part fault
         × (length part < length row.new) × HasNoByte (S.view source.new).remaining fault) }
 {

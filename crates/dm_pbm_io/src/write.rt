@@ -6,7 +6,7 @@ ghost use Rattle.std.specs.Io.KnownBytes.{Appends};
 ghost use Rattle.std.specs.Fmt.{decimal};
 ghost use Rattle.dm_pbm_io.specs.Header.{magic, stride, digit_of};
 ghost use Rattle.dm_pbm_io.specs.Image.{picture, number_of_first, packed, plain_row, row_text, rows_text, written};
-ghost use Rattle.dm_pbm_io.specs.inner.Streaming.{Adds};
+ghost use Rattle.dm_pbm_io.specs.inner.Streaming.{AppendsText};
 ghost use Rattle.relay_streams.specs.Streams.{AppendsPart};
 
 use crate::image::Image;
@@ -75,7 +75,7 @@ fn pack(piece: &[bool], bytes: &mut [u8])
 fn write_packed_piece<M, K: ByteSink<M>>(sink: &mut K, piece: &[bool]) -> Result<(), WriteFault>
     requires { length piece.now ≤ PACKED_PIXELS }
     ensures written { OnOk result
-        (Adds (K.view sink.old) (K.view sink.new) (packed (stride (length piece.now)) piece.now)) }
+        (AppendsText (K.view sink.old) (K.view sink.new) (packed (stride (length piece.now)) piece.now)) }
     ensures part { AppendsPart (K.view sink.old).contents (K.view sink.new).contents
         (packed (stride (length piece.now)) piece.now) }
     ensures failed { OnErr result ((K.view sink.new).has_failed ≡ true) }
@@ -90,7 +90,7 @@ fn write_packed_piece<M, K: ByteSink<M>>(sink: &mut K, piece: &[bool]) -> Result
 fn write_packed_row<M, K: ByteSink<M>>(sink: &mut K, row: &[bool]) -> Result<(), WriteFault>
     requires { length row.now ≤ u16.MAX }
     ensures written { OnOk result
-        (Adds (K.view sink.old) (K.view sink.new) (packed (stride (length row.now)) row.now)) }
+        (AppendsText (K.view sink.old) (K.view sink.new) (packed (stride (length row.now)) row.now)) }
     ensures part { AppendsPart (K.view sink.old).contents (K.view sink.new).contents
         (packed (stride (length row.now)) row.now) }
     ensures failed { OnErr result ((K.view sink.new).has_failed ≡ true) }
@@ -127,7 +127,7 @@ fn line_text(line: &[bool]) -> ArrayVec<u8, LINE_BYTES>
 // Writes a plain row, line by line.
 fn write_plain_row<M, K: ByteSink<M>>(sink: &mut K, row: &[bool]) -> Result<(), WriteFault>
     requires { length row.now ≤ u16.MAX }
-    ensures written { OnOk result (Adds (K.view sink.old) (K.view sink.new) (plain_row 0 row.now)) }
+    ensures written { OnOk result (AppendsText (K.view sink.old) (K.view sink.new) (plain_row 0 row.now)) }
     ensures part { AppendsPart (K.view sink.old).contents (K.view sink.new).contents
         (plain_row 0 row.now) }
     ensures failed { OnErr result ((K.view sink.new).has_failed ≡ true) }
@@ -145,7 +145,7 @@ fn write_plain_row<M, K: ByteSink<M>>(sink: &mut K, row: &[bool]) -> Result<(), 
 fn write_row<M, K: ByteSink<M>>(sink: &mut K, plain: bool, row: &[bool]) -> Result<(), WriteFault>
     requires { length row.now ≤ u16.MAX }
     ensures written { OnOk result
-        (Adds (K.view sink.old) (K.view sink.new) (row_text plain (length row.now) row.now)) }
+        (AppendsText (K.view sink.old) (K.view sink.new) (row_text plain (length row.now) row.now)) }
     ensures part { AppendsPart (K.view sink.old).contents (K.view sink.new).contents
         (row_text plain (length row.now) row.now) }
     ensures failed { OnErr result ((K.view sink.new).has_failed ≡ true) }
@@ -169,7 +169,7 @@ fn write_rows<M, K: ByteSink<M>>(
     requires height { height ≤ u16.MAX }
     requires pixels { length pixels.now ≡ width * height }
     ensures written { OnOk result
-        (Adds (K.view sink.old) (K.view sink.new) (rows_text plain width height pixels.now)) }
+        (AppendsText (K.view sink.old) (K.view sink.new) (rows_text plain width height pixels.now)) }
     ensures part { AppendsPart (K.view sink.old).contents (K.view sink.new).contents
         (rows_text plain width height pixels.now) }
     ensures failed { OnErr result ((K.view sink.new).has_failed ≡ true) }
@@ -189,7 +189,7 @@ fn write_to<M, K: ByteSink<M>, A: Allocator>(
     image: &Image<A>,
 ) -> Result<(), WriteFault>
     requires { length image.now.pixels.items ≡ image.now.width * image.now.height }
-    ensures written { OnOk result (Adds (K.view sink.old) (K.view sink.new) (written (picture image.now))) }
+    ensures written { OnOk result (AppendsText (K.view sink.old) (K.view sink.new) (written (picture image.now))) }
     ensures part { AppendsPart (K.view sink.old).contents (K.view sink.new).contents
         (written (picture image.now)) }
     ensures failed { OnErr result ((K.view sink.new).has_failed ≡ true) }

@@ -1,10 +1,8 @@
 -- Places of modules, row by row.
 use Rattle.std.proofs.Common.{◌≡◌, All, ℕ, ◌+◌, ◌-◌, ◌*◌, ◌^◌, ◌<◌, ◌≤◌, List, [], ◌∷◌, ◌/◌, ◌%◌, zero, suc, map, get_or, length, arith, refl}
-use Rattle.std.proofs.lemmas.List.{length-map}
-use Rattle.std.proofs.lemmas.List.Elements.{All-from_get_or}
+use Rattle.std.proofs.lemmas.List.{length-map, Elements.All-from_get_or}
 use Rattle.std.proofs.lemmas.Nat.{mul-add-lt, div-mul-add, mod-mul-add}
-use Rattle.dm_placement.specs.declared.shape.Cell.{Cell}
-use Rattle.dm_placement.specs.declared.shape.Shape.TheVariants.{Plain}
+use Rattle.dm_placement.specs.declared.shape.{Cell.Cell, Shape.TheVariants.Plain}
 use Rattle.dm_placement.specs.Placement.{cell_at, cell_from_anchor, shape_cells, place_of}
 use Rattle.dm_placement.proofs.CellLists.{all_in_at, AllIn}
 
@@ -12,7 +10,7 @@ use Rattle.dm_placement.proofs.CellLists.{all_in_at, AllIn}
 pub place_fits : (n r c : ℕ) → n ≤ 120 → r < n → c < n → r * n + c < 2 ^ 16
 place_fits n r c h hr hc = grind arith
 
--- no cell of a word wraps whose anchor is two rows and two columns or more inside
+-- no cell of a codeword wraps whose anchor is two rows and two columns or more inside
 unwrapped : (n r c up left : ℕ) → 2 ≤ r → r < n → 2 ≤ c → c < n → up ≤ 2 → left ≤ 2
     → cell_from_anchor n (cell_at r c) up left ≡ cell_at (r - up) (c - left)
 unfolding cell_from_anchor
@@ -23,7 +21,7 @@ place_above : (n r c up left : ℕ) → 2 ≤ r → 2 ≤ c → up ≤ 2 → lef
     → (r - up) * n + (c - left) ≡ r * n + c - up * n - left
 place_above n r c up left hr hc hu hl = grind arith
 
--- the places of the bits of such a word
+-- the places of the bits of such a codeword
 pub places_inside : (n r c : ℕ) → 2 ≤ r → r < n → 2 ≤ c → c < n → let at = r * n + c in
     map (place_of n) (shape_cells n (Plain (cell_at r c))) ≡
     (at - 2 * n - 2) ∷ (at - 2 * n - 1) ∷ (at - n - 2) ∷ (at - n - 1) ∷ (at - n) ∷ (at - 2) ∷ (at - 1) ∷ at ∷ []

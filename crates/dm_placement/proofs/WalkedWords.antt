@@ -1,20 +1,15 @@
--- The words that the walk comes to. For each size the checker computes that they are those of the closed form.
+-- The codewords that the walk comes to. For each size the checker computes that they are those of the closed form.
 use Rattle.std.specs.Option.{option_to_list}
 use Rattle.std.proofs.Common.{arith, ◌≡◌, ℕ, ◌+◌, ◌*◌, refl, List, [], ◌∷◌, ◌++◌, Option, Some, true, ltb, ◌||◌, ap, sym, ◌∙◌, subst, append_assoc, append-nil, map, ◌<◌, ◌≤◌, length, length-append, get_or}
-use Rattle.std.proofs.Math.ListN.{get_or-append}
-use Rattle.std.proofs.lemmas.Grind.{flat_map-append}
+use Rattle.std.proofs.{Math.ListN.get_or-append, lemmas.Grind.flat_map-append}
 use Rattle.std.proofs.lemmas.List.{length-map, map-append}
-use Rattle.dm_size.specs.declared.size.Size.{Size}
-use Rattle.dm_size.specs.declared.size.Size.TheVariants.{Side10}
+use Rattle.dm_size.specs.declared.size.Size.{Size, TheVariants.Side10}
 use Rattle.dm_size.specs.Sizes.{row, mapping, all_words}
-use Rattle.dm_placement.specs.declared.shape.Shape.{Shape}
-use Rattle.dm_placement.specs.declared.walk.Sweep.{Sweep}
-use Rattle.dm_placement.specs.declared.walk.Sweep.TheVariants.{Start}
+use Rattle.dm_placement.specs.declared.{shape.Shape.Shape, walk.Sweep.Sweep, walk.Sweep.TheVariants.Start}
 use Rattle.dm_placement.specs.declared.walk.Walk.{Walk}
 use Rattle.dm_placement.specs.Placement.{shapes, shape_cells, bit_cells, anchors, corner_before, is_anchor, is_left_out, is_in_square, rising_diagonal, falling_diagonal, place_of}
-use Rattle.dm_placement.specs.inner.Places.{IsPlaceable, HasWalked, shapes_ahead, Steps, corner_at, ends, is_over, word_at}
-use Rattle.dm_placement.proofs.CellLists.{cells_of_all}
-use Rattle.dm_placement.proofs.Places.{places_in}
+use Rattle.dm_placement.specs.inner.Places.{IsPlaceable, HasWalked, shapes_ahead, WalkSteps, corner_at, walk_has_ended, is_over, word_at}
+use Rattle.dm_placement.proofs.{CellLists.cells_of_all, Places.places_in}
 use Rattle.dm_placement.proofs.ShapesSound.{AllSound, AllSound-append, all_in_bits, bit_count, sound_size}
 
 -- ---- the start
@@ -26,11 +21,12 @@ unfolding row shapes anchors corner_before is_anchor is_left_out is_in_square ri
 gives_shapes Side10 = refl
 gives_shapes _ = refl
 
--- ---- the words so far
+-- ---- the codewords so far
 
 -- one step more
 pub walked_more : (s : Size) (w w' : Walk) (shape : Option Shape) (places places' : List ℕ) → HasWalked s w places
-    → Steps w w' shape → places' ≡ places ++ map (place_of (mapping s)) (cells_of_all (mapping s) (option_to_list shape))
+    → WalkSteps w w' shape → places' ≡ places
+    ++ map (place_of (mapping s)) (cells_of_all (mapping s) (option_to_list shape))
     → HasWalked s w' places'
 walked_more s w w' shape places places' h step e = grind (
   arith,
@@ -41,9 +37,9 @@ walked_more s w w' shape places places' h step e = grind (
       (mapping s)) (cells_of_all (mapping s) h.done) (cells_of_all (mapping s) (option_to_list shape)),
 )
 
--- the word of a step may stand where it stands
+-- the codeword of a step may stand where it stands
 pub fits_here : (s : Size) (w w' : Walk) (shape : Shape) (places : List ℕ) → HasWalked s w places
-    → Steps w w' (Some shape) → IsPlaceable (mapping s) shape
+    → WalkSteps w w' (Some shape) → IsPlaceable (mapping s) shape
 fits_here s w w' shape places h step =
     let n = mapping s in
     let a = step.ahead h.later h.ahead in
@@ -90,10 +86,11 @@ walked_in s w places k h few =
 
 -- a walk that has ended has no shape ahead
 none_ahead : (steps n : ℕ) (sweep : Sweep) (r c : ℕ) (later : List Shape)
-    → ends sweep (ltb r (n + 2) || ltb c (n + 2)) ≡ true → shapes_ahead steps n sweep r c ≡ Some later → later ≡ []
+    → walk_has_ended sweep (ltb r (n + 2) || ltb c (n + 2)) ≡ true → shapes_ahead steps n sweep r c ≡ Some later →
+    later ≡ []
 none_ahead steps n sweep r c later over e = grind arith
 
--- where the walk ends its places are those of all words
+-- where the walk ends its places are those of all codewords
 pub all_walked : (s : Size) (w : Walk) (places : List ℕ) → HasWalked s w places → is_over w ≡ true
     → places ≡ map (place_of (mapping s)) (bit_cells (mapping s))
 unfolding bit_cells

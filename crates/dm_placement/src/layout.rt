@@ -12,7 +12,7 @@ use dm_size::Size;
 use std::alloc::{AllocError, Allocator, Global};
 use std::marker::Model;
 
-/// The cell of every bit of every word of a size, as Annex F of ISO/IEC 16022:2006 places them. Each is kept as the
+/// The cell of every bit of every codeword of a size, as Annex F of ISO/IEC 16022:2006 places them. Each is kept as the
 /// place of its module, row by row.
 #[derive(Drop)]
 pub struct Layout<A: Allocator = Global> {
@@ -28,7 +28,7 @@ impl<A: Allocator> Model for Layout<A> {
     ghost invariant = { λ l. l.places.items ≡ map (place_of (mapping l.size)) (bit_cells (mapping l.size)) };
 }
 
-/// Goes one step on, and gives the places of the word that comes there, if any.
+/// Goes one step on, and gives the places of the codeword that comes there, if any.
 #[inline(always)]
 pub(crate) fn places_of_step(size: Size, walk: &mut Walk) -> Option<[u16; 8]>
     requires walked { (places : List ℕ) × HasWalked size walk.old places }
@@ -68,8 +68,8 @@ impl<A: Allocator> Layout<A> {
         self.size
     }
 
-    /// The row and the column, both from 0, at which a bit of a word stands. Words count from 0, and bits from 1,
-    /// the most significant one, to 8.
+    /// The row and the column, both from 0, at which a bit of a codeword stands. Codewords count from 0, and bits from
+    /// 1, the most significant one, to 8.
     pub fn cell(&self, word: usize, bit: u8) -> (u16, u16)
         requires { IsBit self.now word bit }
         ensures row { result.0 ≡ (cell self.now word bit).row }

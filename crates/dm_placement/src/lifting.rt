@@ -1,4 +1,4 @@
-//! The words that a mapping matrix holds.
+//! The codewords that a mapping matrix holds.
 
 ghost use Rattle.std.specs.Prelude.{◌≡◌, ◌<◌, ◌≤◌, ◌+◌, ◌*◌, All, IfOk, length};
 ghost use Rattle.dm_size.specs.Sizes.{mapping, all_words};
@@ -11,10 +11,10 @@ use arrayvec::ArrayVec;
 use dm_size::{Matrix, Size};
 use std::alloc::{AllocError, Allocator};
 
-/// The most words of a symbol: those of side 132.
+/// The most codewords of a symbol: those of side 132.
 pub const MOST_WORDS: usize = 1800;
 
-// The word whose bits stand at eight places of a list, from index `from` on, among these modules.
+// The codeword whose bits stand at eight places of a list, from index `from` on, among these modules.
 #[inline(always)]
 fn word_at(places: &[u16], from: usize, modules: &[bool]) -> u8
     requires room { from + 8 ≤ length places.now }
@@ -28,7 +28,7 @@ fn word_at(places: &[u16], from: usize, modules: &[bool]) -> u8
     word
 }
 
-/// The words that the modules of a mapping matrix hold, row by row, by a walk of its own. It takes no memory.
+/// The codewords that the modules of a mapping matrix hold, row by row, by a walk of its own. It takes no memory.
 pub fn words_of(size: Size, modules: &[bool]) -> ArrayVec<u8, MOST_WORDS>
     requires whole { length modules.now ≡ mapping size * mapping size }
     ensures lifted { result.items ≡ lifted size (record { side = mapping size; modules = modules.now }) }
@@ -44,8 +44,8 @@ pub fn words_of(size: Size, modules: &[bool]) -> ArrayVec<u8, MOST_WORDS>
     words
 }
 
-/// The words that a mapping matrix holds, each bit read at its cell by Annex F of ISO/IEC 16022:2006: a dark module is
-/// a bit 1. Free cells hold no bit.
+/// The codewords that a mapping matrix holds, each bit read at its cell by Annex F of ISO/IEC 16022:2006: a dark module
+/// is a bit 1. Free cells hold no bit.
 ///
 /// # Errors
 /// Where the allocator refuses its memory.
@@ -65,7 +65,7 @@ pub fn lift<A: Allocator + Copy>(
 /// `lift`, by a layout made before.
 ///
 /// # Errors
-/// Where the allocator refuses the words' memory.
+/// Where the allocator refuses the codewords' memory.
 pub fn lift_with<A: Allocator>(
     alloc: A,
     layout: &Layout<A>,

@@ -1,4 +1,4 @@
-//! The mapping matrix of the words of a symbol.
+//! The mapping matrix of the codewords of a symbol.
 
 ghost use Rattle.std.specs.Prelude.{◌≡◌, IfOk, length};
 ghost use Rattle.dm_size.specs.Sizes.{all_words};
@@ -25,8 +25,8 @@ fn blank<A: Allocator>(alloc: A, side: u16) -> Result<Matrix<A>, AllocError>
     Ok(matrix)
 }
 
-/// The mapping matrix of all words of a symbol, data words first, by Annex F of ISO/IEC 16022:2006: a bit 1 is a dark
-/// module.
+/// The mapping matrix of all codewords of a symbol, data codewords first, by Annex F of ISO/IEC 16022:2006: a bit 1 is
+/// a dark module.
 ///
 /// # Errors
 /// Where the allocator refuses its memory.
@@ -58,7 +58,7 @@ pub fn place_with<A: Allocator>(
     let places = layout.places();
     for k in 0..words.len() {
         let bits = bits_of(words[k]);
-        // the bits of a word in a loop of their own, which the compiler writes out
+        // the bits of a codeword in a loop of their own, which the compiler writes out
         for b in 0..8usize {
             matrix.make(places[8 * k + b] as usize, bits[b]);
         }

@@ -1,4 +1,4 @@
-//! The shapes in which the eight bits of a word stand on the mapping matrix.
+//! The shapes in which the eight bits of a codeword stand on the mapping matrix.
 
 ghost use Rattle.std.specs.Prelude.{◌≡◌, ◌<◌, ◌≤◌, ◌+◌, ◌*◌, map};
 ghost use Rattle.dm_placement.specs.Placement.{cell_from_anchor, shape_cells, place_of};
@@ -11,8 +11,8 @@ pub struct Cell {
     pub column: u16,
 }
 
-/// The shape of a word: the plain one at its anchor, or one of the two that span two corners. The third and the fourth
-/// corner shape of Annex F occur in rectangles only.
+/// The shape of a codeword: the plain one at its anchor, or one of the two that span two corners. The third and the
+/// fourth corner shape of Annex F occur in rectangles only.
 #[derive(Clone, Copy, Debug, PartialEq, Eq)]
 pub enum Shape {
     Plain(Cell),
@@ -75,7 +75,7 @@ fn place_from_anchor(side: u16, anchor: Cell, up: u16, left: u16) -> u16
     place_at(side, cell.row, cell.column)
 }
 
-// Where the bits of a word of the plain shape stand whose anchor is two rows and two columns or more inside of the
+// Where the bits of a codeword of the plain shape stand whose anchor is two rows and two columns or more inside of the
 // matrix, so that none of them wraps.
 #[inline(always)]
 fn places_inside(side: u16, anchor: Cell) -> [u16; 8]
@@ -97,7 +97,7 @@ fn places_inside(side: u16, anchor: Cell) -> [u16; 8]
     ]
 }
 
-/// Where bits 1 to 8 of a word stand, row by row.
+/// Where bits 1 to 8 of a codeword stand, row by row.
 #[inline(always)]
 #[tactic(auto, unfolding(crate::specs::Placement::shape_cells))]
 pub(crate) fn places_of(side: u16, shape: Shape) -> [u16; 8]

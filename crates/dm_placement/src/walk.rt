@@ -6,7 +6,7 @@ ghost use Rattle.std.specs.Prelude.{◌≡◌, false};
 ghost use Rattle.std.specs.Option.{option_to_list};
 ghost use Rattle.dm_size.specs.Sizes.{mapping};
 ghost use Rattle.dm_placement.specs.Placement.{is_left_out, shapes};
-ghost use Rattle.dm_placement.specs.inner.Places.{IsSideSound, IsAhead, IsNearby, Steps, corner_at, is_over, word_at};
+ghost use Rattle.dm_placement.specs.inner.Places.{IsSideSound, IsAhead, IsNearby, WalkSteps, corner_at, is_over, word_at};
 
 use crate::shape::{Cell, Shape};
 use dm_size::Size;
@@ -32,7 +32,7 @@ pub(crate) struct Walk {
     column: usize,
 }
 
-// Whether a cell is one of the two that no word has as its anchor, since the second corner shape stands there.
+// Whether a cell is one of the two that no codeword has as its anchor, since the second corner shape stands there.
 #[inline(always)]
 #[tactic(auto, unfolding(crate::specs::Placement::is_left_out))]
 fn is_left_out(side: u16, cell: Cell) -> bool
@@ -59,7 +59,7 @@ fn corner_at(side: usize, row: usize, column: usize) -> Option<Shape>
     }
 }
 
-// The word at a position of the walk, if any.
+// The codeword at a position of the walk, if any.
 #[inline(always)]
 #[tactic(auto, unfolding(crate::specs::inner::Places::word_at))]
 fn word_at(side: usize, row: usize, column: usize) -> Option<Shape>
@@ -106,13 +106,13 @@ impl Walk {
         }
     }
 
-    /// Goes one step on, and gives the shape of the word that it places, if any.
+    /// Goes one step on, and gives the shape of the codeword that it places, if any.
     #[inline(always)]
     pub(crate) fn step(&mut self) -> Option<Shape>
         requires side { IsSideSound self.old.side }
         requires nearby { IsNearby self.old }
         requires goes_on { is_over self.old ≡ false }
-        ensures { Steps self.old self.new result }
+        ensures { WalkSteps self.old self.new result }
     {
         match self.sweep {
             Sweep::Start => {

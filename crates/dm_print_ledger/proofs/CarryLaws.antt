@@ -7,13 +7,13 @@ use Rattle.dm_encodation.specs.declared.scheme.Scheme.{Scheme}
 use Rattle.dm_append_label.specs.Labels.{AreEnds, parts_from}
 use Rattle.dm_print_ledger.specs.declared.fault.PrintFault.{PrintFault}
 use Rattle.dm_print_ledger.specs.declared.fault.PrintFault.TheVariants as printing
-use Rattle.dm_print_ledger.specs.Verdicts.{Carries, IsInOrder, MayLackMemory, Saves, least, IsJobOf, IsMade, Prints, print_verdict}
+use Rattle.dm_print_ledger.specs.Verdicts.{CarriesOut, PrinterIsInOrder, MayLack, SavesLedger, least, IsJobOf, IsMade, Prints, print_verdict}
 use Rattle.dm_print_ledger.specs.Ledger.{is_sound, JobView, LedgerView, PrinterView}
 
 -- a running printer refuses
 pub refuses : {X F : Type 0} (failed memory save : F) (may_lack : Type 0) (verdict : Result LedgerView F)
-    (old : PrinterView) (fault : F) → old.is_failed ≡ false → IsInOrder old → verdict ≡ Err fault →
-    (let result : Result X F = Err fault in Carries failed memory save may_lack verdict old result old)
+    (old : PrinterView) (fault : F) → old.is_failed ≡ false → PrinterIsInOrder old → verdict ≡ Err fault →
+    (let result : Result X F = Err fault in CarriesOut failed memory save may_lack verdict old result old)
 refuses failed memory save may_lack verdict old fault running order e = grind arith
 
 -- a document with parts, where no number is free
@@ -21,7 +21,7 @@ pub none_free : (old : LedgerView) → length old.free ≡ 0 →
     print_verdict old true ≡ Err printing.Exhausted
 none_free old none = cond-true (length old.free == 0) _ _ (eq-eqb _ _ none)
 
--- the job was made, with the ends and the identification as the code has them
+-- the job was made, with the ends and the ID as the code has them
 pub made_by : (ledger : LedgerView) (size : Size) (scheme : Scheme) (id : ℕ) (document given ends : List ℕ)
     (job : JobView) → given ≡ ends → id ≡ least ledger.free →
     IsJobOf size scheme id (parts_from document 0 given) job → IsMade ledger size scheme document (Some ends) job
@@ -29,17 +29,17 @@ made_by ledger size scheme id document given ends job e is made = grind arith
 
 -- what may lack memory where the store may, may lack it
 pub may_lack : {X F : Type 0} (memory save : F) (next : LedgerView) (old : PrinterView) (result : Result X F)
-    (new : PrinterView) → Saves (MayLackMemory old) memory save next old result new
-    → Saves (Unit {0}) memory save next old result new
+    (new : PrinterView) → SavesLedger (MayLack old) memory save next old result new
+    → SavesLedger (Unit {0}) memory save next old result new
 may_lack memory save next old (Ok x) new saves = saves
 may_lack memory save next old (Err fault) new (inl lacked) = inl (lacked.0, tt, lacked.2)
 may_lack memory save next old (Err fault) new (inr failed) = inr failed
 
--- the job of a document was made, and the save of its identification as used has ended so
+-- the job of a document was made, and the save of its ID as used has ended so
 pub prints : (old : PrinterView) (size : Size) (scheme : Scheme) (document ends : List ℕ) (next : LedgerView)
-    (result : Result JobView PrintFault) (new : PrinterView) → old.is_failed ≡ false → IsInOrder old →
+    (result : Result JobView PrintFault) (new : PrinterView) → old.is_failed ≡ false → PrinterIsInOrder old →
     AreEnds size scheme document ends → Ok next ≡ print_verdict old.ledger true → is_sound next ≡ true →
-    Saves (Unit {0}) printing.Memory printing.Save next old result new →
+    SavesLedger (Unit {0}) printing.Memory printing.Save next old result new →
     IfOk result (IsMade old.ledger size scheme document (Some ends)) →
     (result ≡ Err printing.Save → (job : JobView) × IsMade old.ledger size scheme document (Some ends) job) →
     Prints old size scheme document result new

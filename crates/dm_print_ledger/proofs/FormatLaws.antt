@@ -3,8 +3,7 @@ use Rattle.std.proofs.Common.{◌≡◌, ◌≤◌, ◌<◌, ◌+◌, ◌-◌, �
 use Rattle.std.specs.List.{flat_map}
 use Rattle.std.proofs.lemmas.List.{get_or_at, get_or-append-add}
 use Rattle.dm_print_ledger.proofs.Rising.{IsSound}
-use Rattle.dm_print_ledger.specs.declared.range.Range.{Range}
-use Rattle.dm_print_ledger.specs.declared.giver.Giver.{Giver}
+use Rattle.dm_print_ledger.specs.declared.{range.Range.Range, giver.Giver.Giver}
 use Rattle.dm_print_ledger.specs.Ledger.{LedgerView, free_count, ledger_bytes, range_bytes, giver_bytes, number_in, two_bytes, pairs_in, make_range, make_giver, range_count, giver_count, numbers_in}
 
 -- a number is that of its two bytes

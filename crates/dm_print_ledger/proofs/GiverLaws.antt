@@ -1,10 +1,9 @@
 -- Givers, of which one is noted.
-use Rattle.dm_print_ledger.specs.Verdicts.{Notes}
+use Rattle.dm_print_ledger.specs.{Verdicts.NotesSerial, declared.giver.Giver.Giver}
 use Rattle.std.proofs.Common.{◌≡◌, ◌+◌, ◌≤◌, ◌<◌, ◌⊎◌, inl, inr, ℕ, Bool, true, false, Some, List, [], ◌∷◌, refl, sym, ◌∙◌, ap, subst, arith}
 use Rattle.std.specs.Prelude.{◌==◌, if◌then◌else◌}
 use Rattle.std.proofs.lemmas.Bool.{eq-eqb, ne_eqb, cond-true, cond-false, eqb-true, cases_eq}
 use Rattle.dm_print_ledger.proofs.Rising.{GiversFrom, givers_test}
-use Rattle.dm_print_ledger.specs.declared.giver.Giver.{Giver}
 use Rattle.dm_print_ledger.specs.Ledger.{last_taken, givers_with}
 
 -- after a giver below the new one comes what the rest gives
@@ -89,5 +88,5 @@ with_last from (giver ∷ givers) last other rise =
 -- the noted list notes
 pub notes : (givers : List Giver) (number serial : ℕ) → GiversFrom 0 givers →
     (let last : Giver = record { number = number; serial = serial } in
-    Notes givers number serial (givers_with givers last))
+    NotesSerial givers number serial (givers_with givers last))
 notes givers number serial rise = grind (arith, givers_test, with_rise, with_last)

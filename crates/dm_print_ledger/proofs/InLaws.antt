@@ -3,7 +3,7 @@ use Rattle.std.proofs.Common.{◌≡◌, ◌+◌, ◌≤◌, ◌<◌, ◌⊎◌,
 use Rattle.std.specs.List.{list_any}
 use Rattle.std.specs.Prelude.{nat_lt, if◌then◌else◌}
 use Rattle.std.proofs.lemmas.Bool.{leb-true, lt-ltb, le-ltb, or_left, or_right, or_cases, or_parts, and_parts, cond-true, cond-false, cases_lt}
-use Rattle.dm_print_ledger.specs.Verdicts.{AreTaken, PutsIn, meets, hull, union_of}
+use Rattle.dm_print_ledger.specs.Verdicts.{AreTaken, PutsIn, meets, hull, union_with_range}
 use Rattle.dm_print_ledger.proofs.Rising.{IsRange, RiseFrom, rise_test}
 use Rattle.dm_print_ledger.specs.declared.range.Range.{Range}
 use Rattle.dm_print_ledger.specs.Ledger.{is_in, is_free, free_count, size_of}
@@ -161,7 +161,7 @@ touch_in from one ranges new range rise some near near' inner = record {
 -- the ranges with one more
 in_from_all : (from : ℕ) (ranges : List Range) (range : Range) → RiseFrom from ranges → from ≤ range.first →
     IsRange range →
-    IsIn from ranges range (union_of ranges range)
+    IsIn from ranges range (union_with_range ranges range)
 in_from_all from [] range rise low is = grind arith
 in_from_all from (one ∷ ranges) range rise low is =
     let some : range.first ≤ range.last = is.not_empty in
@@ -169,23 +169,23 @@ in_from_all from (one ∷ ranges) range rise low is =
     let some' : one.first ≤ one.last = rise.1.not_empty in
     let most' : one.last ≤ 64515 = rise.1.within in
     let low' : from ≤ one.first = rise.0 in
-    let rest : List Range = if nat_lt (range.last + 1) one.first then range ∷ one ∷ ranges else union_of ranges
+    let rest : List Range = if nat_lt (range.last + 1) one.first then range ∷ one ∷ ranges else union_with_range ranges
     (hull one range) in
     let P : List Range → Type 0 = λ new. IsIn from (one ∷ ranges) range new in
     elim (cases_lt (one.last + 1) range.first) [
       | inl past ↦
           let l : one.last + 2 ≤ range.first = omega arith in
-          subst P (sym (cond-true (nat_lt (one.last + 1) range.first) (one ∷ union_of ranges range) rest
+          subst P (sym (cond-true (nat_lt (one.last + 1) range.first) (one ∷ union_with_range ranges range) rest
           (lt-ltb _ _ past)))
-          (past_in from one ranges (union_of ranges range) range rise
+          (past_in from one ranges (union_with_range ranges range) range rise
           (in_from_all (one.last + 2) ranges range rise.2 l is))
       | inr near ↦
-          subst P (sym (cond-false (nat_lt (one.last + 1) range.first) (one ∷ union_of ranges range) rest
+          subst P (sym (cond-false (nat_lt (one.last + 1) range.first) (one ∷ union_with_range ranges range) rest
           (le-ltb _ _ near)))
           (elim (cases_lt (range.last + 1) one.first) [
             | inl before ↦
                 subst P (sym (cond-true (nat_lt (range.last + 1) one.first)
-                (range ∷ one ∷ ranges) (union_of ranges (hull one range))
+                (range ∷ one ∷ ranges) (union_with_range ranges (hull one range))
                 (lt-ltb _ _ before)))
                 (before_in from one ranges range rise low is before)
             | inr near' ↦
@@ -193,20 +193,21 @@ in_from_all from (one ∷ ranges) range rise low is =
                 let l : from ≤ min one.first range.first = omega arith in
                 let rest_rises : RiseFrom from ranges = rise_lower (one.last + 2) from ranges (omega arith) rise.2 in
                 subst P (sym (cond-false (nat_lt (range.last + 1) one.first)
-                (range ∷ one ∷ ranges) (union_of ranges (hull one range))
+                (range ∷ one ∷ ranges) (union_with_range ranges (hull one range))
                 (le-ltb _ _ near')))
-                (touch_in from one ranges (union_of ranges (hull one range)) range rise some near near'
+                (touch_in from one ranges (union_with_range ranges (hull one range)) range rise some near near'
                 (in_from_all from ranges (hull one range) rest_rises l h))
           ])
     ]
 
 -- the union has the numbers of the range beside the free ones
 pub puts_in : (ranges : List Range) (range : Range) → RiseFrom 0 ranges → IsRange range → AreTaken ranges range →
-    PutsIn ranges range (union_of ranges range)
+    PutsIn ranges range (union_with_range ranges range)
 puts_in ranges range rise is taken =
-    let inner : IsIn 0 ranges range (union_of ranges range) = in_from_all 0 ranges range rise (omega arith) is in
+    let inner : IsIn 0 ranges range (union_with_range ranges range) = in_from_all 0 ranges range rise (omega arith)
+    is in
     record {
-      ranges = rise_test 0 (union_of ranges range) inner.rises;
+      ranges = rise_test 0 (union_with_range ranges range) inner.rises;
       free = inner.free;
       count = inner.count taken;
     }

@@ -6,8 +6,7 @@ use Rattle.std.proofs.lemmas.Bool.{and_from, and_parts, cases_lt, le-leb, leb-fa
 use Rattle.dm_print_ledger.specs.declared.range.Range.{Range}
 use Rattle.dm_print_ledger.specs.Ledger.{are_ranges, is_free, is_in, is_range, size_of}
 use Rattle.dm_print_ledger.specs.Verdicts.{AreFree, AreLastFree, IsLongest, LastIsFound, are_free, covers, last_of, longest}
-use Rattle.dm_print_ledger.proofs.LedgerLaws.{ranges_are_numbers}
-use Rattle.dm_print_ledger.proofs.RangeTests.{free_after, free_here}
+use Rattle.dm_print_ledger.proofs.{LedgerLaws.ranges_are_numbers, RangeTests.free_after, RangeTests.free_here}
 use Rattle.dm_print_ledger.proofs.Rising.{IsRange, RiseFrom, range_fact, range_test, rise_fact}
 
 covers_from : (one range : Range) → one.first ≤ range.first → range.last ≤ one.last → covers one range ≡ true

@@ -1,13 +1,11 @@
 -- What a ledger is after a print, a ticket given, and a ticket taken.
 use Rattle.std.proofs.Common.{◌≡◌, ◌≤◌, ◌<◌, ℕ, true, false, List, [], ◌∷◌, length, refl, ap, ◌∙◌, arith}
 use Rattle.dm_print_ledger.proofs.Rising.{RiseFrom, range_fact, rise_fact, rise_test, givers_fact}
-use Rattle.dm_print_ledger.specs.declared.range.Range.{Range}
-use Rattle.dm_print_ledger.specs.declared.giver.Giver.{Giver}
+use Rattle.dm_print_ledger.specs.declared.{range.Range.Range, giver.Giver.Giver}
 use Rattle.dm_print_ledger.specs.Ledger.{is_range, are_ranges, givers_with, are_givers, is_sound}
-use Rattle.dm_print_ledger.specs.Verdicts.{without, union_of, are_free, has_free, single, least, RangesAreNumbers, FirstIsLeast, GiversAreNoted, opening}
-use Rattle.dm_print_ledger.proofs.RangeLaws.{least_free}
+use Rattle.dm_print_ledger.specs.Verdicts.{without, union_with_range, are_free, has_free, single, least, RangesAreNumbers, FirstIsLeast, GiversAreNoted, opening}
+use Rattle.dm_print_ledger.proofs.{RangeLaws.least_free, InLaws.meets_no, InLaws.puts_in, InLaws.meets_none}
 use Rattle.dm_print_ledger.proofs.OutLaws.{covered_free, covers_all, takes_out, first_out}
-use Rattle.dm_print_ledger.proofs.InLaws.{meets_no, puts_in, meets_none}
 use Rattle.dm_print_ledger.proofs.GiverLaws.{notes}
 
 -- tests and changes of lists are of numbers
@@ -59,7 +57,7 @@ given_ranges ranges new range rises is free e =
     ap are_ranges e ∙ ((ranges_are_numbers ranges range rises is).taken_out free).ranges
 
 pub taken_ranges : (ranges new : List Range) (range : Range) → are_ranges ranges ≡ true → is_range range ≡ true →
-    has_free ranges range ≡ false → new ≡ union_of ranges range → are_ranges new ≡ true
+    has_free ranges range ≡ false → new ≡ union_with_range ranges range → are_ranges new ≡ true
 taken_ranges ranges new range rises is none e =
     ap are_ranges e ∙ ((ranges_are_numbers ranges range rises is).put_in none).ranges
 

@@ -1,7 +1,6 @@
 -- Ranges without the numbers of one.
 use Rattle.std.proofs.Common.{◌≡◌, ◌+◌, ◌-◌, ◌≤◌, ◌<◌, ◌⊎◌, ℕ, Bool, true, false, ◌&&◌, not, List, [], ◌∷◌, ◌++◌, refl, sym, ◌∙◌, ap, subst, inl, inr, arith, length, min, max}
-use Rattle.std.specs.List.{list_any}
-use Rattle.std.specs.Prelude.{nat_lt}
+use Rattle.std.specs.{List.list_any, Prelude.nat_lt}
 use Rattle.std.proofs.lemmas.Bool.{leb-true, le-leb, or_cases, or_parts, and_parts, and_from, le-ltb, lt-ltb, cond-true, cond-false, cases_lt}
 use Rattle.dm_print_ledger.specs.Verdicts.{AreFree, TakesOut, covers, span, without}
 use Rattle.dm_print_ledger.proofs.Rising.{IsRange, RiseFrom, rise_test}

@@ -1,11 +1,9 @@
 -- Ranges that rise and do not touch: their least number, and how many they have.
 use Rattle.std.proofs.Common.{◌≡◌, ◌+◌, ◌-◌, ◌≤◌, ◌<◌, ℕ, true, false, List, [], ◌∷◌, refl, arith}
 use Rattle.std.proofs.lemmas.Bool.{or_from, cases_lt}
-use Rattle.dm_print_ledger.specs.Verdicts.{IsLeastFree}
-use Rattle.dm_print_ledger.proofs.Rising.{RiseFrom, rise_fact}
-use Rattle.dm_print_ledger.specs.declared.range.Range.{Range}
+use Rattle.dm_print_ledger.specs.{Verdicts.IsLeastFree, declared.range.Range.Range}
+use Rattle.dm_print_ledger.proofs.{Rising.RiseFrom, Rising.rise_fact, RangeTests.both, RangeTests.not_in_below}
 use Rattle.dm_print_ledger.specs.Ledger.{rise_from, is_free, free_count}
-use Rattle.dm_print_ledger.proofs.RangeTests.{both, not_in_below}
 
 -- no number below is free
 pub below_not_free : (from : ℕ) (ranges : List Range) (n : ℕ) → RiseFrom from ranges → n < from →

@@ -1,14 +1,10 @@
 -- What bytes are read as: a sound ledger's as that ledger, and those of which a load gave the front as the whole.
 use Rattle.std.proofs.Common.{◌≡◌, ◌≢◌, ◌<◌, ◌+◌, ◌*◌, ℕ, Bool, true, false, ◌&&◌, not, List, [], ◌∷◌, length, take, get_or, Option, Some, None, Result, Ok, Err, refl, sym, ap, ◌∙◌, arith, option_map, inl, inr, min}
 use Rattle.std.specs.Prelude.{nat_eq, nat_lt, ◌==◌, if◌then◌else◌}
-use Rattle.std.specs.Cmp.Lexicographic.{pointwise, bytes_decides}
-use Rattle.std.specs.List.{starts_with}
+use Rattle.std.specs.{Cmp.Lexicographic.pointwise, Cmp.Lexicographic.bytes_decides, List.starts_with}
 use Rattle.std.proofs.lemmas.Bool.{and_parts, and_left, and_right, le-ltb, eq-eqb, cond-true, cases_lt}
-use Rattle.std.proofs.lemmas.List.{length-take, take_all}
-use Rattle.std.proofs.lemmas.Grind.{common_steps}
-use Rattle.dm_print_ledger.specs.declared.range.Range.{Range}
-use Rattle.dm_print_ledger.specs.declared.giver.Giver.{Giver}
-use Rattle.dm_print_ledger.specs.declared.fault.OpenFault.{OpenFault}
+use Rattle.std.proofs.lemmas.{List.length-take, List.take_all, Grind.common_steps}
+use Rattle.dm_print_ledger.specs.declared.{range.Range.Range, giver.Giver.Giver, fault.OpenFault.OpenFault}
 use Rattle.dm_print_ledger.specs.declared.fault.OpenFault.TheVariants.{NotALedger, Version, Damaged}
 use Rattle.dm_print_ledger.specs.Ledger.{LedgerView, ShownView, are_givers, are_ranges, number_in, is_sound, ledger_bytes, numbers_in, pairs_in, make_range, make_giver, range_count, giver_count, shown_of, FirstLedger, first_bytes, is_first, read_first, read_second, read_ledger}
 use Rattle.dm_print_ledger.specs.Verdicts.{open_verdict, show_verdict}

@@ -1,14 +1,12 @@
 -- Ranges and givers that rise, as facts.
 use Rattle.std.proofs.Common.{arith, ◌≡◌, ◌≤◌, ◌+◌, ℕ, true, List, [], ◌∷◌, refl, length}
-use Rattle.std.specs.Prelude.{IsTrue}
-use Rattle.std.specs.List.{All}
+use Rattle.std.specs.{Prelude.IsTrue, List.All}
 use Rattle.std.proofs.lemmas.Bool.{leb-true, le-leb, and_parts, and_from}
 use Rattle.std.proofs.lemmas.List.Elements.{All-cons, All-nil}
-use Rattle.dm_print_ledger.specs.declared.range.Range.{Range}
-use Rattle.dm_print_ledger.specs.declared.giver.Giver.{Giver}
+use Rattle.dm_print_ledger.specs.declared.{range.Range.Range, giver.Giver.Giver}
 use Rattle.dm_print_ledger.specs.Ledger.{is_range, rise_from, are_ranges, givers_from, are_givers, is_sound, LedgerView}
 
--- there are numbers in a range, each of an identification
+-- there are numbers in a range, each of an ID
 pub record IsRange (range : Range) : Type 0 where
   pub not_empty : range.first ≤ range.last
   pub within : range.last ≤ 64515

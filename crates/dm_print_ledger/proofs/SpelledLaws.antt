@@ -1,13 +1,11 @@
 -- Bytes are read exactly where they are those of a sound ledger.
 use Rattle.std.proofs.Common.{◌≡◌, ◌≤◌, ℕ, Bool, true, false, ◌&&◌, List, length, get_or, Result, Ok, Err, refl, ap, ◌∙◌, subst, arith, inl, inr, ◌⊎◌}
 use Rattle.std.specs.Prelude.{nat_eq, if◌then◌else◌}
-use Rattle.std.specs.Cmp.Lexicographic.{pointwise, bytes_decides}
-use Rattle.std.specs.List.{starts_with}
+use Rattle.std.specs.{Cmp.Lexicographic.pointwise, Cmp.Lexicographic.bytes_decides, List.starts_with}
 use Rattle.std.proofs.lemmas.Bool.{and_parts, and_from, cond-true, le-ltb}
-use Rattle.dm_print_ledger.specs.declared.fault.OpenFault.{OpenFault}
-use Rattle.dm_print_ledger.specs.declared.fault.OpenFault.TheVariants.{Version, Damaged}
-use Rattle.dm_print_ledger.specs.Ledger.{ShownView, FirstLedger, Spells, ReadsWhatIsSpelled, are_in_order, first_bytes, first_in, numbers_in, read_first, read_ledger, read_second, shown_of_first}
-use Rattle.dm_print_ledger.specs.Ledger.Spells.{second, first}
+use Rattle.dm_print_ledger.specs.declared.fault.OpenFault.{OpenFault, TheVariants.Version, TheVariants.Damaged}
+use Rattle.dm_print_ledger.specs.Ledger.{ShownView, FirstLedger, SpellsLedger, ReadsWhatIsSpelled, are_in_order, first_bytes, first_in, numbers_in, read_first, read_ledger, read_second, shown_of_first}
+use Rattle.dm_print_ledger.specs.Ledger.SpellsLedger.{second, first}
 use Rattle.dm_print_ledger.proofs.ReadLaws.{by_tests, ledger_read, length-first_bytes, mark}
 
 -- ---- what is read is spelled
@@ -31,24 +29,24 @@ one_read : (t : Bool) (one other : Result ShownView OpenFault) (shown : ShownVie
 one_read true one other shown e = inl e
 one_read false one other shown e = inr e
 
-first_spelled : (bytes : List ℕ) (shown : ShownView) → read_first bytes ≡ Ok shown → Spells bytes shown
+first_spelled : (bytes : List ℕ) (shown : ShownView) → read_first bytes ≡ Ok shown → SpellsLedger bytes shown
 first_spelled bytes shown e =
     let read = if_read _ _ shown e in
     let are = and_parts _ _ read.0 in
-    subst (Spells bytes) read.1 (first (first_in bytes) are.0
+    subst (SpellsLedger bytes) read.1 (first (first_in bytes) are.0
     ((bytes_decides bytes (first_bytes (first_in bytes))).0 are.1))
 
-second_spelled : (bytes : List ℕ) (shown : ShownView) → read_second bytes ≡ Ok shown → Spells bytes shown
+second_spelled : (bytes : List ℕ) (shown : ShownView) → read_second bytes ≡ Ok shown → SpellsLedger bytes shown
 second_spelled bytes shown e =
     let read = if_read _ _ shown e in
     let are = and_parts _ _ read.0 in
-    subst (Spells bytes) read.1 (second (numbers_in bytes) are.0 ((bytes_decides bytes _).0 are.1))
+    subst (SpellsLedger bytes) read.1 (second (numbers_in bytes) are.0 ((bytes_decides bytes _).0 are.1))
 
 -- another version is not read
 no_version : (shown : ShownView) → (let r : Result ShownView OpenFault = Err Version in r ≡ Ok shown) → ⊥
 no_version shown e = absurd cc
 
-spelled : (bytes : List ℕ) (shown : ShownView) → read_ledger bytes ≡ Ok shown → Spells bytes shown
+spelled : (bytes : List ℕ) (shown : ShownView) → read_ledger bytes ≡ Ok shown → SpellsLedger bytes shown
 spelled bytes shown e = grind (arith, other_read, mark, one_read, first_spelled, second_spelled, no_version)
 
 -- ---- what is spelled is read
@@ -76,7 +74,7 @@ first_read l sound =
     by_tests (first_bytes l) true false 1 (Ok (shown_of_first l)) (read_second (first_bytes l)) (begins l)
     (le-ltb _ _ (let long : 5 ≤ length (first_bytes l) = omega arith in long)) (fifth l) read refl
 
-read : (bytes : List ℕ) (shown : ShownView) → Spells bytes shown → read_ledger bytes ≡ Ok shown
+read : (bytes : List ℕ) (shown : ShownView) → SpellsLedger bytes shown → read_ledger bytes ≡ Ok shown
 read bytes _ (second ledger sound e) = ap read_ledger e ∙ ledger_read ledger sound
 read bytes _ (first ledger sound e) = ap read_ledger e ∙ first_read ledger sound
 

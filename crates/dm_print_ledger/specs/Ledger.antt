@@ -1,17 +1,13 @@
 -- Ledgers: ranges of numbers, givers of tickets, what contracts see, and the bytes that are saved.
 use Rattle.std.specs.Prelude.{◌+◌, ◌-◌, ℕ, Bool, true, false, ◌&&◌, ◌||◌, List, [], ◌∷◌, nat_le, Option, Some, None, ◌==◌, nat_lt, if◌then◌else◌, ◌≡◌, ◌*◌, ◌/◌, ◌%◌, ◌↔◌, not, ◌++◌, length, slice_index, Result, Ok, Err, IsTrue, nat_eq, zero, suc}
-use Rattle.std.specs.Option.{option_map_or}
-use Rattle.std.specs.List.{flat_map, starts_with}
-use Rattle.std.specs.Cmp.Lexicographic.{pointwise}
-use Rattle.dm_print_ledger.specs.declared.range.Range.{Range}
+use Rattle.std.specs.{Option.option_map_or, List.flat_map, List.starts_with, Cmp.Lexicographic.pointwise}
+use Rattle.dm_print_ledger.specs.declared.{range.Range.Range, giver.Giver.Giver, fault.OpenFault.OpenFault}
 use Rattle.dm_print_ledger.specs.declared.limits.TheConstants.{GREATEST, MOST_RANGES, MOST_GIVERS, TICKET_BYTES}
-use Rattle.dm_print_ledger.specs.declared.giver.Giver.{Giver}
-use Rattle.dm_print_ledger.specs.declared.fault.OpenFault.{OpenFault}
 use Rattle.dm_print_ledger.specs.declared.fault.OpenFault.TheVariants.{NotALedger, Version, Damaged}
 use Rattle.dm_store.specs.Saved.{Saved}
 use Rattle.dm_finder_frame.specs.Frame.{GridView}
 
--- there are numbers in it, each of an identification
+-- there are numbers in it, each of an ID
 abbrev pub is_range : Range → Bool
 is_range range = nat_le range.first range.last && nat_le range.last GREATEST
 
@@ -98,7 +94,7 @@ pub record PrinterView : Type 0 where
 abbrev pub running : Saved → LedgerView → PrinterView
 running saved ledger = record { saved = saved; ledger = ledger; is_failed = false }
 
--- its identification, how many labels it had, and those that were not taken yet, in order
+-- its ID, how many labels it had, and those that were not taken yet, in order
 pub record JobView : Type 0 where
   pub id : ℕ
   pub count : ℕ
@@ -129,7 +125,7 @@ abbrev pub giver_bytes : Giver → List ℕ
 giver_bytes giver = giver.number / 256 ∷ giver.number % 256 ∷ giver.serial / 256 ∷ giver.serial % 256 ∷ []
 
 -- "DMLG", the version 2, the number, the next serial, the count of ranges and the ranges, the count of givers and the
--- givers, and as a check 65,535 less the number of free identifications
+-- givers, and as a check 65,535 less the number of free IDs
 unfoldable pub ledger_bytes : LedgerView → List ℕ
 ledger_bytes ledger =
     68 ∷ 77 ∷ 76 ∷ 71 ∷ 2 ∷ ledger.number / 256 ∷ ledger.number % 256 ∷
@@ -182,7 +178,7 @@ read_second bytes =
 
 -- ---- version 1
 
--- the identifications `first` to `last`, of which those from `next` on are free
+-- the IDs `first` to `last`, of which those from `next` on are free
 pub record FirstLedger : Type 0 where
   pub first : ℕ
   pub last : ℕ
@@ -231,15 +227,15 @@ read_ledger bytes =
     Err Version
 
 -- the bytes are those of a sound ledger of either version, which says this
-pub data Spells (bytes : List ℕ) : ShownView → Type 0 where
+pub data SpellsLedger (bytes : List ℕ) : ShownView → Type 0 where
   second : (ledger : LedgerView) → IsTrue (is_sound ledger) → bytes ≡ ledger_bytes ledger
-      → Spells bytes (shown_of ledger)
+      → SpellsLedger bytes (shown_of ledger)
   first : (ledger : FirstLedger) → IsTrue (are_in_order ledger) → bytes ≡ first_bytes ledger
-      → Spells bytes (shown_of_first ledger)
+      → SpellsLedger bytes (shown_of_first ledger)
 
 -- bytes are read exactly where they are those of a sound ledger
 abbrev pub ReadsWhatIsSpelled : Type 0
-ReadsWhatIsSpelled = (bytes : List ℕ) (shown : ShownView) → (read_ledger bytes ≡ Ok shown) ↔ Spells bytes shown
+ReadsWhatIsSpelled = (bytes : List ℕ) (shown : ShownView) → (read_ledger bytes ≡ Ok shown) ↔ SpellsLedger bytes shown
 
 -- giver, serial, receiver, first and last number, in two bytes each
 unfoldable pub ticket_bytes : TicketView → List ℕ
@@ -252,7 +248,7 @@ ticket_bytes ticket =
 abbrev pub range_in : List ℕ → Range
 range_in bytes = record { first = number_in bytes 6; last = number_in bytes 8 }
 
--- ten bytes, of which the last four spell a range of identifications
+-- ten bytes, of which the last four spell a range of IDs
 pub record AreOfTicket (bytes : List ℕ) : Type 0 where
   pub ten : length bytes ≡ TICKET_BYTES
   pub in_range : IsTrue (is_range (range_in bytes))

@@ -1,16 +1,11 @@
 -- What the creation of a printer does to a store.
 use Rattle.std.specs.Prelude.{◌≡◌, ◌⊎◌, ℕ, [], ◌∷◌, None, Result, Ok, Err, IsTrue, IsSome, IfOk, MatchBool, ◌+◌, ◌≤◌, ◌↔◌, ◌&&◌, ◌||◌, not, true, false, List, Some, ◌==◌, if◌then◌else◌, length, nat_lt, Bool, ◌-◌, ◌++◌, nat_le, min, max, Option, unwrap_or, IsSomeAnd, is_some, codes, ◌<◌, ◌≢◌, MatchOption}
-use Rattle.std.specs.Option.{option_map_or, option_or}
+use Rattle.std.specs.{Option.option_map_or, Option.option_or, List.list_any, List.Contains}
 use Rattle.dm_store.specs.Saved.{Saved, Replaces, LoadsOpen}
-use Rattle.dm_print_ledger.specs.declared.range.Range.{Range}
-use Rattle.dm_print_ledger.specs.declared.fault.CreateFault.{CreateFault}
+use Rattle.dm_print_ledger.specs.declared.{range.Range.Range, fault.CreateFault.CreateFault, giver.Giver.Giver}
 use Rattle.dm_print_ledger.specs.Ledger.{is_range, ledger_bytes, LedgerView, PrinterView, running, are_givers, givers_with, last_taken, is_old, are_ranges, is_in, is_free, free_count, size_of, TicketView, ShownView, JobView, read_ledger, is_sound}
-use Rattle.std.specs.List.{list_any, Contains}
-use Rattle.dm_print_ledger.specs.declared.giver.Giver.{Giver}
 use Rattle.dm_print_ledger.specs.declared.limits.TheConstants.{MOST_RANGES, MOST_GIVERS}
-use Rattle.dm_print_ledger.specs.declared.fault.PrintFault.{PrintFault}
-use Rattle.dm_print_ledger.specs.declared.fault.GiveFault.{GiveFault}
-use Rattle.dm_print_ledger.specs.declared.fault.TakeFault.{TakeFault}
+use Rattle.dm_print_ledger.specs.declared.fault.{PrintFault.PrintFault, GiveFault.GiveFault, TakeFault.TakeFault}
 use Rattle.dm_print_ledger.specs.declared.fault.OpenFault.{OpenFault}
 use Rattle.dm_print_ledger.specs.declared.fault.OpenFault.TheVariants.{Absent, Number, Device, Memory}
 use Rattle.dm_size.specs.declared.size.Size.{Size}
@@ -98,12 +93,12 @@ abbrev pub hull : Range → Range → Range
 hull one range = record { first = min one.first range.first; last = max one.last range.last }
 
 -- the ranges and one more, joined where they touch
-abbrev pub union_of : List Range → Range → List Range
-union_of [] range = range ∷ []
-union_of (one ∷ ranges) range =
-    if nat_lt (one.last + 1) range.first then one ∷ union_of ranges range else
+abbrev pub union_with_range : List Range → Range → List Range
+union_with_range [] range = range ∷ []
+union_with_range (one ∷ ranges) range =
+    if nat_lt (one.last + 1) range.first then one ∷ union_with_range ranges range else
     if nat_lt (range.last + 1) one.first then range ∷ one ∷ ranges else
-    union_of ranges (hull one range)
+    union_with_range ranges (hull one range)
 
 -- all numbers of the range are free
 abbrev pub AreFree : List Range → Range → Type 0
@@ -135,7 +130,7 @@ pub record AreNumbers (ranges : List Range) (range : Range) : Type 0 where
   pub all : (are_free ranges range ≡ true) ↔ AreFree ranges range
   pub none : (has_free ranges range ≡ false) ↔ AreTaken ranges range
   pub taken_out : are_free ranges range ≡ true → TakesOut ranges range (without ranges range)
-  pub put_in : has_free ranges range ≡ false → PutsIn ranges range (union_of ranges range)
+  pub put_in : has_free ranges range ≡ false → PutsIn ranges range (union_with_range ranges range)
 
 -- so it is of all ranges that rise and do not touch
 abbrev pub RangesAreNumbers : Type 0
@@ -148,7 +143,7 @@ FirstIsLeast = (one : Range) (ranges : List Range) → IsTrue (are_ranges (one �
     → IsLeastFree (one ∷ ranges) (least (one ∷ ranges))
 
 -- a ticket of this serial was the last from this printer, and all else is as before
-pub record Notes (old : List Giver) (number serial : ℕ) (new : List Giver) : Type 0 where
+pub record NotesSerial (old : List Giver) (number serial : ℕ) (new : List Giver) : Type 0 where
   pub givers : IsTrue (are_givers new)
   pub last : (other : ℕ) → last_taken new other ≡ (if number == other then Some serial else last_taken old other)
 
@@ -184,7 +179,7 @@ LastIsFound = (ranges : List Range) (count : ℕ) → IsTrue (are_ranges ranges)
 -- givers are noted, each with its last serial
 abbrev pub GiversAreNoted : Type 0
 GiversAreNoted = (givers : List Giver) (last : Giver) → IsTrue (are_givers givers)
-    → Notes givers last.number last.serial (givers_with givers last)
+    → NotesSerial givers last.number last.serial (givers_with givers last)
 
 -- what is read from what a store holds
 abbrev pub show_verdict : Option (List ℕ) → Result ShownView OpenFault
@@ -213,24 +208,24 @@ pub record LoadsLedger {X : Type 0} (saved : Saved) (verdict result : Result X O
   pub memory : result ≡ Err Memory → IsTrue saved.may_lack_memory
 
 -- a printer of this number that runs over the store, or why there is none
-abbrev pub Opens : Saved → ℕ → Result PrinterView OpenFault → Type 0
-Opens saved number (Err fault) = LoadsLedger saved (open_verdict saved.content number) (Err fault)
-Opens saved number (Ok printer) =
+abbrev pub PrinterOpens : Saved → ℕ → Result PrinterView OpenFault → Type 0
+PrinterOpens saved number (Err fault) = LoadsLedger saved (open_verdict saved.content number) (Err fault)
+PrinterOpens saved number (Ok printer) =
     LoadsLedger saved (open_verdict saved.content number) (Ok printer.ledger)
     × (printer ≡ running saved printer.ledger) × (printer.ledger.number ≡ number)
 
 -- a printer's ledger is sound, and unless a save failed its store holds it
-pub record IsInOrder (printer : PrinterView) : Type 0 where
+pub record PrinterIsInOrder (printer : PrinterView) : Type 0 where
   pub sound : IsTrue (is_sound printer.ledger)
   pub held : printer.is_failed ≡ false → HoldsLedger printer.saved printer.ledger
 
 -- The next ledger was saved, and is gone on with. Or memory was refused where it may lack, and nothing changed. Or the
 -- save met a device fault: the ledger stays, and nothing is saved any more.
-abbrev pub Saves : {X F : Type 0} → Type 0 → F → F → LedgerView → PrinterView → Result X F → PrinterView → Type 0
-Saves may_lack memory save next old (Ok _) new =
+abbrev pub SavesLedger : {X F : Type 0} → Type 0 → F → F → LedgerView → PrinterView → Result X F → PrinterView → Type 0
+SavesLedger may_lack memory save next old (Ok _) new =
     Replaces old.saved (ledger_bytes next) (Ok tt) new.saved
     × (new ≡ record old { saved = new.saved; ledger = next })
-Saves may_lack memory save next old (Err fault) new =
+SavesLedger may_lack memory save next old (Err fault) new =
     ((fault ≡ memory) × may_lack × (new ≡ old))
     ⊎ ((fault ≡ save) × Replaces old.saved (ledger_bytes next) (Err replacing.Device) new.saved
     × (new ≡ record old { saved = new.saved; is_failed = true }))
@@ -238,13 +233,13 @@ Saves may_lack memory save next old (Err fault) new =
 -- A printer that failed before answers so, and does nothing. One that runs answers a refusal and does nothing, or saves
 -- the ledger of the verdict, which is sound. The first three are the faults that each call has, and then comes where
 -- memory may lack.
-pub record Carries {X F : Type 0} (failed_before memory save : F) (may_lack : Type 0) (verdict : Result LedgerView F)
+pub record CarriesOut {X F : Type 0} (failed_before memory save : F) (may_lack : Type 0) (verdict : Result LedgerView F)
     (old : PrinterView) (result : Result X F) (new : PrinterView) : Type 0 where
-  pub in_order : IsInOrder old
+  pub in_order : PrinterIsInOrder old
   pub failed : old.is_failed ≡ true → (result ≡ Err failed_before) × (new ≡ old)
   pub refused : old.is_failed ≡ false → (fault : F) → verdict ≡ Err fault → (result ≡ Err fault) × (new ≡ old)
   pub saves : old.is_failed ≡ false → (next : LedgerView) → verdict ≡ Ok next
-      → IsTrue (is_sound next) × Saves may_lack memory save next old result new
+      → IsTrue (is_sound next) × SavesLedger may_lack memory save next old result new
 
 -- ---- a print of a document that has parts, or has none
 
@@ -271,13 +266,13 @@ ticket_of old receiver range =
     record { giver = old.number; serial = old.next_serial; receiver = receiver; range = range }
 
 -- the calls of a printer's store may be refused their memory
-abbrev pub MayLackMemory : PrinterView → Type 0
-MayLackMemory printer = IsTrue printer.saved.may_lack_memory
+abbrev pub MayLack : PrinterView → Type 0
+MayLack printer = IsTrue printer.saved.may_lack_memory
 
 -- what a printer answers to a range that it is to give, and what it is then; it takes no memory but the store's
-abbrev pub Gives : PrinterView → ℕ → Range → Result TicketView GiveFault → PrinterView → Type 0
-Gives old receiver range result new =
-    Carries giving.Failed giving.Memory giving.Save (MayLackMemory old) (give_verdict old.ledger receiver range)
+abbrev pub GivesTicket : PrinterView → ℕ → Range → Result TicketView GiveFault → PrinterView → Type 0
+GivesTicket old receiver range result new =
+    CarriesOut giving.Failed giving.Memory giving.Save (MayLack old) (give_verdict old.ledger receiver range)
     old result new
     × IfOk result (λ ticket. ticket ≡ ticket_of old.ledger receiver range)
 
@@ -292,17 +287,17 @@ take_verdict old ticket =
     if not (ticket.receiver == old.number) || ticket.giver == ticket.receiver then Err taking.Receiver else
     if is_old old.givers ticket.giver ticket.serial then Err taking.Old else
     if has_free old.free ticket.range then Err taking.Overlap else
-    if nat_lt MOST_RANGES (length (union_of old.free ticket.range)) then Err taking.Ranges else
+    if nat_lt MOST_RANGES (length (union_with_range old.free ticket.range)) then Err taking.Ranges else
     if nat_lt MOST_GIVERS (length (givers_with old.givers (giver_of ticket))) then Err taking.Givers else
     Ok (record old {
-      free = union_of old.free ticket.range;
+      free = union_with_range old.free ticket.range;
       givers = givers_with old.givers (giver_of ticket);
     })
 
 -- what a printer answers to a ticket that it is to take, and what it is then; it takes no memory but the store's
-abbrev pub Takes : PrinterView → TicketView → Result (Unit {0}) TakeFault → PrinterView → Type 0
-Takes old ticket result new =
-    Carries taking.Failed taking.Memory taking.Save (MayLackMemory old) (take_verdict old.ledger ticket) old result new
+abbrev pub TakesTicket : PrinterView → TicketView → Result (Unit {0}) TakeFault → PrinterView → Type 0
+TakesTicket old ticket result new =
+    CarriesOut taking.Failed taking.Memory taking.Save (MayLack old) (take_verdict old.ledger ticket) old result new
 
 -- ---- what ledgers and tickets show of one another
 
@@ -391,7 +386,7 @@ AreLabels size scheme id n m (part ∷ parts) (grid ∷ grids) =
 AreLabels size scheme id n m [] (grid ∷ grids) = ⊥
 AreLabels size scheme id n m (part ∷ parts) [] = ⊥
 
--- a job of which no label was taken yet, with the label of each part, under this identification
+-- a job of which no label was taken yet, with the label of each part, under this ID
 pub record IsJobOf (size : Size) (scheme : Scheme) (id : ℕ) (parts : List (List ℕ)) (job : JobView) : Type 0 where
   pub id_is : job.id ≡ id
   pub count_is : job.count ≡ length parts
@@ -421,7 +416,7 @@ pub record Prints (old : PrinterView) (size : Size) (scheme : Scheme) (document 
     (result : Result JobView PrintFault) (new : PrinterView) : Type 0 where
   pub cutting : Option (List ℕ)
   pub is_cutting : old.is_failed ≡ false → IsCutting size scheme document cutting
-  pub carries : Carries printing.Failed printing.Memory printing.Save (Unit {0})
+  pub carries : CarriesOut printing.Failed printing.Memory printing.Save (Unit {0})
       (print_verdict old.ledger (is_some cutting)) old result new
   pub made : IfOk result (IsMade old.ledger size scheme document cutting)
   pub lost : result ≡ Err printing.Save → (job : JobView) × IsMade old.ledger size scheme document cutting job

@@ -40,7 +40,7 @@ impl<A: Allocator> Job<A> {
         Job { id, count, labels }
     }
 
-    /// The identification that all its labels carry.
+    /// The ID that all its labels carry.
     pub fn id(&self) -> FileId
         ensures { result ≡ self.now.id }
     {

@@ -59,7 +59,7 @@ impl Ledger {
     ghost use Rattle.dm_print_ledger.specs.Ledger.{is_sound, free_count, is_range as test_of_range};
     ghost use Rattle.dm_print_ledger.specs.Verdicts.{least, print_verdict, give_verdict, take_verdict, ticket_of};
 
-    /// How many identifications are free.
+    /// How many IDs are free.
     pub(crate) fn left(&self) -> u32
         ensures value { result ≡ free_count self.now.free }
         ensures bound { result ≤ 64516 }

@@ -1,4 +1,4 @@
-//! Identifications that move from one printer to another.
+//! IDs that move from one printer to another.
 
 use crate::fault::{GiveFault, TakeFault};
 use crate::printer::Printer;
@@ -10,7 +10,7 @@ use std::alloc::Allocator;
 impl<S: Store, A: Allocator + Copy> Printer<S, A> {
     ghost use Rattle.std.specs.Prelude.{◌≡◌, false, IsTrue};
     ghost use Rattle.dm_print_ledger.specs.Ledger.{is_range};
-    ghost use Rattle.dm_print_ledger.specs.Verdicts.{Gives, Takes};
+    ghost use Rattle.dm_print_ledger.specs.Verdicts.{GivesTicket, TakesTicket};
 
     /// Gives the numbers of a range to another printer: they are saved as gone, and then the ticket is given.
     ///
@@ -18,7 +18,7 @@ impl<S: Store, A: Allocator + Copy> Printer<S, A> {
     /// The first that applies, in the order of `GiveFault`. After `Save` no ticket was given, and `print`, `give` and
     /// `take` answer `Failed` until the printer is closed and opened again; after all others it is as before.
     pub fn give(&mut self, receiver: u16, range: Range) -> Result<Ticket, GiveFault>
-        ensures { Gives self.old receiver range result self.new }
+        ensures { GivesTicket self.old receiver range result self.new }
     {
         if self.is_failed {
             return Err(GiveFault::Failed);
@@ -36,7 +36,7 @@ impl<S: Store, A: Allocator + Copy> Printer<S, A> {
     /// not, and `print`, `give` and `take` answer `Failed` until the printer is closed and opened again; after all
     /// others it is as before.
     pub fn take(&mut self, ticket: &Ticket) -> Result<(), TakeFault>
-        ensures takes { Takes self.old ticket.now result self.new }
+        ensures takes { TakesTicket self.old ticket.now result self.new }
         ensures range { self.old.is_failed ≡ false → IsTrue (is_range ticket.now.range) }
     {
         if self.is_failed {

@@ -16,7 +16,7 @@ pub struct OpenRefused<S: Store> {
 }
 
 impl<S: Store, A: Allocator + Copy> Printer<S, A> {
-    ghost use Rattle.dm_print_ledger.specs.Verdicts.{Opens};
+    ghost use Rattle.dm_print_ledger.specs.Verdicts.{PrinterOpens};
 
     /// The printer of a number whose ledger the store holds. A ledger of version 1 has no number and is any printer's;
     /// the next save makes it one of version 2. It takes no memory but the store's.
@@ -26,8 +26,8 @@ impl<S: Store, A: Allocator + Copy> Printer<S, A> {
     /// in this order, that applies. The store is as before.
     pub fn open(alloc: A, store: S, number: u16) -> Result<Printer<S, A>, OpenRefused<S>>
         ensures opens { MatchResult result
-            (λ printer. Opens (S.state store) number (Ok printer))
-            (λ refused. Opens (S.state store) number (Err refused.fault)) }
+            (λ printer. PrinterOpens (S.state store) number (Ok printer))
+            (λ refused. PrinterOpens (S.state store) number (Err refused.fault)) }
         ensures back { IfErr result (λ refused. S.state refused.store ≡ S.state store) }
     {
         let mut store = store;

@@ -11,7 +11,7 @@ use dm_store::{MemStore, NextSave, Store, StoreFault};
 use std::alloc::{Allocator, Global};
 use std::marker::Model;
 
-/// A printer: it prints each document under an identification of its own, and gives free identifications to other
+/// A printer: it prints each document under an ID of its own, and gives free IDs to other
 /// printers and takes them from others. Its store holds what it remembers.
 #[derive(Drop)]
 pub struct Printer<S: Store, A: Allocator + Copy = Global> {
@@ -24,33 +24,34 @@ pub struct Printer<S: Store, A: Allocator + Copy = Global> {
 
 impl<S: Store, A: Allocator + Copy> Model for Printer<S, A> {
     ghost use Rattle.dm_print_ledger.specs.Ledger.{PrinterView};
-    ghost use Rattle.dm_print_ledger.specs.Verdicts.{IsInOrder};
+    ghost use Rattle.dm_print_ledger.specs.Verdicts.{PrinterIsInOrder};
 
     ghost Value = { PrinterView };
 
     ghost view = { λ p. record { saved = S.state p.store; ledger = p.ledger; is_failed = p.is_failed } };
 
-    ghost invariant = { λ p. IsInOrder (record { saved = S.state p.store; ledger = p.ledger; is_failed = p.is_failed }) };
+    ghost invariant = { λ p. PrinterIsInOrder
+        (record { saved = S.state p.store; ledger = p.ledger; is_failed = p.is_failed }) };
 }
 
 impl<S: Store, A: Allocator + Copy> Printer<S, A> {
     ghost use Rattle.dm_print_ledger.specs.Ledger.{free_count};
     ghost use Rattle.std.specs.Prelude.{◌<◌, MatchResult};
-    ghost use Rattle.dm_print_ledger.specs.Verdicts.{AreLastFree, IsInOrder, IsLongest, MayLackMemory, Saves};
+    ghost use Rattle.dm_print_ledger.specs.Verdicts.{AreLastFree, PrinterIsInOrder, IsLongest, MayLack, SavesLedger};
 
-    /// How many identifications are free, as last known to be saved: 0 to 64,516.
+    /// How many IDs are free, as last known to be saved: 0 to 64,516.
     pub fn left(&self) -> u32
         ensures value { result ≡ free_count self.now.ledger.free }
         ensures bound { result ≤ GREATEST + 1 }
-        ensures order { IsInOrder self.now }
+        ensures order { PrinterIsInOrder self.now }
     {
         self.ledger.left()
     }
 
-    /// The last identifications, so many, that are free and follow one another.
+    /// The last IDs, so many, that are free and follow one another.
     ///
     /// # Errors
-    /// There are none, or none were asked for. It has how many the longest range of free identifications has.
+    /// There are none, or none were asked for. It has how many the longest range of free IDs has.
     pub fn last_free(&self, count: u16) -> Result<Range, u32>
         ensures { MatchResult result (AreLastFree self.now.ledger.free count)
             (λ most. IsLongest self.now.ledger.free most × (1 ≤ count → most < count)) }
@@ -83,7 +84,7 @@ impl<S: Store, A: Allocator + Copy> Printer<S, A> {
     /// `no_memory` where the store was refused its memory, `failed` where it met a device fault.
     pub(crate) fn save<F: Copy>(&mut self, next: Ledger, no_memory: F, failed: F) -> Result<(), F>
         requires { self.old.is_failed ≡ false }
-        ensures { Saves (MayLackMemory self.old) no_memory failed next self.old result self.new }
+        ensures { SavesLedger (MayLack self.old) no_memory failed next self.old result self.new }
     {
         let bytes = bytes_of(&next);
         match self.store.replace(bytes.as_slice()) {

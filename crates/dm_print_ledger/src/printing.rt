@@ -12,7 +12,7 @@ use std::alloc::Allocator;
 impl<S: Store, A: Allocator + Copy> Printer<S, A> {
     ghost use Rattle.dm_print_ledger.specs.Verdicts.{Prints};
 
-    /// Prints a document under the least free identification: all its labels are made, then the identification is
+    /// Prints a document under the least free ID: all its labels are made, then the ID is
     /// saved as used, and then the job is given.
     ///
     /// # Errors

@@ -85,7 +85,7 @@ impl Shown {
         }
     }
 
-    /// What a ticket shows: that its giver gave it, and, if it is open, that its identifications are free.
+    /// What a ticket shows: that its giver gave it, and, if it is open, that its IDs are free.
     pub fn of_ticket(ticket: Ticket, is_open: bool) -> Shown
         ensures { result ≡ shown_of_ticket ticket is_open }
     {
@@ -137,7 +137,7 @@ impl Shown {
         }
     }
 
-    /// Whether some identification is free in both.
+    /// Whether some ID is free in both.
     pub fn shares_numbers(&self, other: &Shown) -> bool
         ensures { result ≡ share_numbers self.now other.now }
     {
@@ -203,14 +203,14 @@ impl Shown {
         self.number
     }
 
-    /// How many identifications are free.
+    /// How many IDs are free.
     pub fn left(&self) -> u32
         ensures { result ≡ free_count self.now.free }
     {
         self.ledger.left()
     }
 
-    /// The free identifications, by rising number.
+    /// The free IDs, by rising number.
     pub fn free(&self) -> &[Range]
         ensures same { result.now ≡ self.now.free }
         ensures each { All (λ range. IsTrue (is_range range)) result.now }

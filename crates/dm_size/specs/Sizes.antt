@@ -4,8 +4,8 @@ use Rattle.dm_size.specs.declared.size.Size.{Size}
 use Rattle.dm_size.specs.declared.size.Size.TheVariants.{Side10, Side12, Side14, Side16, Side18, Side20, Side22, Side24, Side26, Side32, Side36, Side40, Side44, Side48, Side52, Side64, Side72, Side80, Side88, Side96, Side104, Side120, Side132}
 
 -- A row of the standard's table: the symbol's side in modules, frames included; the side of a data region
--- without its frame, and the number of regions; the numbers of data words, of check words, and of the blocks
--- in which they are interleaved.
+-- without its frame, and the number of regions; the numbers of data codewords, of error correction codewords, and of
+-- the blocks in which they are interleaved.
 pub record Row : Type 0 where
   pub side : ℕ
   pub region : ℕ
@@ -17,7 +17,7 @@ pub record Row : Type 0 where
 abbrev pub row_of : ℕ → ℕ → ℕ → ℕ → ℕ → ℕ → Row
 row_of n h r d c b = record { side = n; region = h; regions = r; data_words = d; check_words = c; blocks = b }
 
--- the table: side, region, regions, data words, check words, blocks
+-- the table: side, region, regions, data codewords, error correction codewords, blocks
 unfoldable pub row : Size → Row
 row Side10 = row_of 10 8 1 3 5 1
 row Side12 = row_of 12 10 1 5 7 1
@@ -62,7 +62,7 @@ check_words s = (row s).check_words
 abbrev pub blocks : Size → ℕ
 blocks s = (row s).blocks
 
--- all words of the symbol
+-- all codewords of the symbol
 abbrev pub all_words : Size → ℕ
 all_words s = data_words s + check_words s
 
@@ -70,19 +70,19 @@ all_words s = data_words s + check_words s
 abbrev pub IsSide : ℕ → Type 0
 IsSide n = (s : Size) × (side s ≡ n)
 
--- the data words of one block
+-- the data codewords of one block
 abbrev pub block_data : Size → ℕ
 block_data s = data_words s / blocks s
 
--- the check words of one block
+-- the error correction codewords of one block
 abbrev pub block_checks : Size → ℕ
 block_checks s = check_words s / blocks s
 
--- the words of one block, data and check words
+-- the codewords of one block, data and error correction codewords
 abbrev pub block_length : Size → ℕ
 block_length s = all_words s / blocks s
 
--- how many wrong words of one block can be put right: half its check words, rounded down
+-- how many wrong codewords of one block can be put right: half its error correction codewords, rounded down
 abbrev pub limit : Size → ℕ
 limit s = block_checks s / 2
 
@@ -95,8 +95,8 @@ abbrev pub mapping : Size → ℕ
 mapping s = across s * region s
 
 -- What holds of every size: the regions are a square of squares that just fills the symbol, the mapping
--- square has room for all words and less than one word more, and the blocks are of equal length.
-pub record IsSound (s : Size) : Type 0 where
+-- square has room for all codewords and less than one codeword more, and the blocks are of equal length.
+pub record SizeIsSound (s : Size) : Type 0 where
   -- regions
   pub smallest_region : 8 ≤ region s
   pub greatest_region : region s ≤ 24
@@ -113,7 +113,7 @@ pub record IsSound (s : Size) : Type 0 where
   pub greatest_mapping : mapping s ≤ 120
   pub even_mapping : mapping s % 2 ≡ 0
   pub fills_mapping : mapping s * mapping s / 8 ≡ all_words s
-  -- words
+  -- codewords
   pub some_data : 3 ≤ data_words s
   pub most_data : data_words s ≤ 1304
   pub most_words : all_words s ≤ 1800

@@ -126,7 +126,7 @@ impl Size {
     /// Modules along a side of the symbol, finder patterns included.
     pub fn side(self) -> u16
         ensures value { result ≡ sizes.side self }
-        ensures sound { sizes.IsSound self }
+        ensures sound { sizes.SizeIsSound self }
     {
         self.row().side
     }
@@ -134,7 +134,7 @@ impl Size {
     /// Modules along a side of one data region, without its finder pattern.
     pub fn region(self) -> u16
         ensures value { result ≡ sizes.region self }
-        ensures sound { sizes.IsSound self }
+        ensures sound { sizes.SizeIsSound self }
     {
         self.row().region
     }
@@ -142,7 +142,7 @@ impl Size {
     /// The number of data regions of the symbol.
     pub fn regions(self) -> u16
         ensures value { result ≡ sizes.regions self }
-        ensures sound { sizes.IsSound self }
+        ensures sound { sizes.SizeIsSound self }
     {
         self.row().regions
     }
@@ -150,7 +150,7 @@ impl Size {
     /// The number of regions in a row of them, and in a column.
     pub fn across(self) -> u16
         ensures value { result ≡ sizes.across self }
-        ensures sound { sizes.IsSound self }
+        ensures sound { sizes.SizeIsSound self }
     {
         self.side() / (self.region() + 2)
     }
@@ -158,23 +158,23 @@ impl Size {
     /// Modules along a side of the mapping matrix: the regions together, without their finder patterns.
     pub fn mapping(self) -> u16
         ensures value { result ≡ sizes.mapping self }
-        ensures sound { sizes.IsSound self }
+        ensures sound { sizes.SizeIsSound self }
     {
         self.across() * self.region()
     }
 
-    /// The number of data words of the symbol.
+    /// The number of data codewords of the symbol.
     pub fn data_words(self) -> usize
         ensures value { result ≡ sizes.data_words self }
-        ensures sound { sizes.IsSound self }
+        ensures sound { sizes.SizeIsSound self }
     {
         self.row().data_words as usize
     }
 
-    /// The number of check words of the symbol, those of all blocks together.
+    /// The number of error correction codewords of the symbol, those of all blocks together.
     pub fn check_words(self) -> usize
         ensures value { result ≡ sizes.check_words self }
-        ensures sound { sizes.IsSound self }
+        ensures sound { sizes.SizeIsSound self }
     {
         self.row().check_words as usize
     }
@@ -182,47 +182,48 @@ impl Size {
     /// The number of interleaved blocks of the symbol.
     pub fn blocks(self) -> usize
         ensures value { result ≡ sizes.blocks self }
-        ensures sound { sizes.IsSound self }
+        ensures sound { sizes.SizeIsSound self }
     {
         self.row().blocks as usize
     }
 
-    /// The number of all words of the symbol: its data words and its check words.
+    /// The number of all codewords of the symbol: its data codewords and its error correction codewords.
     pub fn all_words(self) -> usize
         ensures value { result ≡ sizes.all_words self }
-        ensures sound { sizes.IsSound self }
+        ensures sound { sizes.SizeIsSound self }
     {
         self.data_words() + self.check_words()
     }
 
-    /// The number of data words of each block.
+    /// The number of data codewords of each block.
     pub fn block_data(self) -> usize
         ensures value { result ≡ sizes.block_data self }
-        ensures sound { sizes.IsSound self }
+        ensures sound { sizes.SizeIsSound self }
     {
         self.data_words() / self.blocks()
     }
 
-    /// The number of check words of each block.
+    /// The number of error correction codewords of each block.
     pub fn block_checks(self) -> usize
         ensures value { result ≡ sizes.block_checks self }
-        ensures sound { sizes.IsSound self }
+        ensures sound { sizes.SizeIsSound self }
     {
         self.check_words() / self.blocks()
     }
 
-    /// The number of all words of each block: its data words and its check words.
+    /// The number of all codewords of each block: its data codewords and its error correction codewords.
     pub fn block_length(self) -> usize
         ensures value { result ≡ sizes.block_length self }
-        ensures sound { sizes.IsSound self }
+        ensures sound { sizes.SizeIsSound self }
     {
         self.all_words() / self.blocks()
     }
 
-    /// The number of wrong words in one block that can be put right: half its check words, rounded down.
+    /// The number of wrong codewords in one block that can be put right: half its error correction codewords, rounded
+    /// down.
     pub fn limit(self) -> usize
         ensures value { result ≡ sizes.limit self }
-        ensures sound { sizes.IsSound self }
+        ensures sound { sizes.SizeIsSound self }
     {
         self.block_checks() / 2
     }

@@ -6,11 +6,10 @@ use Rattle.std.specs.FinMap as map
 use Rattle.std.proofs.lemmas.Bool.{cases_eq}
 use Rattle.dm_store.specs.declared.store.StoreFault.{StoreFault}
 use Rattle.dm_store.specs.declared.store.StoreFault.TheVariants as faults
-use Rattle.dm_store.specs.Saved.{Contents, Gives, ListsKeys, LoadsKey, Settles, RemovesKey, outcome_of, Saves}
-use Rattle.dm_store.specs.Disk.{DiskState, Content, Keeps, KeepsAll, Reads, SavesFile, draft_of, contents_in, key_path, found_in, set_in}
+use Rattle.dm_store.specs.Saved.{Contents, GivesLoaded, ListsKeys, LoadsKey, Settles, RemovesKey, outcome_of, SavesIn}
+use Rattle.dm_store.specs.Disk.{DiskState, Content, KeepsFile, KeepsAll, ReadsFile, SavesFile, draft_of, contents_in, key_path, found_in, set_in}
 use Rattle.dm_store.proofs.Held.{held_at, found_is, held_same, held_kept, held_replaced, held_removed}
-use Rattle.dm_store.proofs.Names.{names_apart, draft_apart}
-use Rattle.dm_store.proofs.Saving.{by_end}
+use Rattle.dm_store.proofs.{Names.names_apart, Names.draft_apart, Saving.by_end}
 
 told : (is_honest : Bool) (content other : Content) → (IsTrue is_honest → content ≡ other) →
     (if is_honest then content else None) ≡ (if is_honest then other else None)
@@ -49,7 +48,7 @@ module _ (old new : DiskState) (folder : List ℕ) (honesty : new.is_honest ≡ 
 
     pub set_gives : {V W : Type 0} (seen : V → W) (wanted : W) (answer : Result V StoreFault) → KeepsAll old new
         → (IsTrue old.is_honest → IfOk answer (λ given. seen given ≡ wanted))
-        → Gives seen (set_in old folder) wanted answer (set_in new folder)
+        → GivesLoaded seen (set_in old folder) wanted answer (set_in new folder)
     set_gives seen wanted answer kept gives =
         record { same = set_kept kept; saved = gives; device = λ _. refl; memory = λ _. refl }
 
@@ -65,7 +64,8 @@ module _ (old new : DiskState) (folder : List ℕ) (honesty : new.is_honest ≡ 
     set_settles (Err fault) kept = set_gives (λ given. given) tt (Err fault) kept (λ _. tt)
 
     pub set_loads : {V : Type 0} (bytes : V → List ℕ) (key limit : ℕ) (answer : Result (Option V) StoreFault) →
-        key < 2 ^ 16 → KeepsAll old new → (IsTrue old.is_honest → Reads bytes old (key_path folder key) limit answer) →
+        key < 2 ^ 16 → KeepsAll old new →
+        (IsTrue old.is_honest → ReadsFile bytes old (key_path folder key) limit answer) →
         LoadsKey bytes (set_in old folder) key limit answer (set_in new folder)
     set_loads bytes key limit answer lt kept reads = set_gives (option_map bytes) _ answer kept (λ honest.
         rw (held_at (found_in old folder) (2 ^ 16) key lt, found_is old folder key honest) (reads honest))
@@ -94,7 +94,8 @@ module _ (old new : DiskState) (folder : List ℕ) (honesty : new.is_honest ≡ 
           → SavesFile old (key_path folder key) (draft_of (key_path folder key)) wanted answer new
 
       pub saves_keep : (answer : Result (Unit {0}) StoreFault) → SavesAt answer
-          → IsTrue old.is_honest → (other : ℕ) → other < 2 ^ 16 → other ≢ key → Keeps old (key_path folder other) new
+          → IsTrue old.is_honest → (other : ℕ) → other < 2 ^ 16 → other ≢ key →
+          KeepsFile old (key_path folder other) new
       saves_keep answer saves honest other other_lt apart = (saves honest).puts.others (key_path folder other)
           (names_apart folder key other lt other_lt apart) (draft_apart folder key other)
 
@@ -104,7 +105,7 @@ module _ (old new : DiskState) (folder : List ℕ) (honesty : new.is_honest ≡ 
 
       pub set_saves : (answer : Result (Unit {0}) StoreFault) → (IsErrOf answer faults.Memory → KeepsAll old new)
           → SavesAt answer
-          → Saves (set_in old folder) (with_at (contents_in old folder) key wanted) (outcome_of answer)
+          → SavesIn (set_in old folder) (with_at (contents_in old folder) key wanted) (outcome_of answer)
           (set_in new folder)
       set_saves (Ok done) refused saves = record {
         same_honesty = honesty;

@@ -1,7 +1,7 @@
 -- What each step of a save leaves under the store's name, and what the save has done where it ends at that step.
 use Rattle.std.proofs.Common.{◌≡◌, ◌⊎◌, ◌≢◌, inl, inr, ⊎_elim, ℕ, List, Some, None, Result, Ok, Err, refl, ◌∙◌}
 use Rattle.std.specs.Prelude.{IsOk, IsErr}
-use Rattle.dm_store.specs.Disk.{DiskState, Content, Keeps, KeepsAll, Puts, Renames, Removes, SyncsEntry, SavesFile}
+use Rattle.dm_store.specs.Disk.{DiskState, Content, KeepsFile, KeepsAll, PutsFile, Renames, Removes, SyncsEntry, SavesFile}
 use Rattle.dm_store.specs.declared.store.StoreFault.{StoreFault}
 
 abbrev Answer : Type 0
@@ -17,24 +17,24 @@ pub by_end : {P Q : Type 0} (made : Answer) → (IsOk made → Q) → (IsErr mad
 by_end (Ok done) ok err = inr (ok refl)
 by_end (Err fault) ok err = err refl
 
-pub keeps_on : {a b c : DiskState} {name : List ℕ} → Keeps a name b → Keeps b name c → Keeps a name c
+pub keeps_on : {a b c : DiskState} {name : List ℕ} → KeepsFile a name b → KeepsFile b name c → KeepsFile a name c
 keeps_on k l = record {
   seen = l.seen ∙ k.seen;
   synced = λ on. l.synced (k.synced on);
   left = λ content leaves. k.left content (l.left content leaves);
 }
 
-pub keeps_same : {old : DiskState} {name : List ℕ} → Keeps old name old
+pub keeps_same : {old : DiskState} {name : List ℕ} → KeepsFile old name old
 keeps_same = record { seen = refl; synced = λ on. on; left = λ content leaves. leaves }
 
 -- no name but the draft's is touched
 abbrev KeepsBut : DiskState → List ℕ → DiskState → Type 0
-KeepsBut old draft new = (other : List ℕ) → other ≢ draft → Keeps old other new
+KeepsBut old draft new = (other : List ℕ) → other ≢ draft → KeepsFile old other new
 
 module _ (old new : DiskState) (name draft : List ℕ) (wanted : Content) where
   -- a call that is answered a fault, whatever it has done
-  pub puts_told : (made answer : Answer) → (IsOk answer → IsOk made) → Puts old name draft wanted made new
-      → Puts old name draft wanted answer new
+  pub puts_told : (made answer : Answer) → (IsOk answer → IsOk made) → PutsFile old name draft wanted made new
+      → PutsFile old name draft wanted answer new
   puts_told made answer oks puts = record {
     others = puts.others;
     done = λ ok. puts.done (oks ok);
@@ -51,7 +51,7 @@ module _ (old new : DiskState) (name draft : List ℕ) (wanted : Content) where
   }
 
   -- the save ends at the call that puts the content under the name
-  pub ends_at : (made answer : Answer) → IsErr answer → Puts old name draft wanted made new
+  pub ends_at : (made answer : Answer) → IsErr answer → PutsFile old name draft wanted made new
       → SavesFile old name draft wanted answer new
   ends_at made answer err puts = let not = not_both answer err in record {
     puts = puts_told made answer (λ ok. absurd (not ok)) puts;
@@ -70,7 +70,7 @@ module _ (old new : DiskState) (name draft : List ℕ) (wanted : Content) where
   })
 
   -- or at the sync of the entry
-  pub ends_late : (mid : DiskState) (put answer : Answer) → IsOk put → Puts old name draft wanted put mid
+  pub ends_late : (mid : DiskState) (put answer : Answer) → IsOk put → PutsFile old name draft wanted put mid
       → KeepsAll mid new → SyncsEntry mid name answer new → SavesFile old name draft wanted answer new
   ends_late mid put answer ok puts still syncs =
       let entry = still name in
@@ -117,7 +117,7 @@ module _ (old new : DiskState) (name draft : List ℕ) (wanted : Content) where
 
 -- a draft that is on the disk gets the name
 pub renamed : (old new : DiskState) (name draft bytes : List ℕ) (made : Answer) → old.is_synced draft
-    → old.seen draft ≡ Some bytes → Renames old draft name made new → Puts old name draft (Some bytes) made new
+    → old.seen draft ≡ Some bytes → Renames old draft name made new → PutsFile old name draft (Some bytes) made new
 renamed old new name draft bytes made synced seen renames = record {
   others = λ other not_name not_draft. renames.others other not_draft not_name;
   done = λ ok. renames.done ok ∙ seen;
@@ -129,7 +129,7 @@ renamed old new name draft bytes made synced seen renames = record {
 
 -- a name is taken away, whatever the draft is
 pub removed : (old new : DiskState) (name draft : List ℕ) (made : Answer) → Removes old name made new
-    → Puts old name draft None made new
+    → PutsFile old name draft None made new
 removed old new name draft made removes = record {
   others = λ other not_name _. removes.others other not_name not_name;
   done = removes.done;

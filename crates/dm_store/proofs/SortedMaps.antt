@@ -1,15 +1,10 @@
 -- The entries of a map from numbers, and the finite map that they make.
 use Rattle.std.proofs.Common.{◌≡◌, ℕ, Bool, true, false, cond, T, List, [], ◌∷◌, length, Some, None, refl, sym, ap, subst, ◌∙◌}
 use Rattle.std.specs.Prelude.{◌&&◌}
-use Rattle.std.specs.Ordering.{nat_cmp, is_lt}
-use Rattle.std.specs.declared.cmp.Ordering.TheVariants.{Less}
-use Rattle.std.specs.Cmp.{nat_cmp_total, eq_by_cmp_equiv}
-use Rattle.std.specs.List.{AllByRecursion}
-use Rattle.std.specs.List.Sorted.{IsStrictlySortedBy}
-use Rattle.std.specs.Map.{lookup, keys_of}
-use Rattle.std.specs.BTreeMap.{is_at}
+use Rattle.std.specs.{Ordering.nat_cmp, Ordering.is_lt, declared.cmp.Ordering.TheVariants.Less, List.AllByRecursion}
+use Rattle.std.specs.{Cmp.nat_cmp_total, Cmp.eq_by_cmp_equiv, List.Sorted.IsStrictlySortedBy, Map.lookup, Map.keys_of}
+use Rattle.std.specs.{BTreeMap.is_at, FinMap.Entries.below_all}
 use Rattle.std.specs.FinMap.{FinMap, entries, get, insert, remove, len, from_entries, from_sorted, find, is_sorted, get-from_entries, get-from_sorted, get-insert, get-remove, entries-from_sorted, same_map, nat_cmp-IsAntisymmetric, len-entries}
-use Rattle.std.specs.FinMap.Entries.{below_all}
 
 -- two tests that pass, pass together
 both : (a b : Bool) → T a → T b → T (a && b)

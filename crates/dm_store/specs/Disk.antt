@@ -19,40 +19,40 @@ pub record DiskState : Type 1 where
   pub may_leave : List ℕ → Content → Type 0
 
 -- nothing changes under this name, and a stop leaves nothing there that it did not leave before
-pub record Keeps (old : DiskState) (name : List ℕ) (new : DiskState) : Type 0 where
+pub record KeepsFile (old : DiskState) (name : List ℕ) (new : DiskState) : Type 0 where
   pub seen : new.seen name ≡ old.seen name
   pub synced : old.is_synced name → new.is_synced name
   pub left : (content : Content) → new.may_leave name content → old.may_leave name content
 
 -- so it is of every name
 abbrev pub KeepsAll : DiskState → DiskState → Type 0
-KeepsAll old new = (name : List ℕ) → Keeps old name new
+KeepsAll old new = (name : List ℕ) → KeepsFile old name new
 
 -- A read under this name, up to the byte after the limit. `bytes` gives the list in what was read.
-abbrev pub Reads : {V : Type 0} → (V → List ℕ) → DiskState → List ℕ → ℕ → Result (Option V) StoreFault → Type 0
-Reads bytes old name limit answer =
+abbrev pub ReadsFile : {V : Type 0} → (V → List ℕ) → DiskState → List ℕ → ℕ → Result (Option V) StoreFault → Type 0
+ReadsFile bytes old name limit answer =
     IfOk answer (λ read. option_map bytes read ≡ option_map (take (limit + 1)) (old.seen name))
 
 -- A file is made under the name, in place of the one that is there, and the bytes are written to it. Nothing is said of
 -- what a stop may leave there, nor of what a write that fails leaves.
-pub record Writes (old : DiskState) (name bytes : List ℕ) (answer : Result (Unit {0}) StoreFault) (new : DiskState)
+pub record WritesFile (old : DiskState) (name bytes : List ℕ) (answer : Result (Unit {0}) StoreFault) (new : DiskState)
     : Type 0 where
-  pub others : (other : List ℕ) → other ≢ name → Keeps old other new
+  pub others : (other : List ℕ) → other ≢ name → KeepsFile old other new
   pub done : IsOk answer → new.seen name ≡ Some bytes
 
 -- The bytes of the file are brought to the disk. The file's entry in its folder is not: what a stop may leave under the
 -- name is as before. A sync that fails may lose what was written, unless it was on the disk before.
 pub record Syncs (old : DiskState) (name : List ℕ) (answer : Result (Unit {0}) StoreFault)
     (new : DiskState) : Type 0 where
-  pub others : (other : List ℕ) → other ≢ name → Keeps old other new
-  pub kept : IsOk answer ⊎ old.is_synced name → Keeps old name new
+  pub others : (other : List ℕ) → other ≢ name → KeepsFile old other new
+  pub kept : IsOk answer ⊎ old.is_synced name → KeepsFile old name new
   pub done : IsOk answer → new.is_synced name
 
 -- The file gets another name, in place of the file that had it. If its bytes are on the disk, a stop leaves under the
 -- new name what it left before, or these bytes; if they are not, nothing is said. Nothing is said of the old name.
 pub record Renames (old : DiskState) (from to : List ℕ) (answer : Result (Unit {0}) StoreFault) (new : DiskState)
     : Type 0 where
-  pub others : (other : List ℕ) → other ≢ from → other ≢ to → Keeps old other new
+  pub others : (other : List ℕ) → other ≢ from → other ≢ to → KeepsFile old other new
   pub done : IsOk answer → new.seen to ≡ old.seen from
   pub failed : IsErr answer → (new.seen to ≡ old.seen to) ⊎ (new.seen to ≡ old.seen from)
   pub synced : old.is_synced from → IsOk answer ⊎ old.is_synced to → new.is_synced to
@@ -61,9 +61,9 @@ pub record Renames (old : DiskState) (from to : List ℕ) (answer : Result (Unit
 
 -- This content is put under the name: bytes, or no file. A stop leaves there what it left before, or this content. Of
 -- a draft nothing is said.
-pub record Puts (old : DiskState) (name draft : List ℕ) (wanted : Content) (answer : Result (Unit {0}) StoreFault)
+pub record PutsFile (old : DiskState) (name draft : List ℕ) (wanted : Content) (answer : Result (Unit {0}) StoreFault)
     (new : DiskState) : Type 0 where
-  pub others : (other : List ℕ) → other ≢ name → other ≢ draft → Keeps old other new
+  pub others : (other : List ℕ) → other ≢ name → other ≢ draft → KeepsFile old other new
   pub done : IsOk answer → new.seen name ≡ wanted
   pub failed : IsErr answer → (new.seen name ≡ old.seen name) ⊎ (new.seen name ≡ wanted)
   pub synced : IsOk answer ⊎ old.is_synced name → new.is_synced name
@@ -71,7 +71,7 @@ pub record Puts (old : DiskState) (name draft : List ℕ) (wanted : Content) (an
 
 -- no file has the name any longer
 abbrev pub Removes : DiskState → List ℕ → Result (Unit {0}) StoreFault → DiskState → Type 0
-Removes old name answer new = Puts old name name None answer new
+Removes old name answer new = PutsFile old name name None answer new
 
 -- a stop leaves under this name just what a reader finds
 abbrev pub IsSettled : DiskState → List ℕ → Type 0
@@ -86,7 +86,7 @@ SyncsEntry old name answer new = IsOk answer → old.is_synced name → IsSettle
 -- what it might have left before, or this content; and once it is done, this content alone. No third name is touched.
 pub record SavesFile (old : DiskState) (name draft : List ℕ) (wanted : Content) (answer : Result (Unit {0}) StoreFault)
     (new : DiskState) : Type 0 where
-  pub puts : Puts old name draft wanted answer new
+  pub puts : PutsFile old name draft wanted answer new
   pub lasting : IsOk answer → IsSettled new name
 
 -- the name of the draft that a save under this name is written to first

@@ -1,11 +1,8 @@
 -- What contracts see of a store and of a set: what it holds, whether it does what it says, and what it may do next.
 use Rattle.std.specs.Prelude.{◌≡◌, ◌+◌, ◌⊎◌, ℕ, Bool, List, take, Option, Some, option_map, Result, Ok, Err, IfOk, IsErrOf, IsTrue, None, IsErr, IsSome, true, false, zero, suc, refl}
 use Rattle.std.specs.Ordering.{nat_cmp}
-use Rattle.dm_store.specs.declared.store.StoreFault.{StoreFault}
-use Rattle.dm_store.specs.declared.mem_store.NextSave.{NextSave}
-use Rattle.dm_store.specs.declared.fuse.Kept.{Kept}
-use Rattle.dm_store.specs.declared.fuse.Kept.TheVariants.{Old, New}
-use Rattle.dm_store.specs.declared.fuse.Turn.{Turn}
+use Rattle.dm_store.specs.declared.{store.StoreFault.StoreFault, mem_store.NextSave.NextSave, fuse.Kept.Kept}
+use Rattle.dm_store.specs.declared.fuse.{Kept.TheVariants.Old, Kept.TheVariants.New, Turn.Turn}
 use Rattle.dm_store.specs.declared.fuse.Turn.TheVariants.{Passes, Made, Stopped}
 use Rattle.std.specs.Coded.{Coded, code_by, coded×, coded_ℕ, coded_bool, coded_list, coded_option}
 use Rattle.std.specs.FinMap as map
@@ -46,7 +43,7 @@ Saved = SavedIn (Option (List ℕ))
 
 -- Before and after a load, and its answer. `seen` gives what contracts see of what was loaded: of one that is honest,
 -- this.
-pub record Gives {X V W : Type 0} (seen : V → W) (old : SavedIn X) (wanted : W) (answer : Result V StoreFault)
+pub record GivesLoaded {X V W : Type 0} (seen : V → W) (old : SavedIn X) (wanted : W) (answer : Result V StoreFault)
     (new : SavedIn X) : Type 0 where
   pub same : new ≡ old
   pub saved : IsTrue old.is_honest → IfOk answer (λ given. seen given ≡ wanted)
@@ -56,7 +53,7 @@ pub record Gives {X V W : Type 0} (seen : V → W) (old : SavedIn X) (wanted : W
 -- The store before and after a load under this limit, and its answer. `bytes` gives the list in what was loaded.
 abbrev pub Loads : {V : Type 0} → (V → List ℕ) → Saved → ℕ → Result (Option V) StoreFault → Saved → Type 0
 Loads bytes old limit answer new =
-    Gives (option_map bytes) old (option_map (take (limit + 1)) old.content) answer new
+    GivesLoaded (option_map bytes) old (option_map (take (limit + 1)) old.content) answer new
 
 -- how a replace or a remove ended
 abbrev pub outcome_of : Result (Unit {0}) StoreFault → Outcome
@@ -65,21 +62,21 @@ outcome_of (Err faults.Device) = Faulted
 outcome_of (Err faults.Memory) = Refused
 
 -- the plan allows this end of a save, and goes on to the next plan
-abbrev pub Follows : SavePlan → Outcome → SavePlan → Type 0
+abbrev pub PlanAllows : SavePlan → Outcome → SavePlan → Type 0
 -- a save that is refused for lack of memory leaves each plan
-Follows SavesFine Refused next = next ≡ SavesFine
-Follows FaultOld Refused next = next ≡ FaultOld
-Follows FaultNew Refused next = next ≡ FaultNew
+PlanAllows SavesFine Refused next = next ≡ SavesFine
+PlanAllows FaultOld Refused next = next ≡ FaultOld
+PlanAllows FaultNew Refused next = next ≡ FaultNew
 -- under a fine plan the save is done, and the plan stays
-Follows SavesFine Done next = next ≡ SavesFine
-Follows SavesFine Faulted next = ⊥
+PlanAllows SavesFine Done next = next ≡ SavesFine
+PlanAllows SavesFine Faulted next = ⊥
 -- a planned fault comes at the next save, and once
-Follows FaultOld Done next = ⊥
-Follows FaultOld Faulted next = next ≡ SavesFine
-Follows FaultNew Done next = ⊥
-Follows FaultNew Faulted next = next ≡ SavesFine
+PlanAllows FaultOld Done next = ⊥
+PlanAllows FaultOld Faulted next = next ≡ SavesFine
+PlanAllows FaultNew Done next = ⊥
+PlanAllows FaultNew Faulted next = next ≡ SavesFine
 -- an open plan allows each end, and stays
-Follows SavesOpen outcome next = next ≡ SavesOpen
+PlanAllows SavesOpen outcome next = next ≡ SavesOpen
 
 -- what is held after a device fault, where `old` was held and `new` was to be
 abbrev pub HeldAfterFault : {X : Type 0} → SavePlan → X → X → X → Type 0
@@ -89,18 +86,18 @@ HeldAfterFault SavesFine old new held = (held ≡ old) ⊎ (held ≡ new)
 HeldAfterFault SavesOpen old new held = (held ≡ old) ⊎ (held ≡ new)
 
 -- before and after a save that is to leave this content, and how it ended
-pub record Saves {X : Type 0} (old : SavedIn X) (content : X) (outcome : Outcome) (new : SavedIn X) : Type 0 where
+pub record SavesIn {X : Type 0} (old : SavedIn X) (content : X) (outcome : Outcome) (new : SavedIn X) : Type 0 where
   pub same_honesty : new.is_honest ≡ old.is_honest
   pub same_memory : new.may_lack_memory ≡ old.may_lack_memory
   pub same_load_plan : new.load_plan ≡ old.load_plan
-  pub follows : Follows old.save_plan outcome new.save_plan
+  pub follows : PlanAllows old.save_plan outcome new.save_plan
   pub done : outcome ≡ Done → IsTrue old.is_honest → new.content ≡ content
   pub refused : outcome ≡ Refused → new ≡ old
   pub faulted : outcome ≡ Faulted → IsTrue old.is_honest → HeldAfterFault old.save_plan old.content content new.content
 
 -- the store before and after a replace by these bytes, and its answer
 abbrev pub Replaces : Saved → List ℕ → Result (Unit {0}) StoreFault → Saved → Type 0
-Replaces old bytes answer new = Saves old (Some bytes) (outcome_of answer) new
+Replaces old bytes answer new = SavesIn old (Some bytes) (outcome_of answer) new
 
 -- a call was refused for lack of memory only if those of this store or set may be
 abbrev pub MayLackMemory : {X : Type 0} → SavedIn X → Result (Unit {0}) StoreFault → Type 0
@@ -116,26 +113,26 @@ SavedSet = SavedIn Contents
 
 -- The set before and after a call for its keys under this limit, and its answer. `keys` gives the list in the answer.
 abbrev pub ListsKeys : {V : Type 0} → (V → List ℕ) → SavedSet → ℕ → Result V StoreFault → SavedSet → Type 0
-ListsKeys keys old limit answer new = Gives keys old (take (limit + 1) (map.keys old.content)) answer new
+ListsKeys keys old limit answer new = GivesLoaded keys old (take (limit + 1) (map.keys old.content)) answer new
 
 -- The set before and after a load of this key, and its answer. `bytes` gives the list in what was loaded.
 abbrev pub LoadsKey : {V : Type 0} → (V → List ℕ) → SavedSet → ℕ → ℕ → Result (Option V) StoreFault → SavedSet → Type 0
 LoadsKey bytes old key limit answer new =
-    Gives (option_map bytes) old (option_map (take (limit + 1)) (map.get old.content key)) answer new
+    GivesLoaded (option_map bytes) old (option_map (take (limit + 1)) (map.get old.content key)) answer new
 
 -- The set before and after what was loaded is settled, and the answer: it may fail where a load may.
 abbrev pub Settles : SavedSet → Result (Unit {0}) StoreFault → SavedSet → Type 0
-Settles old answer new = Gives (λ done. done) old tt answer new
+Settles old answer new = GivesLoaded (λ done. done) old tt answer new
 
 -- the set before and after a save of one key's bytes, and its answer
 abbrev pub SavesKey : SavedSet → ℕ → List ℕ → Result (Unit {0}) StoreFault → SavedSet → Type 0
-SavesKey old key bytes answer new = Saves old (map.insert old.content key bytes) (outcome_of answer) new
+SavesKey old key bytes answer new = SavesIn old (map.insert old.content key bytes) (outcome_of answer) new
 
 -- The set before and after a remove of one key, and its answer. If the key isn't there nothing changes, nor do the
 -- plans, and only an open plan of saves allows a fault, that of the device.
 pub record RemovesKey
     (old : SavedSet) (key : ℕ) (answer : Result (Unit {0}) StoreFault) (new : SavedSet) : Type 0 where
-  pub there : IsSome (map.get old.content key) → Saves old (map.remove old.content key) (outcome_of answer) new
+  pub there : IsSome (map.get old.content key) → SavesIn old (map.remove old.content key) (outcome_of answer) new
   pub absent : map.get old.content key ≡ None → new ≡ old
   pub absent_done : map.get old.content key ≡ None → IsErr answer
       → (answer ≡ Err faults.Device) × (old.save_plan ≡ SavesOpen)

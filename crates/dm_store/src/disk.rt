@@ -8,7 +8,7 @@ use std::alloc::Allocator;
 /// The calls of a file system that a save needs. Each may fail. Once the machine has stopped, within a call or between
 /// two, each later call fails and changes nothing.
 pub trait Disk: Drop {
-    ghost use Rattle.dm_store.specs.Disk.{DiskState, KeepsAll, Reads, Writes, Syncs, Renames, Removes, SyncsEntry};
+    ghost use Rattle.dm_store.specs.Disk.{DiskState, KeepsAll, ReadsFile, WritesFile, Syncs, Renames, Removes, SyncsEntry};
 
     /// What the bytes that a read gives are allocated in.
     type Memory: Allocator;
@@ -26,14 +26,14 @@ pub trait Disk: Drop {
         ensures honesty { (state self.new).is_honest ≡ (state self.old).is_honest }
         ensures kept { KeepsAll (state self.old) (state self.new) }
         ensures reads { IsTrue (state self.old).is_honest
-            → Reads (λ bytes. bytes.items) (state self.old) name.now limit result };
+            → ReadsFile (λ bytes. bytes.items) (state self.old) name.now limit result };
 
     /// Makes a file under the name, in place of what is there, and writes the bytes to it.
     fn write(&mut self, name: &str, bytes: &[u8]) -> Result<(), StoreFault>
         ensures honesty { (state self.new).is_honest ≡ (state self.old).is_honest }
         ensures refused { IsErrOf result StoreFault.Memory → KeepsAll (state self.old) (state self.new) }
         ensures writes { IsTrue (state self.old).is_honest
-            → Writes (state self.old) name.now bytes.now result (state self.new) };
+            → WritesFile (state self.old) name.now bytes.now result (state self.new) };
 
     /// Brings the bytes of the file to the disk. A sync that fails may lose those that were not there before.
     fn sync(&mut self, name: &str) -> Result<(), StoreFault>

@@ -1,7 +1,7 @@
 //! A set of stores in a folder of a disk, with a file for each key.
 
 ghost use Rattle.std.specs.Prelude.{◌≡◌, ◌<◌, ◌≢◌, ◌^◌, ℕ, None, Some, Err, IsErr, IsOk, IsErrOf, IsTrue};
-ghost use Rattle.dm_store.specs.Disk.{Keeps, KeepsAll, SavesFile, IsSettled, draft_of, key_path};
+ghost use Rattle.dm_store.specs.Disk.{KeepsFile, KeepsAll, SavesFile, IsSettled, draft_of, key_path};
 
 use crate::disk::{Disk, Folders};
 use crate::file_store::{remove_file, replace_file};
@@ -119,7 +119,7 @@ impl<D: Folders, A: Allocator> StoreSet for Filed<D, AtFolder, A> {
             → SavesFile (D.state self.old.disk) (key_path self.old.path key)
             (draft_of (key_path self.old.path key)) (Some bytes.now) result (D.state self.new.disk) }
         ensures others { IsTrue (D.state self.old.disk).is_honest → (other : ℕ) → other < 2 ^ 16 → other ≢ key
-            → Keeps (D.state self.old.disk) (key_path self.old.path other) (D.state self.new.disk) }
+            → KeepsFile (D.state self.old.disk) (key_path self.old.path other) (D.state self.new.disk) }
     {
         let is_made = &mut self.kind.is_made;
         replace_key(&mut self.disk, is_made, self.path.as_str(), key, bytes)
@@ -139,7 +139,7 @@ impl<D: Folders, A: Allocator> StoreSet for Filed<D, AtFolder, A> {
         ensures no_draft { IsTrue (D.state self.old.disk).is_honest → IsOk result
             → (D.state self.new.disk).seen (draft_of (key_path self.old.path key)) ≡ None }
         ensures others { IsTrue (D.state self.old.disk).is_honest → (other : ℕ) → other < 2 ^ 16 → other ≢ key
-            → Keeps (D.state self.old.disk) (key_path self.old.path other) (D.state self.new.disk) }
+            → KeepsFile (D.state self.old.disk) (key_path self.old.path other) (D.state self.new.disk) }
     {
         remove_key(&mut self.disk, self.path.as_str(), key)
     }

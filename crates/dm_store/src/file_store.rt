@@ -1,7 +1,7 @@
 //! A store in a file of a disk.
 
 ghost use Rattle.std.specs.Prelude.{◌≡◌, ◌≢◌, ℕ, List, None, Some, Err, IfOk, IsOk, IsErrOf, IsSome, IsTrue};
-ghost use Rattle.dm_store.specs.Disk.{Keeps, KeepsAll, SavesFile, IsSettled, draft_of};
+ghost use Rattle.dm_store.specs.Disk.{KeepsFile, KeepsAll, SavesFile, IsSettled, draft_of};
 
 use crate::disk::Disk;
 use crate::filed::{AtFile, Filed};
@@ -27,7 +27,7 @@ fn drop_draft<D: Disk>(disk: &mut D, draft: &str) -> Result<(), StoreFault>
     ensures fault { result ≡ Err StoreFault.Device }
     ensures honesty { (D.state disk.new).is_honest ≡ (D.state disk.old).is_honest }
     ensures others { IsTrue (D.state disk.old).is_honest → (other : List ℕ) → other ≢ draft.now
-        → Keeps (D.state disk.old) other (D.state disk.new) }
+        → KeepsFile (D.state disk.old) other (D.state disk.new) }
 {
     let _ = disk.remove(draft);
     Err(StoreFault::Device)

@@ -1,7 +1,6 @@
 -- From what a command does to what its line does: where memory is refused, nothing either way.
 use Rattle.std.proofs.Common.{◌≡◌, ℕ, List, Option, Some, None, Result, Ok, Err, map, sym}
-use Rattle.relay_line.specs.Line.{named_images, saved_path}
-use Rattle.relay_line.specs.declared.line.CommandLine.{CommandLine}
+use Rattle.relay_line.specs.{Line.named_images, Line.saved_path, declared.line.CommandLine.CommandLine}
 use Rattle.relay.specs.Program.{DoesAndSaves, DoesAt, DoesFor, OrNothing, SystemView, does_and_saves, does_here}
 
 module _ (A : Type 0) (line : CommandLine) (images : List ℕ → Option (List ℕ)) (old new : SystemView) where

@@ -1,11 +1,9 @@
 -- What a buffer before a writer keeps where the writer has refused a part of it.
 use Rattle.std.proofs.Common.{false, ◌≡◌, ◌≤◌, ℕ, ◌+◌, ◌-◌, List, [], ◌++◌, Option, Some, None, length, take, drop, refl, sym, ap, ◌∙◌, append_assoc, append-nil, add-zero, arith}
-use Rattle.std.proofs.lemmas.List.{drop-take}
-use Rattle.std.proofs.Math.Seq.{take-append-add}
+use Rattle.std.proofs.{lemmas.List.drop-take, Math.Seq.take-append-add}
 use Rattle.std.specs.Io.KnownBytes.{Appends, append_known}
 use Rattle.relay_shared.specs.Command.{StreamsView}
-use Rattle.relay.specs.Buffers.{BufferView, promised}
-use Rattle.relay.specs.Program.{StandardView, streams_over}
+use Rattle.relay.specs.{Buffers.BufferView, Buffers.promised, Program.StandardView, Program.streams_over}
 
 -- of the first n items none is left behind the first n
 none_behind : (n : ℕ) (xs : List ℕ) → drop n (take n xs) ≡ []

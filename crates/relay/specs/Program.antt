@@ -1,7 +1,7 @@
 -- What a command does, from the store and the set of the file that it names, and its streams, to the exit status, the
 -- store, the set and the streams: a line for each command. What a command does not need it leaves as it was.
 use Rattle.std.specs.Prelude.{◌≡◌, ℕ, ◌++◌, List, [], Option, Bool, true, false, not, IsTrue, IsFalse, codes, string_bytes, ◌≢◌, ◌⊎◌, map, None, Some, Result, Ok, Err}
-use Rattle.std.specs.Option.{option_copied}
+use Rattle.std.specs.{Option.option_copied, Io.KnownBytes.Appends, Io.KnownBytes.Keeps}
 use Rattle.relay_command.specs.declared.command.Command.{Command}
 use Rattle.relay_command.specs.declared.command.Command.TheVariants.{Words, Draw, Read, Plan, Ticket, Ledger, Print, Give, GiveLast, Take, Left, Audit, Scan, Deliver, Forget, Export, Import, Held, Copy, World}
 use Rattle.relay_streams.specs.Streams.{TakesPart, AppendsPart, OutputView, write_fault_name}
@@ -9,22 +9,16 @@ use Rattle.relay_shared.specs.Command.{LeavesErrors, StreamsView, TellsRefusal}
 use Rattle.relay_shared.specs.declared.command.TheConstants.{DOCUMENT_BYTES}
 use Rattle.relay_desk_commands.specs.declared.import.TheConstants.{IMPORT_BYTES}
 use Rattle.relay_printer_commands.specs.declared.audit.TheConstants.{TICKETS_BYTES}
-use Rattle.relay_world_command.specs.declared.world.TheConstants.{INPUT_BYTES}
+use Rattle.relay_world_command.specs.{declared.world.TheConstants.INPUT_BYTES, World.EndsWorld}
 use Rattle.relay_symbol_commands.specs.Symbols.{EndsWords, EndsDraw, EndsRead}
 use Rattle.relay_desk_commands.specs.Desks.{OnDesk, EndsDeliver, EndsExport, EndsForget, EndsImport, EndsScan, EndsCopy, EndsHeld, DeskFiles}
 use Rattle.relay_printer_commands.specs.Printers.{EndsLeft, OnLedger, EndsLedger, EndsAudit, EndsGive, EndsGiveLast, EndsTake, ledger_at, EndsPlan, EndsPrint, EndsTicket}
-use Rattle.relay_world_command.specs.World.{EndsWorld}
 use Rattle.dm_store.specs.Disk.{draft_of, saved_under, set_in, unclaimed}
-use Rattle.relay.specs.declared.place.Access.{Access}
+use Rattle.relay.specs.declared.{place.Access.Access, place.Place.Place, locked.Found.Found}
 use Rattle.relay.specs.declared.place.Access.TheVariants.{Creates, Makes, Saves, Reads, Moves, Looks}
-use Rattle.relay.specs.declared.place.Place.{Place}
-use Rattle.relay.specs.declared.locked.Found.{Found}
-use Rattle.std.specs.Io.KnownBytes.{Appends, Keeps}
-use Rattle.dm_store.specs.Saved.{Replaces, Saved, SavedSet}
-use Rattle.dm_store.specs.declared.store.StoreFault.{StoreFault}
+use Rattle.dm_store.specs.{Saved.Replaces, Saved.Saved, Saved.SavedSet, declared.store.StoreFault.StoreFault}
 use Rattle.relay_line.specs.Line.{HasStatus, named_images, IsFound, IsNamed, saved_path}
-use Rattle.relay_line.specs.declared.line.CommandLine.{CommandLine}
-use Rattle.relay_line.specs.declared.fault.LineFault.{LineFault}
+use Rattle.relay_line.specs.declared.{line.CommandLine.CommandLine, fault.LineFault.LineFault}
 use Rattle.relay_line.specs.declared.fault.LineFault.TheVariants.{Line, Memory}
 use Rattle.relay_streams.specs.declared.fault.WriteFault.TheVariants.{Write}
 use Rattle.relay.specs.Buffers.{IsPartOut}
@@ -143,19 +137,20 @@ TellsOut name old status new = (told : OutputView)
     × TellsRefusal name (record { contents = old; has_failed = false }) status told × IsPartOut told.contents new
 
 -- nothing, or the first bytes of a note
-abbrev pub Notes : Option (List ℕ) → Option (List ℕ) → Type 0
-Notes old new = (new ≡ old) ⊎ ((note : List ℕ) × ShowsPart old new note)
+abbrev pub ShowsNote : Option (List ℕ) → Option (List ℕ) → Type 0
+ShowsNote old new = (new ≡ old) ⊎ ((note : List ℕ) × ShowsPart old new note)
 
 -- What a command has written is out, and its status is the program's. Or the output has refused a write, and the first
 -- bytes of what the command has written are out: either the status is the command's own, where the program need not say
 -- so; or it says so on the standard error, with the status 1. Of what is written there the first bytes are out.
-pub data LetsOut (says : Bool) (wrote : Option (List ℕ)) (told : OutputView) (ended status : ℕ)
+pub data PutsOut (says : Bool) (wrote : Option (List ℕ)) (told : OutputView) (ended status : ℕ)
     (out errors : Option (List ℕ)) : Type 0 where
-  lets_all_out : Keeps wrote out → status ≡ ended → IsPartOut told.contents errors → LetsOut says wrote told ended status out errors
+  lets_all_out : Keeps wrote out → status ≡ ended → IsPartOut told.contents errors →
+      PutsOut says wrote told ended status out errors
   says_nothing : says ≡ false → IsPartOut wrote out → status ≡ ended → IsPartOut told.contents errors →
-      LetsOut says wrote told ended status out errors
+      PutsOut says wrote told ended status out errors
   says_so : (after : OutputView) → IsPartOut wrote out → TellsRefusal (write_fault_name Write) told status after →
-      IsPartOut after.contents errors → LetsOut says wrote told ended status out errors
+      IsPartOut after.contents errors → PutsOut says wrote told ended status out errors
 
 -- What a command does between the standard streams, with these files before and after. The program says that the output
 -- has failed if the command has ended with 0 and has seen no write fail: so it ends with 0 only if all is out.
@@ -167,7 +162,7 @@ pub record DoesBetween (A : Type 0) (command : Command) (images : List (Option (
       (record { files = after; streams = wrote })
   pub says : Bool
   pub if_whole : wrote.output.has_failed ≡ false → ended ≡ 0 → says ≡ true
-  pub out : LetsOut says wrote.output.contents wrote.errors ended status new.output new.errors
+  pub out : PutsOut says wrote.output.contents wrote.errors ended status new.output new.errors
 
 -- ---- the paths
 
@@ -219,7 +214,7 @@ pub record DoesAt (A : Type 0) (command : Command) (images : List (Option (List 
   pub is_at : IsAt (path_of command) before old.places after new.places
   pub input : new.standard.input ≡ done.input
   pub output : new.standard.output ≡ done.output
-  pub errors : Notes done.errors new.standard.errors
+  pub errors : ShowsNote done.errors new.standard.errors
 
 abbrev pub save_fault_name : StoreFault → List ℕ
 save_fault_name faults.Device = codes "Save"
@@ -229,7 +224,7 @@ save_fault_name faults.Memory = codes "Memory"
 abbrev pub TellsSave : Result (Unit {0}) StoreFault → Option (List ℕ) → ℕ → Option (List ℕ) → Type 0
 TellsSave (Ok _) old status new = (new ≡ old) × (status ≡ 0)
 TellsSave (Err fault) old status new =
-    (told : Option (List ℕ)) × TellsOut (save_fault_name fault) old status told × Notes told new
+    (told : Option (List ℕ)) × TellsOut (save_fault_name fault) old status told × ShowsNote told new
 
 pub record SavesOutput (path bytes : List ℕ) (old : SystemView) (status : ℕ) (new : SystemView) : Type 0 where
   pub answer : Result (Unit {0}) StoreFault
@@ -284,12 +279,12 @@ Helps text old status new = (new.input ≡ old.input)
     ⊎ (ShowsPart old.output new.output text × TellsOut (write_fault_name Write) old.errors status new.errors))
 
 -- What a line that is not taken does, by its fault: a help goes to the output, why it is wrong to the standard error.
-abbrev pub Shows : LineFault → StandardView → ℕ → StandardView → Type 0
-Shows (Line text given) old status new =
+abbrev pub Informs : LineFault → StandardView → ℕ → StandardView → Type 0
+Informs (Line text given) old status new =
     (Helps (string_bytes text) old status new × (given ≡ 0))
     ⊎ (ShowsPart old.errors new.errors (string_bytes text) × (status ≡ given) × (new.input ≡ old.input)
     × (new.output ≡ old.output))
-Shows Memory old status new =
+Informs Memory old status new =
     TellsOut (codes "Memory") old.errors status new.errors × (new.input ≡ old.input) × (new.output ≡ old.output)
 
 -- What a line does whose first word after the program's name is this one: what was found on it is done, unless memory is
@@ -300,5 +295,5 @@ pub data Runs (A : Type 0) (images : List ℕ → Option (List ℕ)) (name : Opt
       Runs A images name old status new
   lacks_memory : (line : CommandLine) → IsNamed name line.command → IsFound line → LacksMemory old status new →
       Runs A images name old status new
-  shows : (fault : LineFault) → HasStatus fault → Shows fault old.standard status new.standard → new.places ≡ old.places →
-      Runs A images name old status new
+  shows : (fault : LineFault) → HasStatus fault → Informs fault old.standard status new.standard → new.places
+      ≡ old.places → Runs A images name old status new

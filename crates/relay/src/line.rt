@@ -1,8 +1,8 @@
 //! What the words of a line say, done on a system.
 
 ghost use Rattle.std.specs.Prelude.{◌≡◌, ◌⊎◌, IfOk, map, option_map, slice_get};
-ghost use Rattle.relay.specs.Program.{DoesAndSaves, DoesAt, DoesFor, Helps, LacksMemory, Notes, OrNothing, Runs};
-ghost use Rattle.relay.specs.Program.{SavesOutput, Shows, TellsOut, save_fault_name, system_at};
+ghost use Rattle.relay.specs.Program.{DoesAndSaves, DoesAt, DoesFor, Helps, LacksMemory, ShowsNote, OrNothing, Runs};
+ghost use Rattle.relay.specs.Program.{SavesOutput, Informs, TellsOut, save_fault_name, system_at};
 
 use crate::place::{named_by, refuses_on_errors};
 use crate::places::Places;
@@ -47,7 +47,7 @@ impl<I: Read + Drop, O: Write + Drop, E: Write + Drop> StandardStreams<I, O, E> 
     fn noted(self, alloc: Global, note: Option<String>) -> Self
         ensures input { result.input ≡ self.input }
         ensures output { result.output ≡ self.output }
-        ensures errors { Notes self.errors result.errors }
+        ensures errors { ShowsNote self.errors result.errors }
     {
         let Some(text) = note else {
             return self;
@@ -94,7 +94,7 @@ impl<I: Read + Drop, O: Write + Drop, E: Write + Drop> StandardStreams<I, O, E> 
 
     // Shows why a line wasn't taken, or the help that it asks for, and gives the exit status.
     fn show_fault(self, alloc: Global, fault: &LineFault) -> (u8, Self)
-        ensures { Shows fault.now self result.0 result.1 }
+        ensures { Informs fault.now self result.0 result.1 }
     {
         match fault {
             LineFault::Line { text, status: 0 } => self.show_help(alloc, text.as_str()),
@@ -117,7 +117,6 @@ impl<I: Read + Drop, O: Write + Drop, E: Write + Drop, P: Places> System<I, O, E
         command: Command,
     ) -> (Result<u8, AllocError>, Self)
         ensures { OrNothing (DoesAt Global command.entry (map F.remaining images.now))
-           
             (system_at self.standard (P.state self.places)) result.0 (system_at result.1.standard (P.state result.1.places)) }
     {
         let System {

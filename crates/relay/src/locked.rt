@@ -93,7 +93,7 @@ fn has_second_name(rt: &HostRuntime, place: &Place, file: &Metadata) -> bool {
 /// The files of one command, which its stores share: they are looked at, and locked if the command may save, at its
 /// first load. The lock is held until this is closed.
 #[derive(Drop)]
-pub(crate) struct Gate<'a> {
+pub(crate) struct CommandFiles<'a> {
     rt: &'a HostRuntime,
     pub(crate) place: Place,
     // What came of the first load: the lock, if the command takes one, or why it can't have its files.
@@ -107,10 +107,10 @@ pub(crate) struct Gate<'a> {
     pub(crate) loaded: Cell<Option<String>>,
 }
 
-impl<'a> Gate<'a> {
+impl<'a> CommandFiles<'a> {
     /// The files at a place, which were not asked for yet.
-    pub(crate) fn new(rt: &'a HostRuntime, place: Place) -> Gate<'a> {
-        Gate {
+    pub(crate) fn new(rt: &'a HostRuntime, place: Place) -> CommandFiles<'a> {
+        CommandFiles {
             rt,
             place,
             entered: OnceCell::new(),
@@ -205,19 +205,27 @@ impl<'a> Gate<'a> {
     }
 }
 
-/// The disk of a command's files, behind its gate. What the gate refuses is a device fault. It looks at the lock right
-/// before each call that makes, renames or removes.
+/// The disk of a command's files, which asks for their lock. What [`CommandFiles`] refuses is a device fault. It looks
+/// at the lock right before each call that makes, renames or removes.
 #[derive(Drop)]
 pub(crate) struct Locked<'a, D> {
     rt: &'a HostRuntime,
-    gate: Rc<Gate<'a>>,
+    command_files: Rc<CommandFiles<'a>>,
     within: D,
 }
 
 impl<'a, D> Locked<'a, D> {
-    /// A disk behind a gate.
-    pub(crate) fn new(rt: &'a HostRuntime, gate: Rc<Gate<'a>>, within: D) -> Locked<'a, D> {
-        Locked { rt, gate, within }
+    /// A disk that asks for the lock of a command's files.
+    pub(crate) fn new(
+        rt: &'a HostRuntime,
+        command_files: Rc<CommandFiles<'a>>,
+        within: D,
+    ) -> Locked<'a, D> {
+        Locked {
+            rt,
+            command_files,
+            within,
+        }
     }
 }
 
@@ -227,16 +235,16 @@ impl<D: Disk> Disk for Locked<'_, D> {
     ghost state = { λ locked. D.state locked.within };
 
     fn read(&mut self, name: &str, limit: usize) -> Result<Option<Vec<u8, D::Memory>>, StoreFault> {
-        if !self.gate.may_load(name) {
+        if !self.command_files.may_load(name) {
             return Err(StoreFault::Device);
         }
         let kept = String::from_str(self.rt.alloc(), name);
-        self.gate.loaded.set(kept.ok());
+        self.command_files.loaded.set(kept.ok());
         self.within.read(name, limit)
     }
 
     fn write(&mut self, name: &str, bytes: &[u8]) -> Result<(), StoreFault> {
-        if !self.gate.may_save() {
+        if !self.command_files.may_save() {
             return Err(StoreFault::Device);
         }
         self.within.write(name, bytes)
@@ -247,18 +255,18 @@ impl<D: Disk> Disk for Locked<'_, D> {
     }
 
     fn rename(&mut self, from: &str, to: &str) -> Result<(), StoreFault> {
-        if !self.gate.may_save() {
+        if !self.command_files.may_save() {
             return Err(StoreFault::Device);
         }
         let renamed = self.within.rename(from, to);
         if renamed.is_err() {
-            self.gate.look_at_place();
+            self.command_files.look_at_place();
         }
         renamed
     }
 
     fn remove(&mut self, name: &str) -> Result<(), StoreFault> {
-        if !self.gate.may_save() {
+        if !self.command_files.may_save() {
             return Err(StoreFault::Device);
         }
         self.within.remove(name)
@@ -275,18 +283,18 @@ impl<D: Disk> Disk for Locked<'_, D> {
 
 impl<D: Folders> Folders for Locked<'_, D> {
     fn make_folder(&mut self, folder: &str) -> Result<(), StoreFault> {
-        if !self.gate.may_save() {
+        if !self.command_files.may_save() {
             return Err(StoreFault::Device);
         }
         self.within.make_folder(folder)
     }
 
     fn keys(&mut self, folder: &str, limit: usize) -> Result<Vec<u16, D::Memory>, StoreFault> {
-        if !self.gate.may_load(folder) {
+        if !self.command_files.may_load(folder) {
             return Err(StoreFault::Device);
         }
         let keys = self.within.keys(folder, limit);
-        self.gate
+        self.command_files
             .has_no_list
             .set(matches!(&keys, Err(StoreFault::Device)));
         keys

@@ -1,6 +1,6 @@
 //! The system's own files.
 
-use crate::locked::{Gate, Locked};
+use crate::locked::{CommandFiles, Locked};
 use crate::named_images::NamedImages;
 use crate::notes::{note_of_file, note_of_folder, note_of_reason};
 use crate::place::{Access, Named, Place};
@@ -15,46 +15,43 @@ use std::rc::Rc;
 #[derive(Drop)]
 pub(crate) struct RealPlaces<'a> {
     rt: &'a HostRuntime,
-    gate: Option<Rc<Gate<'a>>>,
+    command_files: Option<Rc<CommandFiles<'a>>>,
 }
 
 impl<'a> RealPlaces<'a> {
     /// The system's files, of which none is given out.
     pub(crate) fn new(rt: &'a HostRuntime) -> RealPlaces<'a> {
-        RealPlaces { rt, gate: None }
+        RealPlaces {
+            rt,
+            command_files: None,
+        }
     }
 }
 
-// The system's disk behind a gate.
+// The system's disk, which asks for the lock of a command's files.
 type Gated<'a> = Locked<'a, RealDisk<'a, HostRuntime>>;
 
 // What the line of a refusal can't say of a command's files.
-fn note_of(
-    rt: &HostRuntime,
-    gate: &Gate<'_>,
-) -> Option<String> {
-    let (alloc, place) = (rt.alloc(), &gate.place);
-    if let Some(reason) = gate.reason.get() {
+fn note_of(rt: &HostRuntime, command_files: &CommandFiles<'_>) -> Option<String> {
+    let (alloc, place) = (rt.alloc(), &command_files.place);
+    if let Some(reason) = command_files.reason.get() {
         return note_of_reason(alloc, place, reason);
     }
-    if gate.has_no_list.get() {
+    if command_files.has_no_list.get() {
         return note_of_folder(rt, place);
     }
     if !place.is_desk || place.access == Access::Looks {
         return None;
     }
-    let path = gate.loaded.take()?;
+    let path = command_files.loaded.take()?;
     note_of_file(alloc, RealDisk::new(alloc, rt), place, path.as_str())
 }
 
 // The gate of the files that a command names.
-fn gate_of<'a>(
-    rt: &'a HostRuntime,
-    named: Named<'_>,
-) -> Result<Rc<Gate<'a>>, AllocError> {
-    let gate = Gate::new(rt, Place::of(rt, named)?);
-    match Rc::new(rt.alloc(), gate) {
-        Ok(gate) => Ok(gate),
+fn gate_of<'a>(rt: &'a HostRuntime, named: Named<'_>) -> Result<Rc<CommandFiles<'a>>, AllocError> {
+    let command_files = CommandFiles::new(rt, Place::of(rt, named)?);
+    match Rc::new(rt.alloc(), command_files) {
+        Ok(command_files) => Ok(command_files),
         Err(_) => Err(AllocError),
     }
 }
@@ -62,39 +59,35 @@ fn gate_of<'a>(
 // The ledger or the joint file behind a gate. A new ledger takes the place of nothing.
 fn file_at<'a>(
     rt: &'a HostRuntime,
-    gate: &Rc<Gate<'a>>,
+    command_files: &Rc<CommandFiles<'a>>,
 ) -> Result<FileStore<Gated<'a>>, AllocError> {
-    let path = gate.place.file.clone()?;
-    let disk = if gate.place.access == Access::Creates {
+    let path = command_files.place.file.clone()?;
+    let disk = if command_files.place.access == Access::Creates {
         RealDisk::of_new_files(rt.alloc(), rt)
     } else {
         RealDisk::new(rt.alloc(), rt)
     };
-    Ok(FileStore::new(Locked::new(rt, gate.clone()?, disk), path))
+    Ok(FileStore::new(Locked::new(rt, command_files.clone()?, disk), path))
 }
 
 // The folder behind a gate.
 fn folder_at<'a>(
     rt: &'a HostRuntime,
-    gate: &Rc<Gate<'a>>,
+    command_files: &Rc<CommandFiles<'a>>,
 ) -> Result<FileSet<Gated<'a>>, AllocError> {
-    let path = gate.place.folder.clone()?;
+    let path = command_files.place.folder.clone()?;
     let disk = RealDisk::new(rt.alloc(), rt);
-    Ok(FileSet::new(Locked::new(rt, gate.clone()?, disk), path))
+    Ok(FileSet::new(Locked::new(rt, command_files.clone()?, disk), path))
 }
 
 // Ends the lock of files that are let go, and gives what is to be said of them.
-fn close_gate(
-    rt: &HostRuntime,
-    gate: Gate<'_>,
-    status: u8,
-) -> Option<String> {
-    let note = if status != 0 || gate.reason.get().is_some() {
-        note_of(rt, &gate)
+fn close_gate(rt: &HostRuntime, command_files: CommandFiles<'_>, status: u8) -> Option<String> {
+    let note = if status != 0 || command_files.reason.get().is_some() {
+        note_of(rt, &command_files)
     } else {
         None
     };
-    gate.close();
+    command_files.close();
     note
 }
 
@@ -115,9 +108,12 @@ impl<'a> Places for RealPlaces<'a> {
     ghost is_open = { λ _ _. Unit {0} };
 
     fn open(&mut self, named: Named<'_>) -> Result<(Self::File, Self::Folder), AllocError> {
-        let gate = gate_of(self.rt, named)?;
-        let files = (file_at(self.rt, &gate)?, folder_at(self.rt, &gate)?);
-        self.gate = Some(gate);
+        let command_files = gate_of(self.rt, named)?;
+        let files = (
+            file_at(self.rt, &command_files)?,
+            folder_at(self.rt, &command_files)?,
+        );
+        self.command_files = Some(command_files);
         Ok(files)
     }
 
@@ -128,11 +124,11 @@ impl<'a> Places for RealPlaces<'a> {
         folder: Self::Folder,
         status: u8,
     ) -> Option<String> {
-        // While these live they share the gate.
+        // While these live they share the command's files.
         drop(file);
         drop(folder);
-        match Rc::try_unwrap(self.gate.take()?) {
-            Ok(gate) => close_gate(self.rt, gate, status),
+        match Rc::try_unwrap(self.command_files.take()?) {
+            Ok(command_files) => close_gate(self.rt, command_files, status),
             Err(_) => None,
         }
     }

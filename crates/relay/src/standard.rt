@@ -2,7 +2,7 @@
 
 ghost use Rattle.std.specs.Prelude.{◌≡◌, map, true, false};
 ghost use Rattle.relay.specs.Buffers.{promised};
-ghost use Rattle.relay.specs.Program.{DoesBetween, LetsOut, ShowsPart, TellsOut, files_of};
+ghost use Rattle.relay.specs.Program.{DoesBetween, PutsOut, ShowsPart, TellsOut, files_of};
 ghost use Rattle.std.specs.Io.KnownBytes.{Appends};
 
 use crate::commands::do_command;
@@ -90,7 +90,7 @@ fn let_out<A: Allocator, O: Write + Drop, E: Write + Drop>(
     ended: u8,
     says: bool,
 ) -> (u8, O, E)
-    ensures { LetsOut says (promised output) errors ended result.0 (O.contents result.1) (E.contents result.2) }
+    ensures { PutsOut says (promised output) errors ended result.0 (O.contents result.1) (E.contents result.2) }
 {
     let (output, is_all) = output.end();
     let mut told = errors;

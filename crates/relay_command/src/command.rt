@@ -15,7 +15,7 @@ pub enum Labels {
 #[rattlefmt::skip]
 #[derive(Clone, Copy, Debug, PartialEq, Eq)]
 pub enum Command<'a> {
-    /// Prints the words of a symbol.
+    /// Prints the codewords of a symbol.
     Words { side: u16, scheme: Scheme },
     /// Draws a symbol, in PBM's plain form or packed.
     Draw { side: u16, scheme: Scheme, plain: bool },
@@ -25,13 +25,13 @@ pub enum Command<'a> {
     Plan { scheme: Scheme },
     /// Says what a ticket, in either of its forms, gives.
     Ticket { ticket: &'a str },
-    /// Makes the ledger of the printer of a number, to which the identifications from first to last are free.
+    /// Makes the ledger of the printer of a number, to which the IDs from first to last are free.
     Ledger { file: &'a str, number: u16, first: u16, last: u16 },
     /// Prints a document as labels.
     Print { file: &'a str, number: u16, labels: Labels, scheme: Scheme },
-    /// Gives the identifications from first to last to the printer `to`.
+    /// Gives the IDs from first to last to the printer `to`.
     Give { file: &'a str, number: u16, to: u16, first: u16, last: u16 },
-    /// Gives the last identifications that are free in one range, so many, to the printer `to`.
+    /// Gives the last IDs that are free in one range, so many, to the printer `to`.
     GiveLast { file: &'a str, number: u16, to: u16, count: u16 },
     /// Takes a ticket, in either of its forms.
     Take { file: &'a str, number: u16, ticket: &'a str },
@@ -41,7 +41,7 @@ pub enum Command<'a> {
     Audit,
     /// Gathers scanned labels at a desk with room for `capacity` documents.
     Scan { file: &'a str, capacity: u16 },
-    /// Gives the document of an identification, whose two words are in hexadecimal, back.
+    /// Gives the document of an ID, whose two codewords are in hexadecimal, back.
     Deliver { file: &'a str, id: &'a str },
     /// Lets a document go.
     Forget { file: &'a str, id: &'a str },
@@ -49,7 +49,7 @@ pub enum Command<'a> {
     Export { file: &'a str, id: &'a str },
     /// Takes in the pages that another desk has given.
     Import { file: &'a str, capacity: u16 },
-    /// Says what the files of a desk hold: of each document, or of the one of an identification.
+    /// Says what the files of a desk hold: of each document, or of the one of an ID.
     Held { file: &'a str, id: Option<&'a str> },
     /// Draws again the label of a page, 1 to 16, that a desk holds.
     Copy { file: &'a str, id: &'a str, page: u16, side: u16, scheme: Scheme },

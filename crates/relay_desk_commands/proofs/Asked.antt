@@ -1,7 +1,7 @@
 -- What a desk answers is what its answer has as bytes.
 use Rattle.std.specs.Prelude.{◌≡◌, List, ℕ, Result, Ok, Err, IsErrAnd, MatchResult}
 use Rattle.std.proofs.Common.{ap}
-use Rattle.dm_assembly_desk.specs.Desk.{Gives}
+use Rattle.dm_assembly_desk.specs.Desk.{GivesByVerdict}
 
 -- the same answer, of what is given its bytes
 abbrev pub as_bytes : {X F : Type 0} → (X → List ℕ) → Result X F → Result (List ℕ) F
@@ -9,7 +9,8 @@ as_bytes bytes (Ok given) = Ok (bytes given)
 as_bytes bytes (Err fault) = Err fault
 
 pub gives : {X F : Type 0} (bytes : X → List ℕ) (memory : F) (verdict : Result (List ℕ) F) (answer : Result X F)
-    → Gives bytes memory verdict answer → Gives (λ (given : List ℕ). given) memory verdict (as_bytes bytes answer)
+    → GivesByVerdict bytes memory verdict answer →
+    GivesByVerdict (λ (given : List ℕ). given) memory verdict (as_bytes bytes answer)
 gives bytes memory (Ok list) (Ok given) is = is
 gives bytes memory (Ok list) (Err fault) is = is
 gives bytes memory (Err refusal) answer is = ap (as_bytes bytes) is

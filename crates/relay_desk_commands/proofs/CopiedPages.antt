@@ -8,11 +8,9 @@ use Rattle.dm_encodation.specs.declared.scheme.Scheme.{Scheme}
 use Rattle.dm_finder_frame.specs.Frame.{FrameHasNoWrongModule, wrong_frame_modules, GridView}
 use Rattle.dm_symbol.specs.Correction.{CorrectedView, CarriesItsWords, IsNear, words_of_grid}
 use Rattle.dm_symbol.proofs.NearGrids.{near_gives}
-use Rattle.dm_append_label.specs.Labels.{Carries, PageView}
-use Rattle.dm_append_label.specs.Opening.{LabelOpens, OpensAs}
-use Rattle.dm_append_label.specs.declared.fault.LabelFault.{LabelFault}
+use Rattle.dm_append_label.specs.{Labels.Carries, Labels.PageView, Opening.LabelOpens, Opening.OpensAs}
+use Rattle.dm_append_label.specs.declared.{fault.LabelFault.LabelFault, opening.Opened.Opened}
 use Rattle.dm_append_label.specs.declared.fault.LabelFault.TheVariants as labels
-use Rattle.dm_append_label.specs.declared.opening.Opened.{Opened}
 use Rattle.std.specs.FinMap.{get}
 use Rattle.dm_assembly_desk.specs.Documents.{Documents, Pages, page, page_at}
 use Rattle.relay_desk_commands.specs.Desks.{Copies, OpensAsHeld, OpensAsNoOther}
@@ -28,7 +26,7 @@ module _ (page : PageView) (grid : GridView) (label : Carries page grid) where
   none_wrong : FrameHasNoWrongModule grid.size → wrong_frame_modules grid ≡ 0
   none_wrong law = ap wrong_frame_modules label.drawn ∙ law _
 
-  -- and no word of it is corrected
+  -- and no codeword of it is corrected
   none_corrected : CarriesItsWords grid.size → {other : PageView} {corrected wrong : ℕ}
       → OpensAs grid other corrected wrong → corrected ≡ 0
   none_corrected law {other} {corrected} {wrong} opens =

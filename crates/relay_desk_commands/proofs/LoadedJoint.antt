@@ -1,13 +1,9 @@
 -- What was read of the file of an older version is so of the whole file, of which the first bytes were loaded.
 use Rattle.std.proofs.Common.{◌≡◌, ◌+◌, ℕ, List, take, Option, Some, None, Err, refl}
-use Rattle.std.specs.Prelude.{IsTrue, option_map}
-use Rattle.std.specs.FinMap.{empty, get, get-empty}
-use Rattle.std.specs.Ordering.{nat_cmp}
+use Rattle.std.specs.{Prelude.IsTrue, Prelude.option_map, FinMap.empty, FinMap.get, FinMap.get-empty, Ordering.nat_cmp}
 use Rattle.dm_store.specs.Saved.{Saved}
-use Rattle.dm_assembly_desk.specs.Documents.{Documents}
-use Rattle.dm_assembly_desk.specs.Desk.{HasJointFileFault, HoldsJointFile}
-use Rattle.dm_assembly_desk.specs.declared.fault.MoveFault.{MoveFault}
-use Rattle.dm_assembly_desk.specs.declared.fault.MoveFault.TheVariants.{Device, Memory}
+use Rattle.dm_assembly_desk.specs.{Documents.Documents, Desk.HasJointFileFault, Desk.HoldsJointFile}
+use Rattle.dm_assembly_desk.specs.declared.fault.MoveFault.{MoveFault, TheVariants.Device, TheVariants.Memory}
 use Rattle.relay_desk_commands.specs.Desks.{SeesJoint}
 
 -- there is no file

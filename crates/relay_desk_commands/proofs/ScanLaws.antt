@@ -3,18 +3,13 @@ use Rattle.dm_pbm_io.specs.Image.{Picture}
 use Rattle.relay_shared.specs.Command.{EndsNote}
 use Rattle.std.specs.Prelude.{◌≡◌, ◌||◌, ℕ, List, Bool, true, false, Result, Ok, Err}
 use Rattle.std.proofs.Common.{inl, inr, refl, ap, sym, ◌∙◌}
-use Rattle.dm_append_label.specs.declared.fault.LabelFault.{LabelFault}
+use Rattle.dm_append_label.specs.{declared.fault.LabelFault.LabelFault, declared.opening.Opened.Opened, Labels.PageView}
 use Rattle.dm_append_label.specs.declared.fault.LabelFault.TheVariants as labels
-use Rattle.dm_append_label.specs.declared.opening.Opened.{Opened}
-use Rattle.dm_append_label.specs.Labels.{PageView}
-use Rattle.dm_assembly_desk.specs.Desk.{lone, scan_of, Scans, scan_fault}
-use Rattle.dm_assembly_desk.specs.Documents.{DeskView}
-use Rattle.dm_assembly_desk.specs.declared.adding.AddFault.{AddFault}
+use Rattle.dm_assembly_desk.specs.{Desk.lone, Desk.scan_of, Desk.Scans, Desk.scan_fault, Documents.DeskView}
+use Rattle.dm_assembly_desk.specs.declared.{adding.AddFault.AddFault, fault.ScanFault.ScanFault}
 use Rattle.dm_assembly_desk.specs.declared.adding.AddFault.TheVariants as adds
-use Rattle.dm_assembly_desk.specs.declared.fault.ScanFault.{ScanFault}
 use Rattle.dm_assembly_desk.specs.declared.fault.ScanFault.TheVariants as scans
-use Rattle.dm_assembly_desk.specs.declared.reply.Accepted.{Accepted}
-use Rattle.dm_assembly_desk.specs.declared.reply.Imported.{Imported}
+use Rattle.dm_assembly_desk.specs.declared.reply.{Accepted.Accepted, Imported.Imported}
 use Rattle.dm_assembly_desk.proofs.AddLaws.{says_save, adds_failed}
 
 -- the answer says that a save failed

@@ -1,40 +1,28 @@
 -- What the commands of desks do to files and streams, and the lines that they write: what these show is this project's own rule.
 use Rattle.std.specs.Prelude.{ℕ, List, [], ◌∷◌, ◌++◌, codes, zero, suc, ◌+◌, ◌^◌, ◌==◌, Bool, if◌then◌else◌, ◌≡◌, ◌<◌, Option, None, IfSome, Result, Ok, Err, MatchResult, true, false, ◌≤◌, ◌⊎◌, ◌||◌, Some, is_err, IsOk, IsTrue, IsSomeAnd, IsSome, IfOk}
 use Rattle.std.specs.Fmt.{decimal}
-use Rattle.dm_assembly_desk.specs.Documents.{names, Documents, DeskView, KeepsPages, IsInOrder, Pages, summary, count_at, page_at}
-use Rattle.dm_assembly_desk.specs.declared.reply.Held.{Held}
+use Rattle.dm_assembly_desk.specs.Documents.{names, Documents, DeskView, KeepsPages, DeskIsInOrder, Pages, summary, count_at, page_at}
+use Rattle.dm_assembly_desk.specs.declared.{reply.Held.Held, limits.TheConstants.MOST_CAPACITY, reply.Accepted.Accepted}
 use Rattle.relay_shared.specs.Lines.{id_text, word_text, accepted_line, imported_line}
 use Rattle.hex.specs.Hex.{decode_sized}
 use Rattle.dm_store.specs.Saved.{Saved, SavedSet, ListsKeys, LoadsOpen, Settles}
 use Rattle.dm_append_label.specs.Labels.{id_words, PageView, Carries, Fits, IsTooLong, Seals}
-use Rattle.dm_append_label.specs.Opening.{OpensAs}
-use Rattle.dm_assembly_desk.specs.Desk.{Asks, Exports, Forgets, ImportsBytes, AcceptsGrid, kind_name, ask_fault_name, desk_fault_name, export_fault_name, forget_fault_name, import_fault_name, move_fault_name, scan_fault_name, move_fault_of, Moves, HasDeskFault, Opens, HasJointFileFault, HoldsJointFile, SeesKey}
-use Rattle.dm_assembly_desk.specs.declared.limits.TheConstants.{MOST_CAPACITY}
-use Rattle.dm_assembly_desk.specs.declared.fault.DeskFault.{DeskFault}
-use Rattle.dm_assembly_desk.specs.declared.fault.MoveFault.{MoveFault}
+use Rattle.dm_append_label.specs.{Opening.OpensAs, declared.fault.LabelFault.LabelFault, declared.opening.Opened.Opened}
+use Rattle.dm_assembly_desk.specs.Desk.{Asks, Exports, Forgets, ImportsBytes, AcceptsGrid, kind_name, ask_fault_name, desk_fault_name, export_fault_name, forget_fault_name, import_fault_name, move_fault_name, scan_fault_name, move_fault_of, Moves, HasDeskFault, DeskOpens, HasJointFileFault, HoldsJointFile, SeesKey}
+use Rattle.dm_assembly_desk.specs.declared.fault.{DeskFault.DeskFault, MoveFault.MoveFault, ScanFault.ScanFault}
 use Rattle.relay_streams.specs.Streams.{input_fault_name, OutputView, ReadsFirst, refused_line, AppendsPart}
 use Rattle.relay_streams.specs.declared.fault.InputFault.{InputFault}
-use Rattle.relay_desk_commands.specs.declared.documents.Given.{Given}
-use Rattle.relay_desk_commands.specs.declared.documents.Given.TheVariants.{Document, File}
-use Rattle.relay_desk_commands.specs.declared.import.TheConstants.{IMPORT_BYTES}
+use Rattle.relay_desk_commands.specs.declared.documents.Given.{Given, TheVariants.Document, TheVariants.File}
+use Rattle.relay_desk_commands.specs.declared.{import.TheConstants.IMPORT_BYTES, copy.CopyOptions.CopyOptions}
 use Rattle.relay_shared.specs.Command.{HasInputFault, refusal_name, LeavesErrors, OnlyOutput, RefusesOnErrors, RefusesOnOutput, StreamsView, TellsAnswer, TellsBytes, TellsRefusal, ImageCommand, Said, TellsInputs, progress_at, refusal_of, Tells, EndsNote, NotesImage}
 use Rattle.dm_finder_frame.specs.Frame.{GridView}
-use Rattle.dm_pbm_io.specs.FaultNames.{shape_fault_name}
-use Rattle.dm_pbm_io.specs.Image.{Picture, HasShape, IsGridInside, p4}
-use Rattle.dm_pbm_io.specs.declared.fault.ShapeFault.{ShapeFault}
-use Rattle.dm_pbm_io.specs.declared.fault.ShapeFault.TheVariants.{Shape, Memory}
-use Rattle.dm_assembly_desk.specs.declared.fault.ScanFault.{ScanFault}
-use Rattle.dm_assembly_desk.specs.declared.reply.Accepted.{Accepted}
-use Rattle.dm_assembly_desk.specs.declared.reply.Imported.{Imported}
+use Rattle.dm_pbm_io.specs.{FaultNames.shape_fault_name, Image.Picture, Image.HasShape, Image.IsGridInside, Image.p4}
+use Rattle.dm_pbm_io.specs.declared.fault.ShapeFault.{ShapeFault, TheVariants.Shape, TheVariants.Memory}
+use Rattle.dm_assembly_desk.specs.declared.{reply.Imported.Imported, fault.ScanFault.TheVariants.Label}
 use Rattle.dm_append_label.specs.declared.fault.LabelFault.TheVariants.{Border, Block}
-use Rattle.dm_assembly_desk.specs.declared.fault.ScanFault.TheVariants.{Label}
 use Rattle.dm_store.specs.declared.store.StoreFault.{StoreFault}
-use Rattle.dm_size.specs.Sizes.{IsSide, side}
-use Rattle.dm_size.specs.declared.size.Size.{Size}
+use Rattle.dm_size.specs.{Sizes.IsSide, Sizes.side, declared.size.Size.Size}
 use Rattle.dm_encodation.specs.declared.scheme.Scheme.{Scheme}
-use Rattle.dm_append_label.specs.declared.fault.LabelFault.{LabelFault}
-use Rattle.dm_append_label.specs.declared.opening.Opened.{Opened}
-use Rattle.relay_desk_commands.specs.declared.copy.CopyOptions.{CopyOptions}
 use Rattle.std.specs.FinMap as map
 use Rattle.relay_shared.specs.declared.command.Refusal.TheVariants as refusals
 use Rattle.dm_assembly_desk.specs.declared.fault.AskFault.TheVariants as asks
@@ -43,7 +31,7 @@ use Rattle.dm_append_label.specs.declared.fault.LabelFault.TheVariants as labels
 
 -- ---- lines
 
--- `forgotten` and the identification
+-- `forgotten` and the ID
 abbrev pub forgotten_line : ℕ → List ℕ
 forgotten_line id = codes "forgotten " ++ (id_text id ++ 10 ∷ [])
 
@@ -64,7 +52,7 @@ is_complete held = held.mask + 1 == 2 ^ held.n
 abbrev pub held_word : Held → List ℕ
 held_word held = if is_complete held then codes " complete" else codes " lacks"
 
--- the identification, n, whether the document is complete, and the pages that are missing
+-- the ID, n, whether the document is complete, and the pages that are missing
 abbrev pub held_line : Held → List ℕ
 held_line held =
     id_text held.id ++ (32 ∷ (decimal held.n ++ (held_word held ++ (missing_pages held.mask held.n ++ 10 ∷ []))))
@@ -104,7 +92,7 @@ MovesFiles before after = (written : ℕ) × Moves before.joint before.set (Ok w
 -- the documents were moved, and then a desk with this room was opened on the set
 pub record OpensDesk (before : DeskFiles) (capacity : ℕ) (joint : Saved) (desk : DeskView) : Type 0 where
   pub moves : MovesFiles before (record { joint = joint; set = desk.saved })
-  pub opens : Opens desk.saved capacity desk
+  pub opens : DeskOpens desk.saved capacity desk
 
 -- There is no desk with this room, and this is the name of the reason: the joint file could not be moved; or the desk
 -- was not opened.
@@ -123,14 +111,14 @@ pub data EndsAtDesk (Refuses : List ℕ → StreamsView → ℕ → StreamsView 
   opened : (desk : DeskView) → OpensDesk old.files capacity new.files.joint desk → Rest desk old.streams status new
       → EndsAtDesk Refuses capacity Rest old status new
 
--- ---- the document of an identification
+-- ---- the document of an ID
 
--- the text is the two words of this identification in hexadecimal
+-- the text is the two codewords of this ID in hexadecimal
 abbrev pub IsTextOfId : List ℕ → ℕ → Type 0
 IsTextOfId text id = (id < 64516) × (decode_sized text 2 ≡ Ok (id_words id))
 
--- How a command ends that names a document by a text: that is the text of no identification, and nothing is done; or it
--- ends so for the identification.
+-- How a command ends that names a document by a text: that is the text of no ID, and nothing is done; or it
+-- ends so for the ID.
 pub data EndsOnId (Refuses : List ℕ → StreamsView → ℕ → StreamsView → Type 0) (text : List ℕ)
     (Ends : ℕ → OnDesk → ℕ → OnDesk → Type 0) (old : OnDesk) (status : ℕ) (new : OnDesk) : Type 0 where
   no_id : ((id : ℕ) → ¬ IsTextOfId text id) → new.files ≡ old.files
@@ -154,14 +142,14 @@ ByName {F} name Answers (Ok bytes) = Answers (Ok bytes)
 ByName {F} name Answers (Err named) = (fault : F) × Answers (Err fault) × (named ≡ name fault)
 
 -- what a desk gives out of a document: the document, or the file of its pages
-abbrev pub Gives : Given → ℕ → Documents → Result (List ℕ) (List ℕ) → Type 0
-Gives Document id held given = ByName ask_fault_name (Asks (λ (bytes : List ℕ). bytes) (map.get held id)) given
-Gives File id held given = ByName export_fault_name (Exports (λ (bytes : List ℕ). bytes) id (map.get held id)) given
+abbrev pub Yields : Given → ℕ → Documents → Result (List ℕ) (List ℕ) → Type 0
+Yields Document id held given = ByName ask_fault_name (Asks (λ (bytes : List ℕ). bytes) (map.get held id)) given
+Yields File id held given = ByName export_fault_name (Exports (λ (bytes : List ℕ). bytes) id (map.get held id)) given
 
 -- how a command ends that gives out something of a document
 abbrev pub EndsGiving : Given → List ℕ → OnDesk → ℕ → OnDesk → Type 0
 EndsGiving what text =
-    EndsOnId RefusesOnErrors text (λ id. EndsAtDesk RefusesOnErrors MOST_CAPACITY (GivesOut (Gives what id)))
+    EndsOnId RefusesOnErrors text (λ id. EndsAtDesk RefusesOnErrors MOST_CAPACITY (GivesOut (Yields what id)))
 
 -- how `deliver` ends, which gives out the document
 abbrev pub EndsDeliver : List ℕ → OnDesk → ℕ → OnDesk → Type 0
@@ -224,7 +212,7 @@ abbrev pub is_of_shape : ShapeFault → Bool
 is_of_shape Shape = true
 is_of_shape Memory = false
 
--- the grid opens as a label with this identification
+-- the grid opens as a label with this ID
 abbrev pub IsIdOn : GridView → ℕ → Type 0
 IsIdOn grid id = (page : PageView) × (corrected wrong : ℕ) × OpensAs grid page corrected wrong × (page.id ≡ id)
 
@@ -263,7 +251,7 @@ abbrev pub ScansAll : Type 0 → List (Option (List ℕ)) → DeskView → Strea
 ScansAll A images desk old status new = (after : DeskView) × TellsInputs (scan_images A) images
     (progress_at (record { desk = desk; errors = old.errors }) old.input old.output) status
     (progress_at (record { desk = after; errors = new.streams.errors }) new.streams.input new.streams.output)
-    × KeepsPages desk.held after.held × IsInOrder after × (new.files.set ≡ after.saved)
+    × KeepsPages desk.held after.held × DeskIsInOrder after × (new.files.set ≡ after.saved)
 
 -- how `scan` ends; if there is no desk, nothing was read
 abbrev pub EndsScan : Type 0 → ℕ → List (Option (List ℕ)) → OnDesk → ℕ → OnDesk → Type 0
@@ -353,7 +341,7 @@ TellsSettled set joint old status new id = TellsHeld set joint old status new id
     ⊎ ((mid : OutputView) × (why : StoreFault) × TellsHeld set joint old 0 mid id × Settles set (Err why) set
     × TellsRefusal (move_fault_name (move_fault_of why)) mid status new)
 
--- how `held` ends for an identification, or for all: it changes no file, and no other stream
+-- how `held` ends for an ID, or for all: it changes no file, and no other stream
 pub record EndsHeldOf (id : Option ℕ) (old : OnDesk) (status : ℕ) (new : OnDesk) : Type 0 where
   pub joint : SeenJoint
   pub sees : SeesJoint old.files.joint joint
@@ -403,7 +391,7 @@ GivesCopy id m size scheme held (Err name) = HasNoCopy held id m size scheme nam
 
 -- ---- the command
 
--- how `copy` ends for an identification: the side is that of no size; or by what the desk gives
+-- how `copy` ends for an ID: the side is that of no size; or by what the desk gives
 pub data EndsCopyOf (options : CopyOptions) (id : ℕ) (old : OnDesk) (status : ℕ) (new : OnDesk) : Type 0 where
   no_side : ¬ IsSide options.side → new.files ≡ old.files
       → RefusesOnErrors (refusal_name refusals.Side) old.streams status new.streams
@@ -417,8 +405,8 @@ EndsCopy options = EndsOnId RefusesOnErrors options.id.now (EndsCopyOf options)
 
 -- ---- what a copy opens as
 
--- what was opened is page m of the document, as it is held, and no word and no module of a finder pattern was wrong;
--- only memory can be refused
+-- what was opened is page m of the document, as it is held, and no codeword and no module of a finder pattern was
+-- wrong; only memory can be refused
 abbrev pub OpensAsHeld : {A : Type 0} → Documents → ℕ → ℕ → Result (Opened A) LabelFault → Type 0
 OpensAsHeld held id m (Ok label) = IsPageHeld held id m label.page × (label.corrected ≡ 0) × (label.wrong ≡ 0)
 OpensAsHeld held id m (Err labels.Memory) = Unit {0}

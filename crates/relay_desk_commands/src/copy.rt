@@ -21,7 +21,7 @@ use std::io::{Read, Write};
 /// Which page is copied, and in what form.
 #[derive(Clone, Copy, Debug, PartialEq, Eq)]
 pub struct CopyOptions<'a> {
-    /// The identification of the document: the text of its two words in hexadecimal.
+    /// The ID of the document: the text of its two codewords in hexadecimal.
     pub id: &'a str,
     /// Which page of the document, from 1.
     pub page: u16,
@@ -104,7 +104,7 @@ fn copy_of<A: Allocator + Copy, T: StoreSet>(
 }
 
 /// Writes the label of a page again, as a packed image, and nothing else: that of the page that the desk holds, so that
-/// whatever opens it gathers the same document. A refusal is a line on `errors`. The identification's text is looked at
+/// whatever opens it gathers the same document. A refusal is a line on `errors`. The ID's text is looked at
 /// first, then the side, then the files.
 pub fn copy_command<A: Allocator + Copy, S: Store, T: StoreSet, R: Read, W: Write, E: Write>(
     alloc: A,

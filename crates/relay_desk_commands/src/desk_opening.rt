@@ -1,8 +1,8 @@
-//! What a command of a desk begins with: the identification of a text, and the desk.
+//! What a command of a desk begins with: the ID of a text, and the desk.
 
 ghost use Rattle.std.specs.Prelude.{MatchOption, ◌≡◌, ℕ, List, MatchResult};
 ghost use Rattle.relay_desk_commands.specs.Desks.{IsTextOfId, HasNoDesk, OpensDesk};
-ghost use Rattle.dm_assembly_desk.specs.Documents.{IsInOrder};
+ghost use Rattle.dm_assembly_desk.specs.Documents.{DeskIsInOrder};
 ghost use Rattle.relay_shared.specs.Command.{TellsRefusal};
 
 use dm_append_label::FileId;
@@ -13,7 +13,7 @@ use relay_streams::Output;
 use std::alloc::Allocator;
 use std::io::Write;
 
-/// The identification of a text, its two words in hexadecimal.
+/// The ID of a text, its two codewords in hexadecimal.
 pub(crate) fn id_of(text: &str) -> Option<FileId>
     ensures { MatchOption result ((id : ℕ) → ¬ IsTextOfId text.now id) (λ id. IsTextOfId text.now id) }
 {
@@ -55,7 +55,7 @@ pub(crate) fn open_desk<A: Allocator + Copy, S: Store, T: StoreSet, W: Write>(
 ) -> Result<OpenDesk<S, T, A>, EndedDesk<S, T>>
     ensures { MatchResult result
         (λ opened. OpensDesk (record { joint = S.state store; set = T.state set }) capacity (S.state opened.store)
-        opened.desk × (output.new ≡ output.old) × IsInOrder opened.desk)
+        opened.desk × (output.new ≡ output.old) × DeskIsInOrder opened.desk)
         (λ ended. (name : List ℕ) × HasNoDesk (record { joint = S.state store; set = T.state set }) capacity name
         (record { joint = S.state ended.store; set = T.state ended.set })
         × TellsRefusal name output.old ended.status output.new) }

@@ -1,8 +1,8 @@
-//! The commands of one document of a desk, named by its identification: `relay deliver` gives it back, `relay export`
+//! The commands of one document of a desk, named by its ID: `relay deliver` gives it back, `relay export`
 //! gives the pages that are held of it, for another desk, and `relay forget` lets it go.
 
 ghost use Rattle.std.specs.Prelude.{MatchResult, Ok, Err};
-ghost use Rattle.relay_desk_commands.specs.Desks.{EndsDeliver, EndsExport, EndsForget, EndsGiving, Gives, desk_at};
+ghost use Rattle.relay_desk_commands.specs.Desks.{EndsDeliver, EndsExport, EndsForget, EndsGiving, Yields, desk_at};
 
 use crate::desk_opening::{id_of, open_desk};
 use crate::lines::put_forgotten;
@@ -28,8 +28,8 @@ fn bytes_of<A: Allocator + Copy, T: StoreSet>(
     given: Given,
 ) -> Result<Vec<u8, A>, &'static str>
     ensures { MatchResult result
-        (λ bytes. Gives given id desk.now.held (Ok bytes.items))
-        (λ name. Gives given id desk.now.held (Err name.now)) }
+        (λ bytes. Yields given id desk.now.held (Ok bytes.items))
+        (λ name. Yields given id desk.now.held (Err name.now)) }
 {
     match given {
         Given::Document => desk.document(id).map_err(AskFault::name),
@@ -66,7 +66,7 @@ fn give_out<A: Allocator + Copy, S: Store, T: StoreSet, R: Read, W: Write, E: Wr
     opened.end(status)
 }
 
-/// Writes the document of an identification, whose two words the text has in hexadecimal, where each of its pages is
+/// Writes the document of an ID, whose two codewords the text has in hexadecimal, where each of its pages is
 /// held, and nothing else. A refusal is a line on `errors`. The text is looked at before the files.
 pub fn deliver_command<A: Allocator + Copy, S: Store, T: StoreSet, R: Read, W: Write, E: Write>(
     alloc: A,
@@ -96,7 +96,7 @@ pub fn export_command<A: Allocator + Copy, S: Store, T: StoreSet, R: Read, W: Wr
     give_out(alloc, store, set, streams, text, Given::File)
 }
 
-/// Lets a document go, and prints `forgotten IIII`, its identification, or the line `refused NAME`. The text, as for
+/// Lets a document go, and prints `forgotten IIII`, its ID, or the line `refused NAME`. The text, as for
 /// `deliver`, is looked at before the files.
 pub fn forget_command<A: Allocator + Copy, S: Store, T: StoreSet, R: Read, W: Write, E: Write>(
     alloc: A,

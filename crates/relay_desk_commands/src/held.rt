@@ -6,7 +6,7 @@ ghost use Rattle.std.specs.Option.{option_copied};
 ghost use Rattle.dm_store.specs.Saved.{Loads, Saved};
 ghost use Rattle.dm_assembly_desk.specs.Desk.{IsFirstFrom};
 ghost use Rattle.relay_streams.specs.Streams.{OutputView};
-ghost use Rattle.relay_shared.specs.Command.{Puts};
+ghost use Rattle.relay_shared.specs.Command.{PutsText};
 ghost use Rattle.relay_desk_commands.specs.Desks.{desk_at, EndsHeld, SeenJoint, SeesJoint, SeesNumber, TellsHeld, TellsSettled, documents_in, joint_line, seen_line};
 
 use crate::desk_opening::id_of;
@@ -82,8 +82,8 @@ fn put_seen<W: Write>(
     seen: Result<Option<Held>, DeskFault>,
 ) -> Result<(), WriteFault>
     requires { IfOk seen (λ found. IfSome found (λ held. held.n ≤ 16)) }
-    ensures { (text : List ℕ) (old : OutputView) → Puts text old before output.old
-        → Puts (text ++ seen_line number seen) old result output.new }
+    ensures { (text : List ℕ) (old : OutputView) → PutsText text old before output.old
+        → PutsText (text ++ seen_line number seen) old result output.new }
 {
     before?;
     match seen {
@@ -111,7 +111,7 @@ fn next_from(joint: &SeenJoint<'_>, first: Option<Held>, number: u32) -> Option<
 }
 
 fn put_joint<W: Write>(output: &mut Output<W>, joint: &SeenJoint<'_>) -> Result<(), WriteFault>
-    ensures { Puts (joint_line joint.now) output.old result output.new }
+    ensures { PutsText (joint_line joint.now) output.old result output.new }
 {
     match joint {
         Ok(_) => Ok(()),
@@ -144,7 +144,7 @@ fn tell_all<T: StoreSet, W: Write>(set: &mut T, output: &mut Output<W>, joint: &
     u8::from(unsound || put.is_err())
 }
 
-// Tells of the document of an identification, or of all.
+// Tells of the document of an ID, or of all.
 fn tell<T: StoreSet, W: Write>(
     set: &mut T,
     output: &mut Output<W>,
@@ -192,9 +192,9 @@ fn settle_seen<T: StoreSet, W: Write>(set: &mut T, output: &mut Output<W>, statu
     }
 }
 
-/// Prints a line for each document of which a page is held, by rising identification: `IIII N complete`, or
-/// `IIII N lacks 3 7 12`, its identification, how many pages it has, and which of them are missing. With the text of an
-/// identification, as for `deliver`, it prints that line alone, or `refused NotHeld`.
+/// Prints a line for each document of which a page is held, by rising ID: `IIII N complete`, or
+/// `IIII N lacks 3 7 12`, its ID, how many pages it has, and which of them are missing. With the text of an
+/// ID, as for `deliver`, it prints that line alone, or `refused NotHeld`.
 ///
 /// In the place of a file that can't be read stands `file NAME FAULT`, and the others are listed all the same; for the
 /// file of an older version that line is the first, and its name is `joint`. The exit status is then 1. A last line is

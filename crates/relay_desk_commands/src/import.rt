@@ -14,7 +14,7 @@ use std::io::{Read, Write};
 pub const IMPORT_BYTES: usize = 41_643;
 
 /// Reads the file that `export` has written, at most 41,643 bytes of it, holds and saves its pages that were not held,
-/// and prints `IIII n added MASK KIND`: the identification, how many pages the document has, which of them were added
+/// and prints `IIII n added MASK KIND`: the ID, how many pages the document has, which of them were added
 /// (bit m - 1 for page m), and whether it was `new`, `again` or `complete`; or the line `refused NAME`. The input is
 /// read before the desk is opened.
 pub fn import_command<A: Allocator + Copy, S: Store, T: StoreSet, R: Read, W: Write, E: Write>(

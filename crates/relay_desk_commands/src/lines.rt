@@ -2,7 +2,7 @@
 
 ghost use Rattle.std.specs.Prelude.{◌≡◌, ◌∷◌, [], ◌/◌, ◌%◌, ◌<◌, ◌≤◌, ◌+◌, ◌++◌, length};
 ghost use Rattle.relay_desk_commands.specs.Desks.{forgotten_line, held_line, held_word, missing_page, missing_pages, unsound_joint_line, unsound_line};
-ghost use Rattle.relay_shared.specs.Command.{Puts};
+ghost use Rattle.relay_shared.specs.Command.{PutsText};
 
 use arrayvec::ArrayString;
 use dm_append_label::FileId;
@@ -14,7 +14,7 @@ use std::io::Write;
 
 /// Writes which document was forgotten.
 pub(crate) fn put_forgotten<W: Write>(output: &mut Output<W>, id: FileId) -> Result<(), WriteFault>
-    ensures { Puts (forgotten_line id) output.old result output.new }
+    ensures { PutsText (forgotten_line id) output.old result output.new }
 {
     output.put_all(&[b"forgotten ", &id_digits(id), b"\n"])
 }
@@ -63,7 +63,7 @@ fn held_end(held: Held) -> ArrayString<73>
 /// Writes how many pages a document has, and which of them are missing.
 pub(crate) fn put_held<W: Write>(output: &mut Output<W>, held: Held) -> Result<(), WriteFault>
     requires { held.n ≤ 16 }
-    ensures { Puts (held_line held) output.old result output.new }
+    ensures { PutsText (held_line held) output.old result output.new }
 {
     let id = id_digits(held.id);
     let mut digits = Buffer::new();
@@ -78,7 +78,7 @@ pub(crate) fn put_unsound<W: Write>(
     key: u16,
     name: &str,
 ) -> Result<(), WriteFault>
-    ensures { Puts (unsound_line key name.now) output.old result output.new }
+    ensures { PutsText (unsound_line key name.now) output.old result output.new }
 {
     output.put_all(&[b"file ", &word_digits(key), b" ", name.as_bytes(), b"\n"])
 }
@@ -88,7 +88,7 @@ pub(crate) fn put_unsound_joint<W: Write>(
     output: &mut Output<W>,
     name: &str,
 ) -> Result<(), WriteFault>
-    ensures { Puts (unsound_joint_line name.now) output.old result output.new }
+    ensures { PutsText (unsound_joint_line name.now) output.old result output.new }
 {
     output.put_all(&[b"file joint ", name.as_bytes(), b"\n"])
 }

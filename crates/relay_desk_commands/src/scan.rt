@@ -2,7 +2,7 @@
 
 ghost use Rattle.std.specs.Prelude.{◌≡◌, map, false, true, IfSome, MatchResult};
 ghost use Rattle.std.specs.Io.KnownBytes.{Appends};
-ghost use Rattle.dm_assembly_desk.specs.Documents.{KeepsPages, IsInOrder};
+ghost use Rattle.dm_assembly_desk.specs.Documents.{KeepsPages, DeskIsInOrder};
 ghost use Rattle.relay_streams.specs.Streams.{AppendsPart, refused_line};
 ghost use Rattle.relay_desk_commands.specs.Desks.{desk_at, EndsScan, IsIdOn, scan_images};
 
@@ -21,7 +21,7 @@ use relay_streams::{Output, WriteFault};
 use std::alloc::Allocator;
 use std::io::{Read, Write};
 
-// The identification of a label, if the grid opens as one.
+// The ID of a label, if the grid opens as one.
 fn id_of_label<A: Allocator + Copy>(alloc: A, grid: &Grid<A>) -> Option<FileId>
     ensures { IfSome result (IsIdOn grid.now) }
 {
@@ -59,7 +59,7 @@ impl<T: StoreSet, A: Allocator + Copy> OnImages<A> for Scanning<T, A> {
     ghost state = { λ scanning errors. record { desk = scanning.desk; errors = errors } };
 
     ghost keeps = { λ before _ after _. KeepsPages before.desk.held after.desk.held
-        × (IsInOrder before.desk → IsInOrder after.desk) };
+        × (DeskIsInOrder before.desk → DeskIsInOrder after.desk) };
 
     fn answer<W: Write, E: Write>(
         &mut self,

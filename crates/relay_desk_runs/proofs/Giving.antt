@@ -11,18 +11,16 @@ use Rattle.dm_assembly_desk.specs.Documents.{DeskView, Documents, Pages, page as
 use Rattle.dm_assembly_desk.specs.declared.limits.TheConstants.{MOST_CAPACITY}
 use Rattle.dm_event_history.specs.Relay.{CutDocument, Label}
 use Rattle.dm_event_history.specs.Headline.{AreOfOneDocument, ArePrinted, HaveLeft, IsCleanExport, IsTheDocument}
-use Rattle.dm_event_history.proofs.Stays.{page_in}
-use Rattle.dm_event_history.proofs.Told.{page_none}
+use Rattle.dm_event_history.proofs.{Stays.page_in, Told.page_none}
 use Rattle.relay_streams.specs.Streams.{OutputView, write_fault_name}
 use Rattle.relay_streams.specs.declared.fault.WriteFault.TheVariants.{Write}
 use Rattle.relay_streams.proofs.Parts.{part_whole}
 use Rattle.relay_shared.specs.Command.{RefusesOnErrors, StreamsView, TellsBytes, TellsRefusal, refusal_name}
 use Rattle.relay_shared.specs.declared.command.Refusal.TheVariants as refusals
 use Rattle.relay_desk_commands.specs.Desks.{EndsCopy, EndsCopyOf, GivesCopy, IsPageHeld, ByName, EndsDeliver, EndsExport, IsTextOfId, OnDesk}
-use Rattle.relay_desk_commands.specs.Desks.EndsCopyOf.{no_side, of_side}
+use Rattle.relay_desk_commands.specs.Desks.{EndsCopyOf.no_side, EndsCopyOf.of_side, EndsOnId.no_id, EndsOnId.of_id}
 use Rattle.relay_desk_commands.specs.Desks.EndsAtDesk.{no_desk, opened}
-use Rattle.relay_desk_commands.specs.Desks.EndsOnId.{no_id, of_id}
-use Rattle.relay_desk_runs.specs.Answered.{file_exported, if_copied, if_given, label_copied, EachCopyIsPrinted, EachDeliverIsPrinted, EachExportIsPrinted, GivesPrinted, HoldsPrinted, IsClean, IsOfLabel, IsPrintedFile, document, nothing}
+use Rattle.relay_desk_runs.specs.Answered.{file_exported, if_copied, if_given, label_copied, EachCopyIsPrinted, EachDeliverIsPrinted, EachExportIsPrinted, GivesPrinted, HoldsPrinted, HasPrinted, IsOfLabel, IsPrintedFile, document, nothing}
 use Rattle.relay_desk_runs.proofs.OneDesk.{asked}
 use Rattle.relay_desk_runs.proofs.Opened.{IsOpened, as_they_were, at_desk_keeps, is_opened, on_id_keeps, still_clean}
 
@@ -105,7 +103,7 @@ pub each_copy_is_printed : EachCopyIsPrinted
 each_copy_is_printed labels options old status new printed one clean how =
     (on_id_keeps labels options.id.now old status new clean keeps how, by_ends how)
   where
-    keeps : (id : ℕ) → EndsCopyOf options id old status new → IsClean labels new
+    keeps : (id : ℕ) → EndsCopyOf options id old status new → HasPrinted labels new
     keeps id (no_side isnt same refuses) = still_clean labels old new clean (as_they_were old.files new.files same)
     keeps id (of_side size is at) = at_desk_keeps labels MOST_CAPACITY old status new clean
         (λ desk o rest. subst (HoldsPrinted labels) (sym rest.3) o.shows.set) at

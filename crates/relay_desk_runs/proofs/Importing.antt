@@ -1,20 +1,16 @@
 -- An import keeps a desk so, and so does a forget.
 use Rattle.std.proofs.Common.{◌≡◌, ℕ, List, Result, Ok, Err, sym, subst}
 use Rattle.std.specs.Prelude.{IfSome}
-use Rattle.dm_assembly_desk.specs.Desk.{Imports, ImportsBytes, IsReadAs, import_of}
-use Rattle.dm_assembly_desk.specs.Documents.{DeskView, Pages, Spells}
-use Rattle.dm_assembly_desk.specs.declared.adding.AddFault.{AddFault}
+use Rattle.dm_assembly_desk.specs.Desk.{Imports, ImportsBytes, IsFileReadAs, import_of}
+use Rattle.dm_assembly_desk.specs.Documents.{DeskView, Pages, SpellsFile}
+use Rattle.dm_assembly_desk.specs.declared.{adding.AddFault.AddFault, fault.ImportFault.ImportFault}
 use Rattle.dm_assembly_desk.specs.declared.adding.AddFault.TheVariants as adds
-use Rattle.dm_assembly_desk.specs.declared.fault.ImportFault.{ImportFault}
-use Rattle.dm_assembly_desk.specs.declared.limits.TheConstants.{MOST_CAPACITY}
-use Rattle.dm_assembly_desk.specs.declared.reply.Imported.{Imported}
+use Rattle.dm_assembly_desk.specs.declared.{limits.TheConstants.MOST_CAPACITY, reply.Imported.Imported}
 use Rattle.dm_assembly_desk.proofs.AnyFile.{one_spelled}
-use Rattle.dm_event_history.specs.Relay.{Label}
-use Rattle.dm_event_history.specs.Headline.{ArePrinted, IsCleanExport}
-use Rattle.relay_desk_commands.specs.Desks.{EndsImport}
-use Rattle.relay_desk_commands.specs.Desks.EndsAtDesk.{no_desk, opened}
+use Rattle.dm_event_history.specs.{Relay.Label, Headline.ArePrinted, Headline.IsCleanExport}
+use Rattle.relay_desk_commands.specs.Desks.{EndsImport, EndsAtDesk.no_desk, EndsAtDesk.opened}
 use Rattle.relay_desk_commands.specs.Desks.EndsImport.{not_read, read}
-use Rattle.relay_desk_runs.specs.Answered.{file_imported, if_imported, EachForgetKeeps, EachImportKeeps, HasNoDocuments, HoldsPrinted, IsClean, IsPrintedFile}
+use Rattle.relay_desk_runs.specs.Answered.{file_imported, if_imported, EachForgetKeeps, EachImportKeeps, HasNoDocuments, HoldsPrinted, HasPrinted, IsPrintedFile}
 use Rattle.relay_desk_runs.proofs.Saving.{MayBeAdded, ShowsPrinted, adding, forgetting}
 use Rattle.relay_desk_runs.proofs.Opened.{as_they_were, at_desk_keeps, is_opened, on_id_keeps, still_clean, unopened}
 
@@ -30,20 +26,21 @@ module _ (labels : List Label) (printed : ArePrinted labels) (bytes : List ℕ) 
   by_added (Err adds.Save) may file = file
   by_added (Err fault) may file = absurd may
 
-  sent : (id : ℕ) (pages : Pages) → Spells id bytes pages → IsPrintedFile labels bytes →
+  sent : (id : ℕ) (pages : Pages) → SpellsFile id bytes pages → IsPrintedFile labels bytes →
       IsCleanExport labels (record { id = id; pages = pages })
   sent id pages spells f =
       let same = same_pair (f.id, f.pages) (id, pages) (one_spelled bytes f.id f.pages id pages
       (record { sound = f.sound; spelled = f.is_file }) spells) in
       subst (λ (e : ℕ × Pages). IsCleanExport labels (record { id = e.0; pages = e.1 })) same f.clean
 
-  imports : (id : ℕ) (pages : Pages) → Spells id bytes pages → Imports id pages old answer new → ShowsPrinted labels new
+  imports : (id : ℕ) (pages : Pages) → SpellsFile id bytes pages → Imports id pages old answer new →
+      ShowsPrinted labels new
   imports id pages spells (added, is, does) = adding labels old new clean printed id pages added
       (λ may. sent id pages spells (by_added added may
       (subst (λ (a : Result Imported ImportFault). IfSome (if_imported a bytes) (IsPrintedFile labels)) is near))) does
 
   pub imported : ImportsBytes bytes old answer new → ShowsPrinted labels new
-  imported call = elim (call.read) as (λ what. IsReadAs bytes what → ShowsPrinted labels new) [
+  imported call = elim (call.read) as (λ what. IsFileReadAs bytes what → ShowsPrinted labels new) [
     | Ok e ↦ λ spells. imports e.0 e.1 spells (call.spelled e.0 e.1 spells)
     | Err fault ↦ λ none. subst (ShowsPrinted labels) (sym (call.faulty fault none).1) clean
   ] call.is_read
@@ -52,7 +49,7 @@ pub each_import_keeps : EachImportKeeps
 each_import_keeps labels capacity old status new printed clean how near = by_input how near
   where
     by_input : (ends : EndsImport capacity old status new) → IfSome (file_imported ends) (IsPrintedFile labels) →
-        IsClean labels new
+        HasPrinted labels new
     by_input (not_read fault has same told leaves) near =
         still_clean labels old new clean (as_they_were old.files new.files same)
     by_input (read bytes reads (no_desk name has refuses) leaves) near =

@@ -1,22 +1,18 @@
 -- A command opens a desk that holds pages of printed labels alone: the desk shows them, and the files stay.
 use Rattle.std.proofs.Common.{◌≡◌, ℕ, false, List, None, Option, Some, Result, sym, ap, subst}
 use Rattle.dm_store.specs.Saved.{Saved, SavedSet}
-use Rattle.dm_assembly_desk.specs.Documents.{DeskView, HoldsFiles}
+use Rattle.dm_assembly_desk.specs.{Documents.DeskView, Documents.HoldsFiles, declared.fault.MoveFault.MoveFault}
 use Rattle.dm_assembly_desk.specs.Desk.{Moves, early, at_key, at_last}
-use Rattle.dm_assembly_desk.specs.declared.fault.MoveFault.{MoveFault}
 use Rattle.dm_assembly_desk.specs.declared.limits.TheConstants.{MOST_CAPACITY}
 use Rattle.dm_assembly_desk.proofs.Reopening.{one_held}
-use Rattle.dm_event_history.specs.Relay.{Label}
-use Rattle.dm_event_history.specs.Headline.{HaveLeft}
+use Rattle.dm_event_history.specs.{Relay.Label, Headline.HaveLeft}
 use Rattle.relay_shared.specs.Command.{StreamsView}
 use Rattle.relay_desk_commands.specs.Desks.{EndsCopy, EndsCopyOf, EndsHeld, DeskFiles, EndsAtDesk, EndsImport, EndsOnId, HasNoDesk, OnDesk, OpensDesk}
-use Rattle.relay_desk_commands.specs.Desks.EndsCopyOf.{no_side, of_side}
+use Rattle.relay_desk_commands.specs.Desks.{EndsCopyOf.no_side, EndsCopyOf.of_side, EndsOnId.no_id, EndsOnId.of_id}
 use Rattle.relay_desk_commands.specs.declared.copy.CopyOptions.{CopyOptions}
-use Rattle.relay_desk_commands.specs.Desks.EndsImport.{not_read, read}
+use Rattle.relay_desk_commands.specs.Desks.{EndsImport.not_read, EndsImport.read, EndsAtDesk.no_desk, EndsAtDesk.opened}
 use Rattle.relay_desk_commands.specs.Desks.HasNoDesk.{not_moved, not_opened}
-use Rattle.relay_desk_commands.specs.Desks.EndsAtDesk.{no_desk, opened}
-use Rattle.relay_desk_commands.specs.Desks.EndsOnId.{no_id, of_id}
-use Rattle.relay_desk_runs.specs.Answered.{HasNoDocuments, HoldsPrinted, IsClean}
+use Rattle.relay_desk_runs.specs.Answered.{HasNoDocuments, HoldsPrinted, HasPrinted}
 use Rattle.relay_desk_runs.proofs.Saving.{ShowsPrinted}
 
 -- nothing is moved
@@ -46,7 +42,7 @@ unopened old new capacity name none (not_opened fault moves has is) =
     let same = unmoved _ _ _ _ _ none moves.1 in record { joint = same.0; set = same.1 }
 
 module _ (labels : List Label) (old new : OnDesk) where
-  pub still_clean : IsClean labels old → AreSame old.files new.files → IsClean labels new
+  pub still_clean : HasPrinted labels old → AreSame old.files new.files → HasPrinted labels new
   still_clean clean same = record {
     set = subst (HoldsPrinted labels) (sym same.set) clean.set;
     joint = subst HasNoDocuments (sym same.joint) clean.joint;
@@ -79,10 +75,10 @@ is_opened labels files capacity joint desk printed none o =
 -- ---- commands
 
 module _ {Refuses : List ℕ → StreamsView → ℕ → StreamsView → Type 0} {Rest : DeskView → StreamsView → ℕ → OnDesk → Type 0}
-    (labels : List Label) (capacity : ℕ) (old : OnDesk) (status : ℕ) (new : OnDesk) (clean : IsClean labels old)
+    (labels : List Label) (capacity : ℕ) (old : OnDesk) (status : ℕ) (new : OnDesk) (clean : HasPrinted labels old)
     (rest_keeps : (desk : DeskView) → IsOpened labels old.files.set desk → Rest desk old.streams status new →
     HoldsPrinted labels new.files.set) where
-  pub at_desk_keeps : EndsAtDesk Refuses capacity Rest old status new → IsClean labels new
+  pub at_desk_keeps : EndsAtDesk Refuses capacity Rest old status new → HasPrinted labels new
   at_desk_keeps (no_desk name has refuses) =
       still_clean labels old new clean (unopened old.files new.files capacity name clean.joint has)
   at_desk_keeps (opened desk opens rest) =
@@ -90,9 +86,9 @@ module _ {Refuses : List ℕ → StreamsView → ℕ → StreamsView → Type 0}
       record { set = rest_keeps desk o.0 rest; joint = subst HasNoDocuments (sym o.1) clean.joint }
 
 pub on_id_keeps : {Refuses : List ℕ → StreamsView → ℕ → StreamsView → Type 0} {Ends : ℕ → OnDesk → ℕ → OnDesk → Type 0}
-    (labels : List Label) (text : List ℕ) (old : OnDesk) (status : ℕ) (new : OnDesk) → IsClean labels old →
-    ((id : ℕ) → Ends id old status new → IsClean labels new) → EndsOnId Refuses text Ends old status new →
-    IsClean labels new
+    (labels : List Label) (text : List ℕ) (old : OnDesk) (status : ℕ) (new : OnDesk) → HasPrinted labels old →
+    ((id : ℕ) → Ends id old status new → HasPrinted labels new) → EndsOnId Refuses text Ends old status new →
+    HasPrinted labels new
 on_id_keeps labels text old status new clean each (no_id isnt same refuses) =
     still_clean labels old new clean (as_they_were old.files new.files same)
 on_id_keeps labels text old status new clean each (of_id id text_is rest) = each id rest

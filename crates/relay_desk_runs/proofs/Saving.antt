@@ -2,17 +2,14 @@
 use Rattle.std.proofs.Common.{◌≡◌, ◌⊎◌, inl, inr, ℕ, List, IsSome, Option, None, Some, Result, Ok, Err, refl, sym, ap, subst, ◌∙◌, arith}
 use Rattle.std.specs.FinMap as finite
 use Rattle.dm_store.specs.Saved.{Done, Faulted, HeldAfterFault, Outcome, Refused, SavePlan, SavedSet}
-use Rattle.dm_assembly_desk.specs.Desk.{Becomes, Carries, Ends, SavesDocument, Stays, Verdict, add_kind, add_verdict, answer_by, forget_verdict, verdict_by}
-use Rattle.dm_assembly_desk.specs.Documents.{DeskView, Documents, Pages}
-use Rattle.dm_assembly_desk.specs.declared.adding.AddFault.{AddFault}
+use Rattle.dm_assembly_desk.specs.Desk.{Becomes, DeskCarriesOut, SaveEnds, SavesDocument, Stays, Verdict, add_kind, add_verdict, answer_by, forget_verdict, verdict_by}
+use Rattle.dm_assembly_desk.specs.{Documents.DeskView, Documents.Documents, Documents.Pages, declared.reply.Kind.Kind}
+use Rattle.dm_assembly_desk.specs.declared.{adding.AddFault.AddFault, fault.ForgetFault.ForgetFault}
 use Rattle.dm_assembly_desk.specs.declared.adding.AddFault.TheVariants as adds
-use Rattle.dm_assembly_desk.specs.declared.fault.ForgetFault.{ForgetFault}
 use Rattle.dm_assembly_desk.specs.declared.fault.ForgetFault.TheVariants as forgets
 use Rattle.dm_assembly_desk.specs.declared.reply.Imported.{Imported}
-use Rattle.dm_assembly_desk.specs.declared.reply.Kind.{Kind}
 use Rattle.dm_assembly_desk.specs.declared.reply.Kind.TheVariants.{New, Again, Complete}
-use Rattle.dm_event_history.specs.Relay.{Label}
-use Rattle.dm_event_history.specs.Headline.{ArePrinted, HaveLeft, IsCleanExport}
+use Rattle.dm_event_history.specs.{Relay.Label, Headline.ArePrinted, Headline.HaveLeft, Headline.IsCleanExport}
 use Rattle.relay_desk_runs.specs.Answered.{HoldsPrinted}
 use Rattle.relay_desk_runs.proofs.OneDesk.{added, let_go}
 
@@ -49,7 +46,7 @@ module _ (labels : List Label) (old new : DeskView) (clean : ShowsPrinted labels
 
   -- a save ended; if anything may have been saved, it was so
   ended : (id : ℕ) (held : Documents) (outcome : Outcome) → ((outcome ≡ Refused → ⊥) → HaveLeft labels held) →
-      Ends id held outcome old new → ShowsPrinted labels new
+      SaveEnds id held outcome old new → ShowsPrinted labels new
   ended id held Done next ends =
       let kept = ends.keeps clean.set.honest in
       let to_be = next (λ e. cc (e)) in
@@ -93,32 +90,33 @@ module _ (labels : List Label) (old new : DeskView) (clean : ShowsPrinted labels
 
       becomes : (held : Documents) (reply : Imported) →
           add_verdict old.capacity old.held id pages ≡ Becomes held (Ok reply) →
-          Carries (Err adds.Memory) (Err adds.Save) id (Becomes held (Ok reply)) old answer new → ShowsPrinted labels new
+          DeskCarriesOut (Err adds.Memory) (Err adds.Save) id (Becomes held (Ok reply)) old answer new →
+          ShowsPrinted labels new
       becomes held reply verdict (outcome, is, ends) =
           ended id held outcome (λ isnt. added labels printed old.capacity old.held clean.shown
           (record { id = id; pages = pages }) (sent (may_be reply outcome isnt is)) held (Ok reply) verdict) ends
 
       by_kind : (kind : Result Kind AddFault) → add_kind old.capacity old.held id pages ≡ kind →
-          Carries (Err adds.Memory) (Err adds.Save) id (verdict_by old.held id pages kind) old answer new →
+          DeskCarriesOut (Err adds.Memory) (Err adds.Save) id (verdict_by old.held id pages kind) old answer new →
           ShowsPrinted labels new
       by_kind (Err fault) is carries = unchanged carries.1
       by_kind (Ok Again) is carries = unchanged carries.1
       by_kind (Ok New) is carries = becomes _ _ (ap (verdict_by old.held id pages) is) carries
       by_kind (Ok Complete) is carries = becomes _ _ (ap (verdict_by old.held id pages) is) carries
 
-      pub adding : Carries (Err adds.Memory) (Err adds.Save) id (add_verdict old.capacity old.held id pages) old answer new →
-          ShowsPrinted labels new
+      pub adding : DeskCarriesOut (Err adds.Memory) (Err adds.Save) id (add_verdict old.capacity old.held id pages)
+          old answer new → ShowsPrinted labels new
       adding carries = by_kind (add_kind old.capacity old.held id pages) refl carries
 
     -- ---- a document is forgotten
 
     pub forgetting : (id : ℕ) (answer : Result (Unit {0}) ForgetFault) →
-        Carries (Err forgets.Memory) (Err forgets.Save) id (forget_verdict old.held id) old answer new →
+        DeskCarriesOut (Err forgets.Memory) (Err forgets.Save) id (forget_verdict old.held id) old answer new →
         ShowsPrinted labels new
     forgetting id answer carries = by_verdict (forget_verdict old.held id) refl carries
       where
         by_verdict : (v : Verdict (Result (Unit {0}) ForgetFault)) → forget_verdict old.held id ≡ v →
-            Carries (Err forgets.Memory) (Err forgets.Save) id v old answer new → ShowsPrinted labels new
+            DeskCarriesOut (Err forgets.Memory) (Err forgets.Save) id v old answer new → ShowsPrinted labels new
         by_verdict (Stays told) is does = unchanged does.1
         by_verdict (Becomes held told) is (outcome, told_is, ends) =
             ended id held outcome (λ isnt. let_go labels printed old.capacity old.held clean.shown id held told is) ends

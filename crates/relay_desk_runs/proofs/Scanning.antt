@@ -2,25 +2,19 @@
 use Rattle.std.proofs.Common.{◌++◌, ℕ, Bool, List, [], ◌∷◌, Option, Result, Ok, Err, sym, subst, ◌∙◌}
 use Rattle.std.specs.List.{AllByRecursion}
 use Rattle.dm_finder_frame.specs.Frame.{GridView}
-use Rattle.dm_append_label.specs.Labels.{PageView}
-use Rattle.dm_append_label.specs.Opening.{LabelOpens}
-use Rattle.dm_append_label.specs.declared.fault.LabelFault.{LabelFault}
+use Rattle.dm_append_label.specs.{Labels.PageView, Opening.LabelOpens, declared.fault.LabelFault.LabelFault}
 use Rattle.dm_append_label.specs.declared.opening.Opened.{Opened}
 use Rattle.dm_pbm_io.specs.Image.{Picture}
-use Rattle.dm_assembly_desk.specs.Desk.{AcceptsGrid, Scans, lone, scan_of}
-use Rattle.dm_assembly_desk.specs.Documents.{DeskView}
-use Rattle.dm_assembly_desk.specs.declared.adding.AddFault.{AddFault}
+use Rattle.dm_assembly_desk.specs.{Desk.AcceptsGrid, Desk.Scans, Desk.lone, Desk.scan_of, Documents.DeskView}
+use Rattle.dm_assembly_desk.specs.declared.{adding.AddFault.AddFault, reply.Accepted.Accepted, reply.Imported.Imported}
 use Rattle.dm_assembly_desk.specs.declared.adding.AddFault.TheVariants as adds
-use Rattle.dm_assembly_desk.specs.declared.reply.Accepted.{Accepted}
-use Rattle.dm_assembly_desk.specs.declared.reply.Imported.{Imported}
 use Rattle.dm_assembly_desk.specs.declared.fault.ScanFault.{ScanFault}
 use Rattle.dm_assembly_desk.specs.declared.fault.ScanFault.TheVariants as scan_fault
-use Rattle.dm_event_history.specs.Relay.{Label}
-use Rattle.dm_event_history.specs.Headline.{ArePrinted, IsCleanExport}
+use Rattle.dm_event_history.specs.{Relay.Label, Headline.ArePrinted, Headline.IsCleanExport}
 use Rattle.dm_event_history.proofs.Stays.{lone_clean, lone_export}
 use Rattle.relay_streams.specs.Streams.{InputView}
-use Rattle.relay_shared.specs.Command.{AnswersImages, AtImage, Comes, EndsImages, Progress, Said, TellsFile, TellsFiles, TellsImages, TellsInputs}
-use Rattle.relay_shared.specs.Command.Comes.{image, unread, too_many}
+use Rattle.relay_shared.specs.Command.{AnswersImages, AtImage, ImageComes, EndsImages, Progress, Said, TellsFile, TellsFiles, TellsImages, TellsInputs}
+use Rattle.relay_shared.specs.Command.ImageComes.{image, unread, too_many}
 use Rattle.relay_shared.specs.Command.AnswersImages.{none, another}
 use Rattle.relay_shared.specs.Command.EndsImages.{no_image, last_line}
 use Rattle.relay_shared.specs.Command.TellsImages.{ended, stopped}
@@ -30,7 +24,7 @@ use Rattle.relay_shared.specs.Command.TellsInputs.{of_files, of_input}
 use Rattle.relay_desk_commands.specs.Desks.{AtDesk, EndsScan, ScansPicture, scan_images}
 use Rattle.relay_desk_commands.specs.Desks.ScansPicture.{accepted, refused, no_grid}
 use Rattle.relay_desk_commands.specs.Desks.EndsAtDesk.{no_desk, opened}
-use Rattle.relay_desk_runs.specs.Answered.{grids_at_end, grids_before, grids_of_bytes, grids_of_file, grids_of_files, grids_of_images, grids_of_inputs, grids_of_picture, grids_scanned, if_saved, EachScanKeeps, HasNoDocuments, HoldsPrinted, IsClean, IsNearPrinted, IsOfLabel}
+use Rattle.relay_desk_runs.specs.Answered.{grids_at_end, grids_before, grids_of_bytes, grids_of_file, grids_of_files, grids_of_images, grids_of_inputs, grids_of_picture, grids_scanned, if_saved, EachScanKeeps, HasNoDocuments, HoldsPrinted, HasPrinted, IsNearPrinted, IsOfLabel}
 use Rattle.relay_desk_runs.proofs.Saving.{MayBeAdded, ShowsPrinted, adding}
 use Rattle.relay_desk_runs.proofs.Opened.{is_opened, still_clean, unopened}
 
@@ -104,7 +98,7 @@ module _ (A : Type 0) (labels : List Label) (printed : ArePrinted labels) where
   picture (no_grid fault has notes) clean near = clean
 
   come : {count : ℕ} {now after : AtDesk} {bytes : List ℕ} {rest : InputView} {said : Said} {last : Bool}
-      (comes : Comes (scan_images A) count now bytes rest said last after) → ShowsPrinted labels now.desk →
+      (comes : ImageComes (scan_images A) count now bytes rest said last after) → ShowsPrinted labels now.desk →
       Near (grids_of_bytes comes) → ShowsPrinted labels after.desk
   come (image p few spells answers last_is) clean near = picture answers clean near
   come (unread fault few is sees) clean near = subst (ShowsPrinted labels) (sym sees.0) clean
@@ -161,7 +155,7 @@ pub each_scan_keeps : (A : Type 0) → EachScanKeeps A
 each_scan_keeps A labels capacity images old status new printed clean how near = by_desk how near
   where
     by_desk : (ends : EndsScan A capacity images old status new) →
-        AllByRecursion (IsNearPrinted labels) (grids_scanned ends) → IsClean labels new
+        AllByRecursion (IsNearPrinted labels) (grids_scanned ends) → HasPrinted labels new
     by_desk (no_desk name has refuses) near =
         still_clean labels old new clean (unopened old.files new.files capacity name clean.joint has)
     by_desk (opened desk opens rest) near =

@@ -6,12 +6,11 @@ use Rattle.dm_size.specs.declared.size.Size.{Size}
 use Rattle.dm_encodation.specs.declared.scheme.Scheme.{Scheme}
 use Rattle.dm_pbm_io.specs.Image.{Picture}
 use Rattle.dm_assembly_desk.specs.Documents.{Documents, HoldsFiles, IsEntry, Pages, file}
-use Rattle.dm_assembly_desk.specs.declared.fault.ScanFault.{ScanFault}
-use Rattle.dm_assembly_desk.specs.declared.fault.ImportFault.{ImportFault}
-use Rattle.dm_assembly_desk.specs.declared.reply.Imported.{Imported}
+use Rattle.dm_assembly_desk.specs.declared.fault.{ScanFault.ScanFault, ImportFault.ImportFault}
+use Rattle.dm_assembly_desk.specs.{declared.reply.Imported.Imported, Desk.HoldsJointFile}
 use Rattle.relay_streams.specs.Streams.{InputView, AppendsPart}
-use Rattle.relay_shared.specs.Command.{AnswersImages, AtImage, Comes, EndsImages, Progress, Said, TellsFile, TellsFiles, TellsImages, TellsInputs}
-use Rattle.relay_shared.specs.Command.Comes.{image, unread, too_many}
+use Rattle.relay_shared.specs.Command.{AnswersImages, AtImage, ImageComes, EndsImages, Progress, Said, TellsFile, TellsFiles, TellsImages, TellsInputs}
+use Rattle.relay_shared.specs.Command.ImageComes.{image, unread, too_many}
 use Rattle.relay_shared.specs.Command.AnswersImages.{none, another}
 use Rattle.relay_shared.specs.Command.EndsImages.{no_image, last_line}
 use Rattle.relay_shared.specs.Command.TellsImages.{ended, stopped}
@@ -19,20 +18,16 @@ use Rattle.relay_shared.specs.Command.TellsFile.{not_opened, opened as was_opene
 use Rattle.relay_shared.specs.Command.TellsFiles.{last_file, next_file, no_file}
 use Rattle.relay_shared.specs.Command.TellsInputs.{of_files, of_input}
 use Rattle.relay_desk_commands.specs.Desks.{EndsCopy, GivesCopy, AtDesk, EndsExport, EndsImport, EndsScan, OnDesk, ScansPicture, scan_images, EndsDeliver, EndsForget, IsTextOfId}
-use Rattle.relay_desk_commands.specs.Desks.EndsCopyOf.{no_side, of_side}
+use Rattle.relay_desk_commands.specs.Desks.{EndsCopyOf.no_side, EndsCopyOf.of_side, EndsOnId.no_id, EndsOnId.of_id}
 use Rattle.relay_desk_commands.specs.declared.copy.CopyOptions.{CopyOptions}
 use Rattle.relay_desk_commands.specs.Desks.ScansPicture.{accepted, refused, no_grid}
-use Rattle.relay_desk_commands.specs.Desks.EndsAtDesk.{no_desk, opened}
-use Rattle.relay_desk_commands.specs.Desks.EndsOnId.{no_id, of_id}
-use Rattle.relay_desk_commands.specs.Desks.EndsImport.{not_read, read}
-use Rattle.std.specs.List.{AllByRecursion}
+use Rattle.relay_desk_commands.specs.Desks.{EndsAtDesk.no_desk, EndsAtDesk.opened, EndsImport.not_read, EndsImport.read}
+use Rattle.std.specs.{List.AllByRecursion, Io.KnownBytes.Appends}
 use Rattle.dm_symbol.specs.Correction.{IsNear}
 use Rattle.dm_append_label.specs.Labels.{Carries, PageView}
 use Rattle.dm_store.specs.Saved.{Saved, SavedSet}
-use Rattle.dm_assembly_desk.specs.Desk.{HoldsJointFile}
 use Rattle.dm_event_history.specs.Relay.{Label}
 use Rattle.dm_event_history.specs.Headline.{AreOfOneDocument, ArePrinted, HaveLeft, IsCleanExport, IsTheDocument}
-use Rattle.std.specs.Io.KnownBytes.{Appends}
 use Rattle.dm_assembly_desk.specs.declared.fault.ScanFault.TheVariants as scans
 use Rattle.dm_assembly_desk.specs.declared.fault.ImportFault.TheVariants as imports
 use Rattle.std.specs.FinMap as finite
@@ -50,7 +45,7 @@ grids_of_picture (refused grid fault id shape inside accepts is notes) = if_save
 grids_of_picture (no_grid fault has notes) = []
 
 abbrev pub grids_of_bytes : {A : Type 0} {count : ℕ} {now after : AtDesk} {bytes : List ℕ} {rest : InputView} {said : Said}
-    {last : Bool} → Comes (scan_images A) count now bytes rest said last after → List GridView
+    {last : Bool} → ImageComes (scan_images A) count now bytes rest said last after → List GridView
 grids_of_bytes (image p few spells answers is) = grids_of_picture answers
 grids_of_bytes (unread fault few is sees) = []
 grids_of_bytes (too_many all is) = []
@@ -146,7 +141,7 @@ pub record HasNoDocuments (joint : Saved) : Type 0 where
   pub none : (held : Documents) → HoldsJointFile joint.content held → 0 < finite.len held → ⊥
 
 -- what these commands need, and keep
-pub record IsClean (labels : List Label) (on : OnDesk) : Type 0 where
+pub record HasPrinted (labels : List Label) (on : OnDesk) : Type 0 where
   pub set : HoldsPrinted labels on.files.set
   pub joint : HasNoDocuments on.files.joint
 
@@ -174,7 +169,7 @@ pub record IsPrintedFile (labels : List Label) (bytes : List ℕ) : Type 0 where
   pub clean : IsCleanExport labels (record { id = id; pages = pages })
 
 -- The output got nothing, and the status is 1; or it got a first part of the one document that the labels of this
--- identification are cut from, and all of it where the status is 0.
+-- ID are cut from, and all of it where the status is 0.
 pub data GivesPrinted (labels : List Label) (text : List ℕ) (old : OnDesk) (status : ℕ) (new : OnDesk) : Type 0 where
   nothing : new.streams.output ≡ old.streams.output → status ≡ 1 → GivesPrinted labels text old status new
   document : (id : ℕ) (bytes : List ℕ) → IsTextOfId text id → IsTheDocument labels id bytes
@@ -186,32 +181,32 @@ pub data GivesPrinted (labels : List Label) (text : List ℕ) (old : OnDesk) (st
 
 abbrev pub EachScanKeeps : Type 0 → Type 0
 EachScanKeeps A = (labels : List Label) (capacity : ℕ) (images : List (Option (List ℕ))) (old : OnDesk) (status : ℕ)
-    (new : OnDesk) → ArePrinted labels → IsClean labels old → (ends : EndsScan A capacity images old status new) →
-    AllByRecursion (IsNearPrinted labels) (grids_scanned ends) → IsClean labels new
+    (new : OnDesk) → ArePrinted labels → HasPrinted labels old → (ends : EndsScan A capacity images old status new) →
+    AllByRecursion (IsNearPrinted labels) (grids_scanned ends) → HasPrinted labels new
 
 abbrev pub EachImportKeeps : Type 0
 EachImportKeeps = (labels : List Label) (capacity : ℕ) (old : OnDesk) (status : ℕ) (new : OnDesk) → ArePrinted labels →
-    IsClean labels old → (ends : EndsImport capacity old status new) →
-    IfSome (file_imported ends) (IsPrintedFile labels) → IsClean labels new
+    HasPrinted labels old → (ends : EndsImport capacity old status new) →
+    IfSome (file_imported ends) (IsPrintedFile labels) → HasPrinted labels new
 
 abbrev pub EachForgetKeeps : Type 0
 EachForgetKeeps = (labels : List Label) (text : List ℕ) (old : OnDesk) (status : ℕ) (new : OnDesk) → ArePrinted labels →
-    IsClean labels old → EndsForget text old status new → IsClean labels new
+    HasPrinted labels old → EndsForget text old status new → HasPrinted labels new
 
 -- what `export` gives is such a file
 abbrev pub EachExportIsPrinted : Type 0
-EachExportIsPrinted = (labels : List Label) (text : List ℕ) (old : OnDesk) (status : ℕ) (new : OnDesk) → IsClean labels old →
-    (ends : EndsExport text old status new) →
-    IsClean labels new × IfSome (file_exported ends) (IsPrintedFile labels)
+EachExportIsPrinted = (labels : List Label) (text : List ℕ) (old : OnDesk) (status : ℕ) (new : OnDesk) →
+    HasPrinted labels old → (ends : EndsExport text old status new) →
+    HasPrinted labels new × IfSome (file_exported ends) (IsPrintedFile labels)
 
 -- what `copy` writes carries the page of a label that left
 abbrev pub EachCopyIsPrinted : Type 0
 EachCopyIsPrinted = (labels : List Label) (options : CopyOptions) (old : OnDesk) (status : ℕ) (new : OnDesk) →
-    ArePrinted labels → AreOfOneDocument labels → IsClean labels old → (ends : EndsCopy options old status new) →
-    IsClean labels new
+    ArePrinted labels → AreOfOneDocument labels → HasPrinted labels old → (ends : EndsCopy options old status new) →
+    HasPrinted labels new
     × IfSome (label_copied ends) (λ grid. (page : PageView) × Carries page grid × IsOfLabel labels page)
 
 abbrev pub EachDeliverIsPrinted : Type 0
 EachDeliverIsPrinted = (labels : List Label) (text : List ℕ) (old : OnDesk) (status : ℕ) (new : OnDesk) →
-    ArePrinted labels → AreOfOneDocument labels → IsClean labels old → EndsDeliver text old status new →
-    IsClean labels new × GivesPrinted labels text old status new
+    ArePrinted labels → AreOfOneDocument labels → HasPrinted labels old → EndsDeliver text old status new →
+    HasPrinted labels new × GivesPrinted labels text old status new

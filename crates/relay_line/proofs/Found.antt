@@ -1,9 +1,8 @@
 -- What a getter says, by the rows that contracts see.
 use Rattle.std.specs.Prelude.{◌≡◌, ℕ, List, option_map}
 use Rattle.clap.specs.Matches.{first_value, matched_of, one_text, raw_values}
-use Rattle.clap.specs.Walk.{all_of, first_of, one_of, rows_of}
+use Rattle.clap.specs.{Walk.all_of, Walk.first_of, Walk.one_of, Walk.rows_of, declared.parser.matches.Found.Found}
 use Rattle.clap.proofs.WalkLemmas.{first_value-rows, one_text-rows, raw_values-rows}
-use Rattle.clap.specs.declared.parser.matches.Found.{Found}
 
 pub first_value_of : (f : Found) (id : List ℕ) → first_value f id ≡ first_of id (rows_of f)
 first_value_of = first_value-rows

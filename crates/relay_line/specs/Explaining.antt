@@ -1,8 +1,6 @@
 -- What `relay explain` says, by a table of texts. The first line of each is the name of a refusal.
-use Rattle.std.specs.Borrow.{Bor}
+use Rattle.std.specs.{Borrow.Bor, List.before_first, Str.bytes_eq}
 use Rattle.std.specs.Prelude.{ℕ, List, [], ◌∷◌, ◌++◌, ◌==◌, Option, Some, None, if◌then◌else◌, flat_map}
-use Rattle.std.specs.List.{before_first}
-use Rattle.std.specs.Str.{bytes_eq}
 
 -- the bytes before the first line end
 abbrev pub first_line : List ℕ → List ℕ
@@ -14,5 +12,5 @@ explained [] name = None
 explained (text ∷ rest) name = if bytes_eq (first_line text.now) name then Some text.now else explained rest name
 
 -- the names, a line each
-abbrev pub names : List (Bor (List ℕ)) → List ℕ
-names table = flat_map (λ text. first_line text.now ++ 10 ∷ []) table
+abbrev pub name_lines : List (Bor (List ℕ)) → List ℕ
+name_lines table = flat_map (λ text. first_line text.now ++ 10 ∷ []) table

@@ -4,13 +4,10 @@ use Rattle.std.specs.Prelude.{◌≡◌, ℕ, ◌≤◌, ◌⊎◌, List, codes,
 use Rattle.std.specs.Str.Parse.{digits_value, without_leading_plus}
 use Rattle.clap.specs.Walk.{Row, all_of, first_of, one_of}
 use Rattle.dm_encodation.specs.declared.scheme.Scheme.TheVariants.{Ascii}
-use Rattle.relay_command.specs.declared.command.Command.{Command}
+use Rattle.relay_command.specs.{declared.command.Command.Command, declared.command.Labels.Labels, Schemes.scheme_name}
 use Rattle.relay_command.specs.declared.command.Command.TheVariants.{Words, Draw, Read, Plan, Ticket, Ledger, Print, Give, GiveLast, Take, Left, Audit, Scan, Deliver, Forget, Export, Import, Held, Copy, World}
-use Rattle.relay_command.specs.declared.command.Labels.{Labels}
 use Rattle.relay_command.specs.declared.command.Labels.TheVariants.{OfSide, AtMost}
-use Rattle.relay_command.specs.Schemes.{scheme_name}
-use Rattle.relay_line.specs.declared.line.CommandLine.{CommandLine}
-use Rattle.relay_line.specs.declared.fault.LineFault.{LineFault}
+use Rattle.relay_line.specs.declared.{line.CommandLine.CommandLine, fault.LineFault.LineFault}
 use Rattle.relay_line.specs.declared.fault.LineFault.TheVariants.{Line, Memory}
 
 -- the name by which a command is asked for
@@ -124,6 +121,6 @@ HasStatus (Line text status) = (status ≡ 0) ⊎ (status ≡ 2)
 HasStatus Memory = Unit {0}
 
 -- it ends with this status, unless memory is refused
-abbrev pub EndsWith : ℕ → LineFault → Type 0
-EndsWith ended (Line text status) = status ≡ ended
-EndsWith ended Memory = Unit {0}
+abbrev pub EndsWithStatus : ℕ → LineFault → Type 0
+EndsWithStatus ended (Line text status) = status ≡ ended
+EndsWithStatus ended Memory = Unit {0}

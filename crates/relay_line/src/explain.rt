@@ -1,7 +1,7 @@
 //! What a refusal means, by a table of texts: the first line of each is the name of a refusal.
 
 ghost use Rattle.std.specs.Prelude.{◌≡◌, option_map, string_bytes, IfOk};
-ghost use Rattle.relay_line.specs.Explaining.{explained, first_line, names};
+ghost use Rattle.relay_line.specs.Explaining.{explained, first_line, name_lines};
 
 use std::alloc::{AllocError, Global};
 
@@ -28,7 +28,7 @@ pub fn explanation_in(table: &[&'static str], name: &str) -> Option<&'static str
 
 /// The names that a table has, a line each.
 pub fn names_in(alloc: Global, table: &[&str]) -> Result<String, AllocError>
-    ensures { IfOk result (λ listed. string_bytes listed ≡ names table.now) }
+    ensures { IfOk result (λ listed. string_bytes listed ≡ name_lines table.now) }
 {
     let mut listed = String::new(alloc);
     for text in table {

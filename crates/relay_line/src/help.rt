@@ -3,7 +3,9 @@
 
 use crate::options::Row;
 use crate::options::rows::{
-    ANY_ID, CAPACITY, COPY_SIDE, COUNT, DESK, FIRST, ID, IMAGES, LABELS, LAST, LEAST_SIDE, LEDGER, LEDGERS, NUMBER, OWN_NUMBER, PAGE, PLAIN, REFUSAL, SAVED, SCHEME, SIDE, SOME_FIRST, SOME_LAST, TICKET, TO,
+    ANY_ID, CAPACITY, COPY_SIDE, COUNT, DESK, FIRST, ID, IMAGES, LABELS, LAST, LEAST_SIDE, LEDGER,
+    LEDGERS, NUMBER, OWN_NUMBER, PAGE, PLAIN, REFUSAL, SAVED, SCHEME, SIDE, SOME_FIRST, SOME_LAST,
+    TICKET, TO,
 };
 
 /// A command, its options, and what its help says above and below them.
@@ -35,13 +37,13 @@ program. `relay explain NAME` says what a refusal means.",
 static OF_SYMBOLS: [Page; 3] = [
     Page {
         name: "words",
-        about: "Prints the words of a document's symbol, in decimal",
+        about: "Prints the codewords of a document's symbol, in decimal",
         usage: "relay words [--side SIDE] [--scheme SCHEME] < DOCUMENT",
         rows: &[LEAST_SIDE, SCHEME],
         more: "\
-A word is one of the numbers from 0 to 255 that a symbol holds. Side 10 holds 6
-digits or 1 byte, side 132 holds 2608 digits or 1301 bytes; docs/SYMBOLS.md has
-the whole table. A refusal goes to standard output.
+A codeword is one of the numbers from 0 to 255 that a symbol holds. Side 10
+holds 6 digits or 1 byte, side 132 holds 2608 digits or 1301 bytes;
+docs/SYMBOLS.md has the whole table. A refusal goes to standard output.
 
 Example:
   printf 123456 | relay words",
@@ -70,12 +72,12 @@ An image has one pixel per module, and around the symbol a quiet zone of one
 pixel. Packed images may follow one another; what follows a plain one is not
 looked at. Each image gives a line:
   label IIII m/n corrected C wrong W HEX
-                  label m of n, with the file identification IIII
+                  label m of n, with the ID IIII
   symbol SIDE corrected C wrong W HEX
                   another symbol
   refused NAME    none that can be read
-C words were wrong and were corrected, W modules of the finder patterns are
-wrong, and HEX is the bytes in hexadecimal, or `-` for none.
+C codewords were wrong and were corrected, W modules of the finder patterns
+are wrong, and HEX is the bytes in hexadecimal, or `-` for none.
 Files that are named are read in turn, up to the end of each.
 
 Example:
@@ -90,9 +92,9 @@ static OF_PRINTERS: [Page; 8] = [
         usage: "relay ledger --file LEDGER --first N --last N [--number N]",
         rows: &[LEDGER, FIRST, LAST, OWN_NUMBER],
         more: "\
-A ledger is what a printer remembers: which identifications are free. Give no
-identification to two ledgers. Prints `left N`, how many are free. A refusal
-goes to standard output, and a file that holds something is not written over.
+A ledger is what a printer remembers: which IDs are free. Give no ID to two
+ledgers. Prints `left N`, how many are free. A refusal goes to standard output,
+and a file that holds something is not written over.
 
 Example:
   relay ledger --file north.ledger --first 0 --last 9999 --number 1",
@@ -112,35 +114,34 @@ Example:
     },
     Page {
         name: "print",
-        about: "Prints a document as labels that carry one identification",
+        about: "Prints a document as labels that carry one ID",
         usage: "relay print --file LEDGER (--side SIDE | --labels K) [--scheme SCHEME]\n         [--number N] < DOCUMENT > IMAGES",
         rows: &[LEDGER, SIDE, LABELS, SCHEME, OWN_NUMBER],
         more: "\
-The document is cut into 2 to 16 labels, which carry the least identification
-that is free. It is saved as used, then `printed IIII n left N` goes to standard
-error (the identification, the number of labels, how many are left), and then
-the labels to standard output, as packed PBM images one after another. A
-label that is lost can be drawn again by `copy`, at a desk that holds its page;
-a document that is printed again gets another identification.
+The document is cut into 2 to 16 labels, which carry the least ID that is free.
+It is saved as used, then `printed IIII n left N` goes to standard error (the
+ID, the number of labels, how many IDs are left), and then the labels to
+standard output, as packed PBM images one after another. A label that is lost
+can be drawn again by `copy`, at a desk that holds its page; a document that is
+printed again gets another ID.
 
-A label holds four words less than a symbol: at side 18 28 digits or 12 bytes,
-at side 132 2600 digits or 1297 bytes. A refusal goes to standard error.
+A label holds four codewords less than a symbol: at side 18 28 digits or 12
+bytes, at side 132 2600 digits or 1297 bytes. A refusal goes to standard error.
 
 Example:
   relay print --file north.ledger --number 1 --side 52 < letter > labels.pbm",
     },
     Page {
         name: "give",
-        about: "Gives free identifications to another printer, by a ticket",
+        about: "Gives free IDs to another printer, by a ticket",
         usage: "relay give --file LEDGER --number N --to N\n         (--first N --last N | --count N)",
         rows: &[LEDGER, NUMBER, TO, SOME_FIRST, SOME_LAST, COUNT],
         more: "\
-The identifications are saved as gone, and then `ticket HEX` is printed. Only
-the printer that it is for can take it, and only once. A ticket that is lost
-takes its identifications with it. With --count the last N identifications go
-that are free and follow one another; if there are none, `refused NotFree` is
-printed, and how many the longest range has goes to standard error. A refusal
-goes to standard output.
+The IDs are saved as gone, and then `ticket HEX` is printed. Only the printer
+that it is for can take it, and only once. A ticket that is lost takes its IDs
+with it. With --count the last N IDs go that are free and follow one another; if
+there are none, `refused NotFree` is printed, and how many the longest range has
+goes to standard error. A refusal goes to standard output.
 
 Example:
   relay give --file north.ledger --number 1 --to 2 --first 5000 --last 5999",
@@ -153,8 +154,8 @@ Example:
         more: "\
 Prints, a line each:
   from P to Q serial S first A last B
-                    printer P gives the identifications from A to B to
-                    printer Q, by its ticket with serial S
+                    printer P gives the IDs from A to B to printer Q, by
+                    its ticket with serial S
   check HEX         the ticket in groups of four digits, to copy by hand: the
                     last group checks the others, so that a copy with one or
                     two wrong digits is refused
@@ -166,14 +167,13 @@ Example:
     },
     Page {
         name: "take",
-        about: "Takes the identifications of a ticket",
+        about: "Takes the IDs of a ticket",
         usage: "relay take --file LEDGER --number N --ticket HEX",
         rows: &[LEDGER, NUMBER, TICKET],
         more: "\
-Prints `taken left N`, how many identifications are free then. A ticket is
-taken once. Take the tickets of one giver in the order in which they were
-given: after a later one an earlier one is refused `Old`. A refusal goes to
-standard output.
+Prints `taken left N`, how many IDs are free then. A ticket is taken once. Take
+the tickets of one giver in the order in which they were given: after a later
+one an earlier one is refused `Old`. A refusal goes to standard output.
 
 Example:
   relay take --file south.ledger --number 2 --ticket 0001000000021388176f",
@@ -186,7 +186,7 @@ Example:
         more: "\
 Prints, a line each:
   printer P         the printer's number, or `-` for a ledger of version 1
-  left N            how many identifications are free
+  left N            how many IDs are free
   free A B IIII IIII
                     which: from A to B, in decimal and as labels have them
   given N           how many tickets were given
@@ -206,7 +206,7 @@ Example:
 Reads ledgers, and from standard input tickets, one a line, in either form. For
 each two that break what printers rely on it prints a line:
   number A B        two ledgers are of one printer
-  free A B          an identification is free in both, or free in A and on the
+  free A B          an ID is free in both, or free in A and on the
                     ticket B that its printer has not taken, or on two of those
   again A B         one serial of a printer was given twice
   behind A B        ledger A is an older state: by B its printer has given more,
@@ -231,7 +231,7 @@ static OF_DESKS: [Page; 7] = [
         more: "\
 An image has one pixel per module, as for `read`. Its page is saved, and then a
 line says what it was:
-  IIII m/n new       page m of n, with the file identification IIII, is held now
+  IIII m/n new       page m of n, with the ID IIII, is held now
   IIII m/n again     it was held already
   IIII m/n complete  it is held now, and so are all other pages
   refused NAME       nothing was changed
@@ -290,10 +290,10 @@ Example:
         usage: "relay import --file DESK [--capacity N] < PAGES",
         rows: &[DESK, CAPACITY],
         more: "\
-Prints `IIII n added MASK KIND`: the identification, how many pages the document
-has, which of them were added (bit m - 1 for page m, in hexadecimal), and
-whether the document is `complete` now, or `new` pages were added, or all were
-held already (`again`). All are saved at once. A refusal goes to standard
+Prints `IIII n added MASK KIND`: the ID, how many pages the document has, which
+of them were added (bit m - 1 for page m, in hexadecimal), and whether the
+document is `complete` now, or `new` pages were added, or all were held already
+(`again`). All are saved at once. A refusal goes to standard
 output. `relay scan --help` says more of --capacity.
 
 Example:
@@ -306,13 +306,13 @@ Example:
         rows: &[DESK, ANY_ID],
         more: "\
 Prints a line for each document of which a page is held: `IIII N complete`, or
-`IIII N lacks 3 7 12`, its identification, how many pages it has, and which are
-missing. With --id it prints the line of that document alone, or a refusal.
-A file that can't be used doesn't hide the others: in its place stands
-`file NAME FAULT`, and the exit status is 1. NAME is that of the file in the
-folder DESK.pages, or `joint` for the file of an older version at DESK, which
-may hold the document that --id asks for. Nothing is saved, and another program
-may gather meanwhile. A refusal goes to standard output.
+`IIII N lacks 3 7 12`, its ID, how many pages it has, and which are missing.
+With --id it prints the line of that document alone, or a refusal. A file that
+can't be used doesn't hide the others: in its place stands `file NAME FAULT`,
+and the exit status is 1. NAME is that of the file in the folder DESK.pages, or
+`joint` for the file of an older version at DESK, which may hold the document
+that --id asks for. Nothing is saved, and another program may gather meanwhile.
+A refusal goes to standard output.
 
 Example:
   relay held --file desk",
@@ -343,8 +343,8 @@ static OTHERS: [Page; 3] = [
 The script names printers, desks, and events: prints, scans, restarts and so on,
 each of which may be stopped where power could fail, or meet a failing save.
 Each event gives a line; the line begins with `! ` where a scanned copy has more
-wrong words than can be corrected. docs/RECIPES.md has the form of a script. No
-file is read or written. A refusal goes to standard output.
+wrong codewords than can be corrected. docs/RECIPES.md has the form of a
+script. No file is read or written. A refusal goes to standard output.
 
 Example:
   printf 'range 0 9\\ndesks 1 4\\nprint 0 12 ascii 31323334 -\\n' | relay world",

@@ -46,12 +46,12 @@ pub mod rows {
     const HEX_HELP: &str = "the 20 digits that `give` printed, or the form with\n\
         check digits that `ticket` printed";
     const CAPACITY_HELP: &str = "how many documents it may hold, 1 to 1024";
-    const ID_HELP: &str = "the identification: 4 hexadecimal digits";
+    const ID_HELP: &str = "the ID: 4 hexadecimal digits";
     const IMAGES_HELP: &str = "files of images, read in turn; `-` is the standard input";
     const NAME_HELP: &str = "the name of a refusal; without one, prints all names";
     const LEDGER_HELP: &str = "the file that holds the ledger";
-    const FIRST_HELP: &str = "the first identification, from 0";
-    const LAST_HELP: &str = "the last identification, up to 64515";
+    const FIRST_HELP: &str = "the first ID, from 0";
+    const LAST_HELP: &str = "the last ID, up to 64515";
     const COUNT_HELP: &str = "the last N that are free in one range, in place of\n\
         --first and --last";
     const LEDGERS_HELP: &str = "the files that hold the ledgers";

@@ -5,7 +5,7 @@ ghost use Rattle.std.specs.Prelude.{slice_get, string_bytes, IfErr, IfOk, IfSome
 ghost use Rattle.clap.specs.Words.{first_of, found_of, kind_of, rows_of, subcommand_rows_of};
 ghost use Rattle.relay_command.specs.Schemes.{scheme_name};
 ghost use Rattle.relay_line.specs.Explaining.{explained};
-ghost use Rattle.relay_line.specs.Line.{EndsWith, HasLabels, HasStatus, HasText, HasFiles, HasValues, IsFound, IsFoundIn, IsNamed, command_name, number_at};
+ghost use Rattle.relay_line.specs.Line.{EndsWithStatus, HasLabels, HasStatus, HasText, HasFiles, HasValues, IsFound, IsFoundIn, IsNamed, command_name, number_at};
 
 use crate::explain::{explanation_in, names_in};
 use crate::explanations::EXPLANATIONS;
@@ -28,12 +28,11 @@ const NO_REFUSAL: &str = "relay: no refusal has this name; `relay explain` lists
 const UNKNOWN: &str = "relay: this command is unknown\n";
 
 // What the program's help leaves out of the parser's lines.
-const HELP_LINE: &str =
-    "\n  help     Print this message or the help of the given subcommand(s)";
+const HELP_LINE: &str = "\n  help     Print this message or the help of the given subcommand(s)";
 
 // What a line that is not taken shows.
 fn shown(text: Result<String, AllocError>, status: u8) -> LineFault
-    ensures { EndsWith status result }
+    ensures { EndsWithStatus status result }
 {
     match text {
         Ok(text) => LineFault::Line { text, status },
@@ -61,7 +60,9 @@ fn help_of(alloc: Global, text: &str) -> Result<String, AllocError> {
         };
         let line = format!(in alloc; "\n  {} ", page.name)?;
         let with_heading = format!(in alloc; "\n{}:{}", group.heading, line.as_str())?;
-        text = text.as_str().replace(alloc, line.as_str(), with_heading.as_str())?;
+        text = text
+            .as_str()
+            .replace(alloc, line.as_str(), with_heading.as_str())?;
     }
     Ok(text)
 }
@@ -69,9 +70,9 @@ fn help_of(alloc: Global, text: &str) -> Result<String, AllocError> {
 // The parser's text and status.
 fn fault_of(alloc: Global, error: &Error) -> LineFault
     ensures asked { (kind_of error.now ≡ ErrorKind.DisplayHelp) ⊎ (kind_of error.now ≡ ErrorKind.DisplayVersion)
-        → EndsWith 0 result }
+        → EndsWithStatus 0 result }
     ensures wrong { kind_of error.now ≢ ErrorKind.DisplayHelp → kind_of error.now ≢ ErrorKind.DisplayVersion
-        → EndsWith 2 result }
+        → EndsWithStatus 2 result }
     ensures status { HasStatus result }
 {
     let text = match error.to_string(alloc) {
@@ -88,8 +89,9 @@ fn fault_of(alloc: Global, error: &Error) -> LineFault
 // What the refusal of a name means, or the names of all.
 fn explanation_of(alloc: Global, table: &[&'static str], name: Option<&str>) -> LineFault
     ensures status { HasStatus result }
-    ensures names { IsNone name.entry → EndsWith 0 result }
-    ensures text { IfSome name.entry (λ n. EndsWith (if is_some (explained table.now n.now) then 0 else 2) result) }
+    ensures names { IsNone name.entry → EndsWithStatus 0 result }
+    ensures text { IfSome name.entry
+        (λ n. EndsWithStatus (if is_some (explained table.now n.now) then 0 else 2) result) }
 {
     let Some(name) = name else {
         return shown(names_in(alloc, table), 0);
@@ -208,7 +210,7 @@ fn desk_command_of<'a>(name: &str, options: &ArgMatches<'a>) -> Option<Command<'
 
 // What a line says whose command no name of the program's is.
 fn unknown(alloc: Global) -> LineFault
-    ensures { EndsWith 2 result }
+    ensures { EndsWithStatus 2 result }
 {
     shown(String::from_str(alloc, UNKNOWN), 2)
 }
@@ -248,9 +250,10 @@ fn answer<'a>(
     ensures named { IfOk result (λ line. name.now ≡ command_name line.command) }
     ensures found { IfOk result (λ line. IsSomeAnd (subcommand_rows_of matches.now) (λ m. IsFoundIn m.1 line)) }
     ensures status { IfErr result HasStatus }
-    ensures version { name.now ≡ codes "version" → IsSome (subcommand_rows_of matches.now) → IfErr result (EndsWith 0) }
-    ensures other { name.now ≢ codes "version" → name.now ≢ codes "explain" → IfErr result (EndsWith 2) }
-    ensures none { IsNone (subcommand_rows_of matches.now) → IfErr result (EndsWith 2) }
+    ensures version { name.now ≡ codes "version" → IsSome (subcommand_rows_of matches.now) →
+        IfErr result (EndsWithStatus 0) }
+    ensures other { name.now ≢ codes "version" → name.now ≢ codes "explain" → IfErr result (EndsWithStatus 2) }
+    ensures none { IsNone (subcommand_rows_of matches.now) → IfErr result (EndsWithStatus 2) }
 {
     match (name, matches.subcommand()) {
         ("version", Some(_)) => Err(shown(format!(in alloc; "relay {VERSION}\n"), 0)),

@@ -1,20 +1,15 @@
 -- What an audit gathers, step by step, and what its silence says.
 use Rattle.std.proofs.Common.{◌≡◌, ◌<◌, ◌+◌, ◌++◌, ◌∙◌, ℕ, Bool, true, false, List, [], ◌∷◌, Option, Some, None, ap, get_or, inl, inr, subst, sym, length, map, refl}
 use Rattle.std.specs.Prelude.{◌==◌, IsTrue, MatchResult, Result, codes, if◌then◌else◌, option_map}
-use Rattle.std.specs.Fmt.{decimal}
-use Rattle.std.specs.List.{AllByRecursion, flat_map}
-use Rattle.std.specs.Option.{option_map_or}
+use Rattle.std.specs.{Fmt.decimal, List.AllByRecursion, List.flat_map, Option.option_map_or}
 use Rattle.std.proofs.lemmas.Bool.{cases_Bool, cond-false, cond-true, eq-eqb, ne_eqb}
 use Rattle.std.proofs.lemmas.Option.{slice_get-get_or, slice_get-map}
-use Rattle.dm_print_ledger.specs.Ledger.{are_ranges}
-use Rattle.dm_print_ledger.specs.Verdicts.{IsSilent, SilenceIsExact}
+use Rattle.dm_print_ledger.specs.{Ledger.are_ranges, Verdicts.IsSilent, Verdicts.SilenceIsExact}
 use Rattle.relay_printer_commands.specs.Printers.{AreAllSound, AuditIsExact, EvidenceView, Gathers, IsSoundPair, ShowsFile, ShowsLine, are_same, audit_lines, breach_line, breach_lines, evidence_name, fault_line}
 use Rattle.relay_shared.proofs.Telling.{told, told_else}
-use Rattle.relay_shared.specs.Command.{Puts, Tells}
-use Rattle.relay_streams.specs.Streams.{OutputView}
-use Rattle.relay_streams.specs.declared.fault.WriteFault.{WriteFault}
-use Rattle.relay_printer_commands.specs.Printers.Gathers.{file, line}
-use Rattle.relay_printer_commands.specs.Printers.IsSoundPair.{same, beside}
+use Rattle.relay_shared.specs.Command.{PutsText, Tells}
+use Rattle.relay_streams.specs.{Streams.OutputView, declared.fault.WriteFault.WriteFault}
+use Rattle.relay_printer_commands.specs.Printers.{Gathers.file, Gathers.line, IsSoundPair.same, IsSoundPair.beside}
 
 -- one more file, and one more line
 
@@ -33,18 +28,19 @@ line_gathered text files lines n i d before one there gathered shows = line (tex
 -- the lines are out, or a part of them is
 
 pub none_told : (lines : List ℕ) {text : List ℕ} {old new : OutputView} {status : ℕ} (put : Result (Unit {0}) WriteFault) →
-    Puts text old put new → text ≡ lines → length text ≡ 0 → MatchResult put (λ _. status ≡ 0) (λ _. status ≡ 1) →
+    PutsText text old put new → text ≡ lines → length text ≡ 0 → MatchResult put (λ _. status ≡ 0) (λ _. status ≡ 1) →
     Tells lines (if length lines == 0 then 0 else 1) old status new
 none_told lines {text} {old} {new} {status} put puts e none is =
     let zero : length lines ≡ 0 = sym (ap length e) ∙ none in
-    rw (cond-true {A = ℕ} (length lines == 0) 0 1 (eq-eqb _ _ zero)) (told put (subst (λ (t : List ℕ). Puts t old put new) e puts) is)
+    rw (cond-true {A = ℕ} (length lines == 0) 0 1 (eq-eqb _ _ zero))
+    (told put (subst (λ (t : List ℕ). PutsText t old put new) e puts) is)
 
 pub some_told : (lines : List ℕ) {text : List ℕ} {old new : OutputView} (put : Result (Unit {0}) WriteFault) →
-    Puts text old put new → text ≡ lines → (length text ≡ 0 → ⊥) →
+    PutsText text old put new → text ≡ lines → (length text ≡ 0 → ⊥) →
     Tells lines (if length lines == 0 then 0 else 1) old 1 new
 some_told lines {text} {old} {new} put puts e some =
     rw (cond-false {A = ℕ} (length lines == 0) 0 1 (ne_eqb _ _ (λ none. some (ap length e ∙ none))))
-    (told_else put (subst (λ (t : List ℕ). Puts t old put new) e puts))
+    (told_else put (subst (λ (t : List ℕ). PutsText t old put new) e puts))
 
 -- ---- silence
 

@@ -1,33 +1,33 @@
--- Two check words: ten bytes have one pair of them, and they tell apart twelve bytes that differ in one or two places;
--- and the check form of twelve bytes, by its places.
+-- Two error correction codewords: ten bytes have one pair of them, and they tell apart twelve bytes that differ in one
+-- or two places; and the check form of twelve bytes, by its places.
 use Rattle.std.proofs.Common.{◌≡◌, ◌∙◌, ◌+◌, ◌*◌, ◌<◌, ◌≤◌, ℕ, List, [], ◌∷◌, ◌++◌, Ok, inl, inr, length, take, drop, get_or, refl, ap, sym, subst, arith, below_more}
 use borrow.Author.Count.{below_none}
 use Rattle.std.specs.List.{All}
-use Rattle.std.proofs.lemmas.Bool.{cases_lt}
-use Rattle.std.proofs.lemmas.List.{take-append-drop, length-drop, get_or_past}
+use Rattle.std.proofs.lemmas.{Bool.cases_lt, List.take-append-drop, List.length-drop, List.get_or_past}
 use Rattle.std.proofs.lemmas.List.Elements.{All-get_or, All-drop, recursion_from_All}
-use Rattle.dm_gf256.specs.Field.{differ, IsBlockWord}
+use Rattle.dm_gf256.specs.Field.{differ, IsSoundBlock}
 use Rattle.dm_gf256.proofs.OneBlockWord.{one_block_word}
 use Rattle.hex.specs.Hex.{decode_sized, encode_lower, encode_with, IsBytes}
 use Rattle.hex.proofs.HexLemmas.{decode_sized-ok, decode_sized-encode_lower}
 use Rattle.relay_printer_commands.specs.Printers.{check_text, grouped, HasTicket, IsCheckText, IsChecked, IsGroupedText, digits_in_groups}
 
--- twelve bytes that differ in at most two places, and have their check words, are the same
+-- twelve bytes that differ in at most two places, and have their error correction codewords, are the same
 pub same_checked : (bytes whole other_bytes other : List ℕ) → IsChecked bytes whole → IsChecked other_bytes other
     → differ whole other ≤ 2 → whole ≡ other
 same_checked bytes whole other_bytes other c d near =
     one_block_word 2 whole other (c.count ∙ sym d.count) (omega (arith, c.count))
     (recursion_from_All _ whole c.words) (recursion_from_All _ other d.words) c.block_word d.block_word near
 
--- ten bytes with check words are these bytes and the two check words, of which there is one pair
+-- ten bytes with error correction codewords are these bytes and the two error correction codewords, of which there is
+-- one pair
 pub only_checked : (bytes checks : List ℕ) → ((others : List ℕ) → length others ≡ 2 → All (λ word. word < 256) others
-    → IsBlockWord 2 (bytes ++ others) → others ≡ checks) → (whole : List ℕ) → IsChecked bytes whole
+    → IsSoundBlock 2 (bytes ++ others) → others ≡ checks) → (whole : List ℕ) → IsChecked bytes whole
     → whole ≡ bytes ++ checks
 only_checked bytes checks only whole c =
     let rest = drop 10 whole in
     let parts : bytes ++ rest ≡ whole = ap (λ t. t ++ rest) (sym c.begins) ∙ take-append-drop 10 whole in
     let same = only rest (omega (arith, length-drop 10 whole, c.count)) (All-drop (λ word. word < 256) 10 whole c.words)
-    (subst (λ (t : List ℕ). IsBlockWord 2 t) (sym parts) c.block_word) in
+    (subst (λ (t : List ℕ). IsSoundBlock 2 t) (sym parts) c.block_word) in
     sym parts ∙ ap (λ t. bytes ++ t) same
 
 -- a text in groups is the check form of the ten bytes with which its twelve begin alone
@@ -41,7 +41,7 @@ begins_with text whole bytes g form =
     )
 
 -- A text in groups, whose bytes differ in one or two places from those of a text in the check form, is no ticket's: it
--- is too long for twenty digits, and has not the check words of its ten bytes.
+-- is too long for twenty digits, and has not the error correction codewords of its ten bytes.
 pub changed_is_refused : (text bytes other changed : List ℕ) (check : IsCheckText text bytes)
     → IsGroupedText other changed → differ check.whole changed ≤ 2 → (check.whole ≡ changed → ⊥)
     → HasTicket other → ⊥

@@ -5,13 +5,11 @@ use Rattle.std.specs.List.{AllPairs, Contains}
 use Rattle.std.proofs.lemmas.Bool.{cases_lt, false≢true}
 use Rattle.std.proofs.lemmas.List.Elements.{Contains-append_left, Contains-get_or, Contains-push, Contains-push_cases}
 use Rattle.std.proofs.lemmas.List.Quantifiers.{all_pairs_push}
-use Rattle.dm_size.specs.declared.size.Size.{Size}
-use Rattle.dm_size.specs.Sizes.{side}
+use Rattle.dm_size.specs.{declared.size.Size.Size, Sizes.side}
 use Rattle.dm_size.proofs.Sound.{sound}
 use Rattle.dm_encodation.specs.declared.scheme.Scheme.{Scheme}
 use Rattle.dm_print_ledger.specs.Verdicts.{HasLabels}
-use Rattle.relay_printer_commands.specs.declared.lines.PlannedSide.{PlannedSide}
-use Rattle.relay_printer_commands.specs.Printers.{IsPlan, IsPlanned}
+use Rattle.relay_printer_commands.specs.{declared.lines.PlannedSide.PlannedSide, Printers.IsPlan, Printers.IsPlanned}
 
 -- a number of labels of a side
 abbrev pub planned_at : ℕ → ℕ → PlannedSide

@@ -1,9 +1,8 @@
 -- Each side of a size is that of one size.
 use Rattle.std.proofs.Common.{◌≡◌, ◌∙◌, ◌==◌, ℕ, List, [], ◌∷◌, Option, Some, refl, sym, ap}
 use Rattle.std.specs.List.{find}
-use Rattle.dm_size.specs.declared.size.Size.{Size}
+use Rattle.dm_size.specs.{declared.size.Size.Size, Sizes.row, Sizes.side}
 use Rattle.dm_size.specs.declared.size.Size.TheVariants.{Side10, Side12, Side14, Side16, Side18, Side20, Side22, Side24, Side26, Side32, Side36, Side40, Side44, Side48, Side52, Side64, Side72, Side80, Side88, Side96, Side104, Side120, Side132}
-use Rattle.dm_size.specs.Sizes.{row, side}
 
 sizes : List Size
 sizes = Side10 ∷ Side12 ∷ Side14 ∷ Side16 ∷ Side18 ∷ Side20 ∷ Side22 ∷ Side24 ∷ Side26 ∷ Side32 ∷ Side36 ∷ Side40 ∷

@@ -1,49 +1,36 @@
 -- What the commands of printers do to ledgers and streams, and the lines that they write: what these show is this project's own rule.
 use Rattle.std.specs.Prelude.{ℕ, List, [], ◌∷◌, ◌++◌, codes, zero, suc, Option, Some, None, take, drop, ◌≡◌, ◌⊎◌, ◌<◌, ◌+◌, ◌*◌, ◌/◌, Ok, length, map, slice_index, Result, Err, ◌↔◌, ◌≤◌, ◌≢◌, true, false, Bool, ◌&&◌, ◌||◌, ◌==◌, not, nat_eq, if◌then◌else◌, slice_get, IfSome, IsTrue}
-use Rattle.std.specs.Borrow.{Bor}
-use Rattle.std.specs.Fmt.{decimal}
+use Rattle.std.specs.{Borrow.Bor, Fmt.decimal, Option.option_map_or, Cmp.Lexicographic.pointwise, Io.KnownBytes.Appends}
 use Rattle.std.specs.List.{flat_map, All, range_with_len, AllPairs, Contains, list_any, slice_split, AllByRecursion}
-use Rattle.std.specs.Option.{option_map_or}
-use Rattle.std.specs.Cmp.Lexicographic.{pointwise}
 use Rattle.hex.specs.Hex.{encode_lower, decode_sized}
 use Rattle.dm_print_ledger.specs.Ledger.{ticket_bytes, TicketView, free_count, ShownView, AreOfTicket, PrinterView, JobView, are_ranges, read_ledger}
-use Rattle.dm_print_ledger.specs.declared.giver.Giver.{Giver}
-use Rattle.dm_print_ledger.specs.declared.range.Range.{Range}
-use Rattle.relay_shared.specs.Lines.{id_text}
+use Rattle.dm_print_ledger.specs.declared.{giver.Giver.Giver, range.Range.Range, fault.CreateFault.CreateFault}
+use Rattle.relay_shared.specs.{Lines.id_text, declared.command.Refusal.Refusal}
 use Rattle.relay_printer_commands.specs.declared.lines.PlannedSide.{PlannedSide}
-use Rattle.dm_gf256.specs.Field.{IsBlockWord}
-use Rattle.relay_shared.specs.Command.{refusal_name, RefusesOnOutput, StreamsView, TellsOnOutput, OnlyOutput, TellsAnswer, HasInputFault, ReadsDocument, ReadsNothing, RefusesOnErrors, TellsRefusal, Tells, Puts}
+use Rattle.dm_gf256.specs.Field.{IsSoundBlock}
+use Rattle.relay_shared.specs.Command.{refusal_name, RefusesOnOutput, StreamsView, TellsOnOutput, OnlyOutput, TellsAnswer, HasInputFault, ReadsDocument, ReadsNothing, RefusesOnErrors, TellsRefusal, Tells, PutsText}
 use Rattle.relay_shared.specs.declared.command.Refusal.TheVariants.{Ticket, Memory, Output, Side, TooMany}
 use Rattle.dm_store.specs.Saved.{Saved}
-use Rattle.dm_print_ledger.specs.Verdicts.{Creates, create_fault_name, open_fault_name, give_fault_name, take_fault_name, Opens, Gives, Takes, LoadsLedger, show_verdict, print_fault_name, Prints, HasLabels, AreBeside, AreLastFree, IsLongest, are_of_one, is_behind, is_of, lacks_ticket, share_numbers, share_ticket, shown_of_none, shown_of_ticket}
-use Rattle.dm_print_ledger.specs.declared.fault.CreateFault.{CreateFault}
-use Rattle.dm_print_ledger.specs.declared.fault.GiveFault.{GiveFault}
-use Rattle.dm_print_ledger.specs.declared.fault.GiveFault.TheVariants.{NotFree}
-use Rattle.dm_print_ledger.specs.declared.fault.OpenFault.{OpenFault}
-use Rattle.dm_print_ledger.specs.declared.fault.TakeFault.{TakeFault}
-use Rattle.std.specs.Io.KnownBytes.{Appends}
-use Rattle.dm_size.specs.declared.size.Size.{Size}
-use Rattle.dm_size.specs.Sizes.{IsSide, side}
+use Rattle.dm_print_ledger.specs.Verdicts.{Creates, create_fault_name, open_fault_name, give_fault_name, take_fault_name, PrinterOpens, GivesTicket, TakesTicket, LoadsLedger, show_verdict, print_fault_name, Prints, HasLabels, AreBeside, AreLastFree, IsLongest, are_of_one, is_behind, is_of, lacks_ticket, share_numbers, share_ticket, shown_of_none, shown_of_ticket}
+use Rattle.dm_print_ledger.specs.declared.fault.GiveFault.{GiveFault, TheVariants.NotFree}
+use Rattle.dm_print_ledger.specs.declared.fault.{OpenFault.OpenFault, TakeFault.TakeFault, PrintFault.PrintFault}
+use Rattle.dm_size.specs.{declared.size.Size.Size, Sizes.IsSide, Sizes.side}
 use Rattle.dm_encodation.specs.declared.scheme.Scheme.{Scheme}
 use Rattle.dm_finder_frame.specs.Frame.{GridView}
 use Rattle.dm_pbm_io.specs.Image.{p4}
-use Rattle.dm_print_ledger.specs.declared.fault.PrintFault.{PrintFault}
 use Rattle.dm_print_ledger.specs.declared.fault.PrintFault.TheVariants.{TooLong}
-use Rattle.relay_command.specs.declared.command.Labels.{Labels}
-use Rattle.relay_command.specs.declared.command.Labels.TheVariants.{OfSide, AtMost}
+use Rattle.relay_command.specs.declared.command.Labels.{Labels, TheVariants.OfSide, TheVariants.AtMost}
 use Rattle.relay_streams.specs.Streams.{input_fault_name, AppendsPart, InputView, OutputView, ReadsFirst}
-use Rattle.relay_streams.specs.declared.fault.InputFault.{InputFault}
-use Rattle.relay_streams.specs.declared.fault.WriteFault.{WriteFault}
-use Rattle.relay_shared.specs.declared.command.Refusal.{Refusal}
+use Rattle.relay_streams.specs.declared.fault.{InputFault.InputFault, WriteFault.WriteFault}
 use Rattle.relay_printer_commands.specs.declared.audit.TheConstants.{LEDGER_BYTES, TICKETS_BYTES}
 
 -- ---- lines
 
--- `left` and how many identifications are free
+-- `left` and how many IDs are free
 abbrev pub left_line : ℕ → List ℕ
 left_line left = codes "left " ++ (decimal left ++ 10 ∷ [])
 
--- `printed`, the two words of the identification in hexadecimal, the number of labels, and how many are left
+-- `printed`, the two codewords of the ID in hexadecimal, the number of labels, and how many are left
 abbrev pub printed_line : ℕ → ℕ → ℕ → List ℕ
 printed_line id count left = codes "printed " ++ (id_text id ++ (32 ∷ (decimal count ++ (32 ∷ left_line left))))
 
@@ -60,7 +47,7 @@ abbrev pub number_line : Option ℕ → List ℕ
 number_line None = codes "printer -\n"
 number_line (Some number) = codes "printer " ++ (decimal number ++ 10 ∷ [])
 
--- `free`, the first and the last number in decimal, and as identifications
+-- `free`, the first and the last number in decimal, and as IDs
 abbrev pub free_line : Range → List ℕ
 free_line range = codes "free " ++ (decimal range.first ++ (32 ∷ (decimal range.last ++
     (32 ∷ (id_text range.first ++ (32 ∷ (id_text range.last ++ 10 ∷ [])))))))
@@ -73,7 +60,7 @@ given_line given = codes "given " ++ (decimal given ++ 10 ∷ [])
 abbrev pub took_line : Giver → List ℕ
 took_line giver = codes "took " ++ (decimal giver.number ++ (32 ∷ (decimal giver.serial ++ 10 ∷ [])))
 
--- the printer, how many identifications are free and which, how many tickets were given, and the last taken of each
+-- the printer, how many IDs are free and which, how many tickets were given, and the last taken of each
 -- giver
 abbrev pub shown_lines : ShownView → List ℕ
 shown_lines shown = number_line shown.number ++ (left_line (free_count shown.free) ++ (flat_map free_line shown.free ++
@@ -111,13 +98,13 @@ check_line bytes = codes "check " ++ (check_text bytes ++ 10 ∷ [])
 
 -- ---- tickets
 
--- ---- twelve bytes: ten, and two check words of them
+-- ---- twelve bytes: ten, and two error correction codewords of them
 
 pub record IsChecked (bytes whole : List ℕ) : Type 0 where
   pub count : length whole ≡ 12
   pub words : All (λ word. word < 256) whole
   pub begins : take 10 whole ≡ bytes
-  pub block_word : IsBlockWord 2 whole
+  pub block_word : IsSoundBlock 2 whole
 
 -- ---- texts
 
@@ -135,27 +122,27 @@ pub record IsGroupedText (text whole : List ℕ) : Type 0 where
   pub hyphens : (j : ℕ) → j < 5 → slice_index text (5 * j + 4) ≡ 45
   pub decoded : decode_sized (digits_in_groups text) 12 ≡ Ok whole
 
--- the check form: these ten bytes and two check words of them are spelled in groups
+-- the check form: these ten bytes and two error correction codewords of them are spelled in groups
 pub record IsCheckText (text bytes : List ℕ) : Type 0 where
   pub whole : List ℕ
   pub in_groups : IsGroupedText text whole
   pub checked : IsChecked bytes whole
 
 -- the text is one of the two forms of these ten bytes
-abbrev pub Spells : List ℕ → List ℕ → Type 0
-Spells text bytes = IsBareText text bytes ⊎ IsCheckText text bytes
+abbrev pub SpellsTicket : List ℕ → List ℕ → Type 0
+SpellsTicket text bytes = IsBareText text bytes ⊎ IsCheckText text bytes
 
 -- the text is one of the two forms of this ticket
 abbrev pub IsTextOf : List ℕ → TicketView → Type 0
-IsTextOf text ticket = Spells text (ticket_bytes ticket)
+IsTextOf text ticket = SpellsTicket text (ticket_bytes ticket)
 
 -- the text is one of the two forms of a ticket
 abbrev pub HasTicket : List ℕ → Type 0
-HasTicket text = (bytes : List ℕ) × Spells text bytes × AreOfTicket bytes
+HasTicket text = (bytes : List ℕ) × SpellsTicket text bytes × AreOfTicket bytes
 
 -- ---- the command
 
--- what a ticket says, and its bytes with their check words
+-- what a ticket says, and its bytes with their error correction codewords
 abbrev pub ticket_lines : TicketView → List ℕ → List ℕ
 ticket_lines ticket whole = from_line ticket ++ check_line whole
 
@@ -178,7 +165,7 @@ pub record OnLedger : Type 0 where
 abbrev pub ledger_at : Saved → StreamsView → OnLedger
 ledger_at saved streams = record { saved = saved; streams = streams }
 
--- how `ledger` ends: a printer was created, and the output was told how many identifications are free; or why none was
+-- how `ledger` ends: a printer was created, and the output was told how many IDs are free; or why none was
 pub data EndsLedger (number : ℕ) (range : Range) (old : OnLedger) (status : ℕ) (new : OnLedger) : Type 0 where
   created : (printer : PrinterView) → Creates old.saved number range (Ok printer) new.saved
       → TellsOnOutput (left_line (free_count printer.ledger.free)) old.streams status new.streams
@@ -189,15 +176,15 @@ pub data EndsLedger (number : ℕ) (range : Range) (old : OnLedger) (status : �
 
 -- how `give` ends: the printer was opened and has answered, and the output was told; or why it was not opened
 pub data EndsGive (number to : ℕ) (range : Range) (old : OnLedger) (status : ℕ) (new : OnLedger) : Type 0 where
-  opened : (before after : PrinterView) (answer : Result TicketView GiveFault) → Opens old.saved number (Ok before)
-      → Gives before to range answer after → new.saved ≡ after.saved
+  opened : (before after : PrinterView) (answer : Result TicketView GiveFault) →
+      PrinterOpens old.saved number (Ok before) → GivesTicket before to range answer after → new.saved ≡ after.saved
       → TellsAnswer ticket_line give_fault_name answer old.streams.output status new.streams.output
       → OnlyOutput old.streams new.streams → EndsGive number to range old status new
-  not_opened : (fault : OpenFault) → Opens old.saved number (Err fault) → new.saved ≡ old.saved
+  not_opened : (fault : OpenFault) → PrinterOpens old.saved number (Err fault) → new.saved ≡ old.saved
       → RefusesOnOutput (open_fault_name fault) old.streams status new.streams
       → EndsGive number to range old status new
 
--- how many identifications the longest range that is free has
+-- how many IDs the longest range that is free has
 abbrev pub longest_note : ℕ → List ℕ
 longest_note most = codes "relay: the longest range that is free has " ++ (decimal most ++ 10 ∷ [])
 
@@ -205,16 +192,17 @@ longest_note most = codes "relay: the longest range that is free has " ++ (decim
 -- told; or it has not so many, and the output and the standard error were told; or why it was not opened.
 pub data EndsGiveLast (number to count : ℕ) (old : OnLedger) (status : ℕ) (new : OnLedger) : Type 0 where
   gave : (range : Range) (before after : PrinterView) (answer : Result TicketView GiveFault)
-      → AreLastFree before.ledger.free count range → Opens old.saved number (Ok before)
-      → Gives before to range answer after → new.saved ≡ after.saved
+      → AreLastFree before.ledger.free count range → PrinterOpens old.saved number (Ok before)
+      → GivesTicket before to range answer after → new.saved ≡ after.saved
       → TellsAnswer ticket_line give_fault_name answer old.streams.output status new.streams.output
       → OnlyOutput old.streams new.streams → EndsGiveLast number to count old status new
-  too_few : (before : PrinterView) (most : ℕ) (put : Result (Unit {0}) WriteFault) → Opens old.saved number (Ok before)
+  too_few : (before : PrinterView) (most : ℕ) (put : Result (Unit {0}) WriteFault) →
+      PrinterOpens old.saved number (Ok before)
       → IsLongest before.ledger.free most → (1 ≤ count → most < count) → new.saved ≡ old.saved
       → TellsRefusal (give_fault_name NotFree) old.streams.output status new.streams.output
-      → Puts (longest_note most) old.streams.errors put new.streams.errors → ReadsNothing old.streams new.streams
+      → PutsText (longest_note most) old.streams.errors put new.streams.errors → ReadsNothing old.streams new.streams
       → EndsGiveLast number to count old status new
-  unopened : (fault : OpenFault) → Opens old.saved number (Err fault) → new.saved ≡ old.saved
+  unopened : (fault : OpenFault) → PrinterOpens old.saved number (Err fault) → new.saved ≡ old.saved
       → RefusesOnOutput (open_fault_name fault) old.streams status new.streams
       → EndsGiveLast number to count old status new
 
@@ -223,11 +211,11 @@ pub data EndsTake (number : ℕ) (text : List ℕ) (old : OnLedger) (status : �
   no_ticket : ¬ HasTicket text → new.saved ≡ old.saved
       → RefusesOnOutput (refusal_name Ticket) old.streams status new.streams → EndsTake number text old status new
   opened : (ticket : TicketView) (before after : PrinterView) (answer : Result (Unit {0}) TakeFault) → HasTicket text
-      → IsTextOf text ticket → Opens old.saved number (Ok before) → Takes before ticket answer after
+      → IsTextOf text ticket → PrinterOpens old.saved number (Ok before) → TakesTicket before ticket answer after
       → new.saved ≡ after.saved
       → TellsAnswer (λ _. taken_line (free_count after.ledger.free)) take_fault_name answer old.streams.output status
       new.streams.output → OnlyOutput old.streams new.streams → EndsTake number text old status new
-  not_opened : (fault : OpenFault) → HasTicket text → Opens old.saved number (Err fault) → new.saved ≡ old.saved
+  not_opened : (fault : OpenFault) → HasTicket text → PrinterOpens old.saved number (Err fault) → new.saved ≡ old.saved
       → RefusesOnOutput (open_fault_name fault) old.streams status new.streams → EndsTake number text old status new
 
 -- How `left` ends, with the store as it was: the lines of what an honest store holds were written, or why there are
@@ -272,7 +260,7 @@ pub data PrintsLabels (labels : List GridView) (line : List ℕ) (old : StreamsV
       → LosesImages labels old.output new.output refusal → TellsRefusal (refusal_name refusal) errors status new.errors
       → PrintsLabels labels line old status new
 
--- how a printer's answer to a document goes out, if this many identifications are free then: the labels of the job, or
+-- how a printer's answer to a document goes out, if this many IDs are free then: the labels of the job, or
 -- the line of a refusal
 abbrev pub TellsPrint : Result JobView PrintFault → ℕ → StreamsView → ℕ → StreamsView → Type 0
 TellsPrint (Ok job) left old status new =
@@ -302,11 +290,11 @@ pub record IsChosen (labels : Labels) (scheme : Scheme) (document : List ℕ) (s
 -- or the standard error was told why the printer was not opened.
 pub data PrintsDocument (number : ℕ) (size : Size) (scheme : Scheme) (document : List ℕ) (old : OnLedger) (status : ℕ)
     (new : OnLedger) : Type 0 where
-  opened : (before after : PrinterView) (answer : Result JobView PrintFault) → Opens old.saved number (Ok before)
+  opened : (before after : PrinterView) (answer : Result JobView PrintFault) → PrinterOpens old.saved number (Ok before)
       → Prints before size scheme document answer after → new.saved ≡ after.saved
       → TellsPrint answer (free_count after.ledger.free) old.streams status new.streams
       → PrintsDocument number size scheme document old status new
-  not_opened : (fault : OpenFault) → Opens old.saved number (Err fault) → new.saved ≡ old.saved
+  not_opened : (fault : OpenFault) → PrinterOpens old.saved number (Err fault) → new.saved ≡ old.saved
       → RefusesOnErrors (open_fault_name fault) old.streams status new.streams
       → PrintsDocument number size scheme document old status new
 
@@ -402,8 +390,8 @@ pub data Gathers (files : List (Option (List ℕ))) (lines : List (List ℕ)) : 
       → Gathers files lines n (k + 1) (before ++ one ∷ [])
 
 -- the texts that are referred to
-abbrev pub texts : List (Bor (List ℕ)) → List (List ℕ)
-texts lines = map (λ line. line.now) lines
+abbrev pub line_texts : List (Bor (List ℕ)) → List (List ℕ)
+line_texts lines = map (λ line. line.now) lines
 
 -- what all files show, and all lines of these bytes
 abbrev pub GathersAll : List (Option (List ℕ)) → List ℕ → List EvidenceView → Type 0

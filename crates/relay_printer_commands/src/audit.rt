@@ -4,7 +4,7 @@ ghost use Rattle.std.specs.Prelude.{◌≡◌, ◌==◌, ◌++◌, ℕ, List, Op
 ghost use Rattle.std.specs.List.{flat_map, list_any, slice_split};
 ghost use Rattle.dm_print_ledger.specs.Verdicts.{lacks_ticket};
 ghost use Rattle.relay_streams.specs.Streams.{TakesPart};
-ghost use Rattle.relay_printer_commands.specs.Printers.{EndsAudit, EvidenceView, Gathers, GathersAll, ShowsFile, ShowsLine, are_same, audit_lines, breach_line, breach_lines, evidence_name, fault_line, is_again, is_receiver as test_of_receiver, shows_none, texts};
+ghost use Rattle.relay_printer_commands.specs.Printers.{EndsAudit, EvidenceView, Gathers, GathersAll, ShowsFile, ShowsLine, are_same, audit_lines, breach_line, breach_lines, evidence_name, fault_line, is_again, is_receiver as test_of_receiver, shows_none, line_texts};
 
 use crate::tickets::ticket_on;
 use dm_print_ledger::{MOST_BYTES, Shown, Ticket};
@@ -180,7 +180,7 @@ fn gather_files<A: Allocator + Copy, F: ImageFile>(
 
 // The lines of a text.
 fn lines_in<'a, A: Allocator>(alloc: A, text: &'a [u8]) -> Result<Vec<&'a [u8], A>, AllocError>
-    ensures { IfOk result (λ lines. texts lines.items ≡ slice_split (λ byte. byte == 10) text.now) }
+    ensures { IfOk result (λ lines. line_texts lines.items ≡ slice_split (λ byte. byte == 10) text.now) }
 {
     text.split(|byte| *byte == b'\n').collect(alloc)
 }
@@ -190,8 +190,8 @@ fn gather_lines<A: Allocator + Copy>(
     evidence: &mut Vec<Evidence, A>,
     lines: &[&[u8]],
 ) -> Result<(), AllocError>
-    ensures { (files : List (Option (List ℕ))) (n : ℕ) → Gathers files (texts lines.now) n 0 evidence.old.items
-        → OnOk result (Gathers files (texts lines.now) n (length (texts lines.now)) evidence.new.items) }
+    ensures { (files : List (Option (List ℕ))) (n : ℕ) → Gathers files (line_texts lines.now) n 0 evidence.old.items
+        → OnOk result (Gathers files (line_texts lines.now) n (length (line_texts lines.now)) evidence.new.items) }
 {
     for (i, line) in lines.iter().enumerate() {
         let shown = Evidence::of_line(evidence.as_slice(), *line, i + 1);

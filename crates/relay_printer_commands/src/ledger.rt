@@ -1,11 +1,11 @@
-//! `relay ledger`, a new printer; `relay give`, identifications for another; and the printer that other commands open.
+//! `relay ledger`, a new printer; `relay give`, IDs for another; and the printer that other commands open.
 
 ghost use Rattle.std.specs.Prelude.{◌≡◌, Ok, Err, IfErr, MatchResult, Result};
-ghost use Rattle.dm_print_ledger.specs.Verdicts.{Gives, Opens, give_fault_name, open_fault_name};
+ghost use Rattle.dm_print_ledger.specs.Verdicts.{GivesTicket, PrinterOpens, give_fault_name, open_fault_name};
 ghost use Rattle.dm_print_ledger.specs.Ledger.{PrinterView, TicketView};
 ghost use Rattle.dm_print_ledger.specs.declared.fault.OpenFault.{OpenFault};
 ghost use Rattle.relay_printer_commands.specs.Printers.{EndsGive, EndsGiveLast, EndsLedger, ledger_at, longest_note, ticket_line};
-ghost use Rattle.relay_shared.specs.Command.{Puts, TellsAnswer, TellsRefusal};
+ghost use Rattle.relay_shared.specs.Command.{PutsText, TellsAnswer, TellsRefusal};
 
 use crate::lines::{put_left, put_ticket};
 use dm_print_ledger::{CreateRefused, GiveFault, OpenRefused, Printer, Range, Ticket};
@@ -24,8 +24,8 @@ pub(crate) fn open_printer<A: Allocator + Copy, S: Store, W: Write>(
     number: u16,
 ) -> Result<Printer<S, A>, Ended<S>>
     ensures opens { MatchResult result
-        (λ printer. Opens (S.state store) number (Ok printer) × (output.new ≡ output.old))
-        (λ ended. (fault : OpenFault) × Opens (S.state store) number (Err fault)
+        (λ printer. PrinterOpens (S.state store) number (Ok printer) × (output.new ≡ output.old))
+        (λ ended. (fault : OpenFault) × PrinterOpens (S.state store) number (Err fault)
         × TellsRefusal (open_fault_name fault) output.old ended.status output.new) }
     ensures same { IfErr result (λ ended. S.state ended.store ≡ S.state store) }
 {
@@ -39,7 +39,7 @@ pub(crate) fn open_printer<A: Allocator + Copy, S: Store, W: Write>(
 }
 
 /// Makes the ledger of the printer of a number, to which a range is free, on a store that holds nothing, and prints
-/// `left N`, how many identifications are free, or the line `refused NAME`.
+/// `left N`, how many IDs are free, or the line `refused NAME`.
 pub fn ledger_command<A: Allocator + Copy, S: Store, R: Read, W: Write, E: Write>(
     alloc: A,
     store: S,
@@ -70,7 +70,7 @@ fn give_from<A: Allocator + Copy, S: Store, W: Write>(
     to: u16,
     range: Range,
 ) -> Ended<S>
-    ensures { (after : PrinterView) × (answer : Result TicketView GiveFault) × Gives printer to range answer after
+    ensures { (after : PrinterView) × (answer : Result TicketView GiveFault) × GivesTicket printer to range answer after
         × (S.state result.store ≡ after.saved)
         × TellsAnswer ticket_line give_fault_name answer output.old result.status output.new }
 {
@@ -90,7 +90,7 @@ fn tell_give<W: Write>(output: &mut Output<W>, answer: Result<Ticket, GiveFault>
     }
 }
 
-/// Gives the identifications of a range from the printer of a number to another, and prints `ticket HEX`, the ten bytes
+/// Gives the IDs of a range from the printer of a number to another, and prints `ticket HEX`, the ten bytes
 /// of the ticket, after they were saved as gone; or the line `refused NAME`.
 pub fn give_command<A: Allocator + Copy, S: Store, R: Read, W: Write, E: Write>(
     alloc: A,
@@ -109,16 +109,16 @@ pub fn give_command<A: Allocator + Copy, S: Store, R: Read, W: Write, E: Write>(
     }
 }
 
-// Notes how many identifications the longest range that is free has.
+// Notes how many IDs the longest range that is free has.
 fn note_longest<E: Write>(errors: &mut Output<E>, most: u32) -> Result<(), WriteFault>
-    ensures { Puts (longest_note most) errors.old result errors.new }
+    ensures { PutsText (longest_note most) errors.old result errors.new }
 {
     let mut digits = Buffer::new();
     let most = digits.format(most).as_bytes();
     errors.put_all(&[b"relay: the longest range that is free has ", most, b"\n"])
 }
 
-/// Gives the last identifications, so many, that are free and follow one another, as [`give_command`] does; or it
+/// Gives the last IDs, so many, that are free and follow one another, as [`give_command`] does; or it
 /// prints `refused NotFree`, and notes how many the longest range that is free has.
 pub fn give_last_command<A: Allocator + Copy, S: Store, R: Read, W: Write, E: Write>(
     alloc: A,

@@ -4,7 +4,7 @@ ghost use Rattle.std.specs.Prelude.{IsTrue};
 ghost use Rattle.std.specs.List.{All, flat_map};
 ghost use Rattle.dm_print_ledger.specs.Ledger.{is_range};
 ghost use Rattle.relay_printer_commands.specs.Printers.{free_line, shown_lines, took_line, EndsLeft, ledger_at};
-ghost use Rattle.relay_shared.specs.Command.{Puts};
+ghost use Rattle.relay_shared.specs.Command.{PutsText};
 
 use crate::lines::{put_free, put_given, put_left, put_number, put_took};
 use dm_print_ledger::{Giver, Range, Shown};
@@ -15,7 +15,7 @@ use std::io::{Read, Write};
 
 fn put_ranges<W: Write>(output: &mut Output<W>, ranges: &[Range]) -> Result<(), WriteFault>
     requires { All (λ range. IsTrue (is_range range)) ranges.now }
-    ensures { Puts (flat_map free_line ranges.now) output.old result output.new }
+    ensures { PutsText (flat_map free_line ranges.now) output.old result output.new }
 {
     for range in ranges {
         put_free(output, *range)?;
@@ -24,7 +24,7 @@ fn put_ranges<W: Write>(output: &mut Output<W>, ranges: &[Range]) -> Result<(), 
 }
 
 fn put_givers<W: Write>(output: &mut Output<W>, givers: &[Giver]) -> Result<(), WriteFault>
-    ensures { Puts (flat_map took_line givers.now) output.old result output.new }
+    ensures { PutsText (flat_map took_line givers.now) output.old result output.new }
 {
     for giver in givers {
         put_took(output, *giver)?;
@@ -33,7 +33,7 @@ fn put_givers<W: Write>(output: &mut Output<W>, givers: &[Giver]) -> Result<(), 
 }
 
 fn put_shown<W: Write>(output: &mut Output<W>, shown: &Shown) -> Result<(), WriteFault>
-    ensures { Puts (shown_lines shown.now) output.old result output.new }
+    ensures { PutsText (shown_lines shown.now) output.old result output.new }
 {
     put_number(output, shown.number())?;
     put_left(output, shown.left())?;

@@ -1,4 +1,4 @@
-//! The commands of printers: `ledger` makes a ledger, `print` prints labels, `give` and `take` move identifications;
+//! The commands of printers: `ledger` makes a ledger, `print` prints labels, `give` and `take` move IDs;
 //! `left` says what a ledger holds, `audit` what is wrong between ledgers and tickets, `plan` how many labels of each
 //! side a document has, `ticket` what a ticket is.
 //!
@@ -8,8 +8,8 @@
 //! which the document has few enough labels. `left` opens no printer: it writes the lines of what the store holds, and
 //! leaves the store as it was. `audit` is silent exactly where what it is given breaks nothing. `plan` writes the line
 //! of each side of which the document has labels, and of no other. `ticket` and `take` take the same texts: the bare
-//! digits of a ticket, and the check form, which has two check words, so that one or two wrong bytes of it are found. A
-//! stream that a command doesn't need it leaves as it was.
+//! digits of a ticket, and the check form, which has two error correction codewords, so that one or two wrong bytes of
+//! it are found. A stream that a command doesn't need it leaves as it was.
 #![tactic(auto)]
 
 mod audit;

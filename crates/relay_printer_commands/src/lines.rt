@@ -4,7 +4,7 @@
 ghost use Rattle.std.specs.Prelude.{◌≡◌, ◌≤◌, IsTrue};
 ghost use Rattle.relay_shared.specs.Lines.{id_text};
 ghost use Rattle.relay_printer_commands.specs.Printers.{left_line, printed_line, taken_line, ticket_line, check_line, from_line, free_line, given_line, number_line, took_line, side_line};
-ghost use Rattle.relay_shared.specs.Command.{Puts};
+ghost use Rattle.relay_shared.specs.Command.{PutsText};
 ghost use Rattle.dm_print_ledger.specs.Ledger.{is_range};
 
 use dm_append_label::FileId;
@@ -14,22 +14,22 @@ use relay_shared::id_digits;
 use relay_streams::{Output, WriteFault};
 use std::io::Write;
 
-/// Writes how many identifications are free.
+/// Writes how many IDs are free.
 pub(crate) fn put_left<W: Write>(output: &mut Output<W>, left: u32) -> Result<(), WriteFault>
-    ensures { Puts (left_line left) output.old result output.new }
+    ensures { PutsText (left_line left) output.old result output.new }
 {
     let mut digits = Buffer::new();
     output.put_all(&[b"left ", digits.format(left).as_bytes(), b"\n"])
 }
 
-/// Writes what was printed: the identification, the number of labels, and how many identifications are left.
+/// Writes what was printed: the ID, the number of labels, and how many IDs are left.
 pub(crate) fn put_printed<W: Write>(
     output: &mut Output<W>,
     id: FileId,
     count: u8,
     left: u32,
 ) -> Result<(), WriteFault>
-    ensures { Puts (printed_line id count left) output.old result output.new }
+    ensures { PutsText (printed_line id count left) output.old result output.new }
 {
     let id = id_digits(id);
     let (mut counted, mut digits) = (Buffer::new(), Buffer::new());
@@ -40,7 +40,7 @@ pub(crate) fn put_printed<W: Write>(
 
 /// Writes a ticket.
 pub(crate) fn put_ticket<W: Write>(output: &mut Output<W>, ticket: Ticket) -> Result<(), WriteFault>
-    ensures { Puts (ticket_line ticket) output.old result output.new }
+    ensures { PutsText (ticket_line ticket) output.old result output.new }
 {
     let mut digits = [0u8; 20];
     let Ok(()) = hex::encode_to_slice(ticket.bytes(), &mut digits) else {
@@ -49,9 +49,9 @@ pub(crate) fn put_ticket<W: Write>(output: &mut Output<W>, ticket: Ticket) -> Re
     output.put_all(&[b"ticket ", &digits, b"\n"])
 }
 
-/// Writes that a ticket was taken, and how many identifications are left.
+/// Writes that a ticket was taken, and how many IDs are left.
 pub(crate) fn put_taken<W: Write>(output: &mut Output<W>, left: u32) -> Result<(), WriteFault>
-    ensures { Puts (taken_line left) output.old result output.new }
+    ensures { PutsText (taken_line left) output.old result output.new }
 {
     let mut digits = Buffer::new();
     output.put_all(&[b"taken left ", digits.format(left).as_bytes(), b"\n"])
@@ -59,7 +59,7 @@ pub(crate) fn put_taken<W: Write>(output: &mut Output<W>, left: u32) -> Result<(
 
 /// Writes which printer gave a ticket, to which, its serial, and its first and last number, in decimal.
 pub(crate) fn put_from<W: Write>(output: &mut Output<W>, ticket: Ticket) -> Result<(), WriteFault>
-    ensures { Puts (from_line ticket) output.old result output.new }
+    ensures { PutsText (from_line ticket) output.old result output.new }
 {
     output.put_all(&[
         b"from ",
@@ -76,10 +76,10 @@ pub(crate) fn put_from<W: Write>(output: &mut Output<W>, ticket: Ticket) -> Resu
     ])
 }
 
-/// Writes twelve bytes, those of a ticket and their check words, as they can be copied by hand: in hexadecimal, in
-/// groups of four digits, which hyphens join.
+/// Writes twelve bytes, those of a ticket and their error correction codewords, as they can be copied by hand: in
+/// hexadecimal, in groups of four digits, which hyphens join.
 pub(crate) fn put_check<W: Write>(output: &mut Output<W>, bytes: [u8; 12]) -> Result<(), WriteFault>
-    ensures { Puts (check_line bytes) output.old result output.new }
+    ensures { PutsText (check_line bytes) output.old result output.new }
 {
     let mut digits = [0u8; 24];
     let Ok(()) = hex::encode_to_slice(bytes, &mut digits) else {
@@ -117,7 +117,7 @@ pub(crate) fn put_number<W: Write>(
     output: &mut Output<W>,
     number: Option<u16>,
 ) -> Result<(), WriteFault>
-    ensures { Puts (number_line number) output.old result output.new }
+    ensures { PutsText (number_line number) output.old result output.new }
 {
     match number {
         Some(number) => {
@@ -128,10 +128,10 @@ pub(crate) fn put_number<W: Write>(
     }
 }
 
-/// Writes which identifications are free, in decimal and as a label has them.
+/// Writes which IDs are free, in decimal and as a label has them.
 pub(crate) fn put_free<W: Write>(output: &mut Output<W>, range: Range) -> Result<(), WriteFault>
     requires { IsTrue (is_range range) }
-    ensures { Puts (free_line range) output.old result output.new }
+    ensures { PutsText (free_line range) output.old result output.new }
 {
     let (mut from, mut to) = (Buffer::new(), Buffer::new());
     let first = from.format(range.first).as_bytes();
@@ -145,7 +145,7 @@ pub(crate) fn put_free<W: Write>(output: &mut Output<W>, range: Range) -> Result
 
 /// Writes how many tickets were given.
 pub(crate) fn put_given<W: Write>(output: &mut Output<W>, given: u16) -> Result<(), WriteFault>
-    ensures { Puts (given_line given) output.old result output.new }
+    ensures { PutsText (given_line given) output.old result output.new }
 {
     let mut digits = Buffer::new();
     output.put_all(&[b"given ", digits.format(given).as_bytes(), b"\n"])
@@ -153,7 +153,7 @@ pub(crate) fn put_given<W: Write>(output: &mut Output<W>, given: u16) -> Result<
 
 /// Writes which ticket of a printer was taken last.
 pub(crate) fn put_took<W: Write>(output: &mut Output<W>, giver: Giver) -> Result<(), WriteFault>
-    ensures { Puts (took_line giver) output.old result output.new }
+    ensures { PutsText (took_line giver) output.old result output.new }
 {
     let (mut numbered, mut counted) = (Buffer::new(), Buffer::new());
     let number = numbered.format(giver.number).as_bytes();
@@ -175,7 +175,7 @@ pub(crate) fn put_side<W: Write>(
     output: &mut Output<W>,
     planned: PlannedSide,
 ) -> Result<(), WriteFault>
-    ensures { Puts (side_line planned) output.old result output.new }
+    ensures { PutsText (side_line planned) output.old result output.new }
 {
     let (mut numbered, mut counted) = (Buffer::new(), Buffer::new());
     let side = numbered.format(planned.side).as_bytes();

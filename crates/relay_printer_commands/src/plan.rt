@@ -4,7 +4,7 @@ ghost use Rattle.std.specs.Prelude.{◌≡◌, ◌↔◌, ℕ, Some};
 ghost use Rattle.relay_printer_commands.specs.Printers.{IsPlan, IsPlanned, EndsPlan, side_line};
 ghost use Rattle.std.specs.List.{flat_map};
 ghost use Rattle.relay_streams.specs.Streams.{TakesPart};
-ghost use Rattle.relay_shared.specs.Command.{Puts};
+ghost use Rattle.relay_shared.specs.Command.{PutsText};
 
 use crate::lines::{PlannedSide, put_side};
 use arrayvec::ArrayVec;
@@ -38,7 +38,7 @@ fn plan_of(document: &[u8], scheme: Scheme) -> ArrayVec<PlannedSide, 133>
 }
 
 fn put_plan<W: Write>(output: &mut Output<W>, plan: &[PlannedSide]) -> Result<(), WriteFault>
-    ensures { Puts (flat_map side_line plan.now) output.old result output.new }
+    ensures { PutsText (flat_map side_line plan.now) output.old result output.new }
 {
     for planned in plan {
         put_side(output, *planned)?;

@@ -71,7 +71,7 @@ fn put_images<A: Allocator + Copy, W: Write>(
     Ok(())
 }
 
-// Writes what comes of a printer's answer to a document, if this many identifications are free then.
+// Writes what comes of a printer's answer to a document, if this many IDs are free then.
 fn tell_print<A: Allocator + Copy, R: Read, W: Write, E: Write>(
     alloc: A,
     streams: &mut Streams<R, W, E>,
@@ -94,11 +94,11 @@ fn tell_print<A: Allocator + Copy, R: Read, W: Write, E: Write>(
     }
 }
 
-/// Prints a document as labels under an identification of its own: `printed IIII n left N` goes to the standard error,
+/// Prints a document as labels under an ID of its own: `printed IIII n left N` goes to the standard error,
 /// and then the labels go to the output as packed images; a refusal is a line on the standard error. A side that is
 /// asked for is looked at first. Then at most 41,601 bytes are read, and if no side is asked for, the smallest is
 /// chosen that needs few enough labels; where there is none, the document is `TooLong`. Then the printer is opened. The
-/// identification is saved as used before the first byte goes out, and stays used where the labels can't be written. If
+/// ID is saved as used before the first byte goes out, and stays used where the labels can't be written. If
 /// the line can't be written, no byte of a label goes out.
 pub fn print_command<A: Allocator + Copy, S: Store, R: Read, W: Write, E: Write>(
     alloc: A,

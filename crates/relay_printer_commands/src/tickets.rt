@@ -1,12 +1,12 @@
-//! `relay take`, identifications from another printer, and `relay ticket`, what a ticket says. The text of a ticket has
+//! `relay take`, IDs from another printer, and `relay ticket`, what a ticket says. The text of a ticket has
 //! two forms: twenty hexadecimal digits, those of its ten bytes; or the check form, 24 digits in groups of four, joined
-//! by hyphens, those of the ten bytes and of two check words.
+//! by hyphens, those of the ten bytes and of two error correction codewords.
 
 ghost use Rattle.std.specs.Prelude.{◌≡◌, ◌+◌, ◌*◌, ◌<◌, ◌↔◌, ℕ, List, length, slice_index, IsTrue, MatchOption};
 ghost use Rattle.std.specs.List.{All};
 ghost use Rattle.dm_print_ledger.specs.Ledger.{AreOfTicket, ticket_bytes};
 ghost use Rattle.relay_printer_commands.specs.Printers.{taken_line, HasTicket, IsBareText, IsCheckText, IsChecked, IsTextOf, EndsTicket, digits_in_groups, ticket_lines, ledger_at, EndsTake};
-ghost use Rattle.relay_shared.specs.Command.{Puts, TellsAnswer};
+ghost use Rattle.relay_shared.specs.Command.{PutsText, TellsAnswer};
 ghost use Rattle.dm_print_ledger.specs.Verdicts.{take_fault_name};
 
 use crate::ledger::open_printer;
@@ -20,12 +20,12 @@ use relay_streams::{Output, WriteFault};
 use std::alloc::Allocator;
 use std::io::{Read, Write};
 
-// What a byte holds is a word.
+// What a byte holds is a codeword.
 fn bytes_are_words(bytes: &[u8])
     ensures { All (λ word. word < 256) bytes.now }
 {}
 
-// Ten bytes, and two check words of them.
+// Ten bytes, and two error correction codewords of them.
 fn checked(bytes: [u8; 10]) -> [u8; 12]
     ensures checked { IsChecked bytes result }
     ensures only { (other : List ℕ) → IsChecked bytes other → other ≡ result }
@@ -102,7 +102,7 @@ fn put_lines<W: Write>(
     ticket: Ticket,
     whole: [u8; 12],
 ) -> Result<(), WriteFault>
-    ensures { Puts (ticket_lines ticket whole) output.old result output.new }
+    ensures { PutsText (ticket_lines ticket whole) output.old result output.new }
 {
     put_from(output, ticket)?;
     put_check(output, whole)
@@ -120,7 +120,7 @@ pub fn ticket_command<R: Read, W: Write, E: Write>(streams: &mut Streams<R, W, E
     status_after(put_lines(&mut streams.output, ticket, whole))
 }
 
-// Writes the line of a printer's answer to a ticket that it was to take, if this many identifications are free then.
+// Writes the line of a printer's answer to a ticket that it was to take, if this many IDs are free then.
 #[tactic(auto, using(relay_shared::proofs::Telling::told))]
 fn tell_take<W: Write>(output: &mut Output<W>, answer: Result<(), TakeFault>, left: u32) -> u8
     ensures { TellsAnswer (λ _. taken_line left) take_fault_name answer output.old result output.new }
@@ -131,7 +131,7 @@ fn tell_take<W: Write>(output: &mut Output<W>, answer: Result<(), TakeFault>, le
     }
 }
 
-/// Takes the ticket of a text, in either form, and prints `taken left N`, how many identifications are free then, or
+/// Takes the ticket of a text, in either form, and prints `taken left N`, how many IDs are free then, or
 /// the line `refused NAME`. The text is looked at before the store.
 pub fn take_command<A: Allocator + Copy, S: Store, R: Read, W: Write, E: Write>(
     alloc: A,

@@ -1,11 +1,8 @@
 -- The desks at some paths, once commands ran: they hold pages of printed labels alone, and so does what they let out.
 use Rattle.std.proofs.Common.{◌≡◌, ◌++◌, inl, inr, ℕ, List, [], ◌∷◌, None, Option, Some, slice_get, slice_set, refl, sym, ap, subst, ◌∙◌}
-use Rattle.std.specs.Prelude.{IfSome, IsTrue, option_map, unwrap_or}
-use Rattle.std.specs.Io.KnownBytes.{Appends}
-use Rattle.std.specs.List.{AllByRecursion}
-use Rattle.std.specs.Option.{option_copied}
+use Rattle.std.specs.{Prelude.IfSome, Prelude.IsTrue, Prelude.option_map, Prelude.unwrap_or, Io.KnownBytes.Appends}
+use Rattle.std.specs.{List.AllByRecursion, Option.option_copied, Ordering.nat_cmp}
 use Rattle.std.specs.FinMap as finite
-use Rattle.std.specs.Ordering.{nat_cmp}
 use Rattle.dm_finder_frame.specs.Frame.{GridView}
 use Rattle.dm_symbol.specs.Correction.{IsNear}
 use Rattle.dm_append_label.specs.Labels.{Carries, PageView}
@@ -13,25 +10,21 @@ use Rattle.dm_store.specs.Saved.{Contents, SavedSet}
 use Rattle.dm_print_ledger.specs.declared.range.Range.{Range}
 use Rattle.dm_assembly_desk.specs.Documents.{HoldsFiles, Pages, file, page, page_at}
 use Rattle.dm_event_history.specs.Relay.{Label}
-use Rattle.dm_event_history.specs.Headline.{AreDisjoint, AreOfOneDocument, ArePrinted, HaveLeft, IsSound, IsTheDocument}
-use Rattle.dm_event_history.proofs.Gotten.{get_more, set_at}
-use Rattle.dm_event_history.proofs.Headline.{each_run_is_sound}
-use Rattle.dm_event_history.proofs.Told.{page_none}
+use Rattle.dm_event_history.specs.Headline.{AreDisjoint, AreOfOneDocument, ArePrinted, HaveLeft, RelayIsSound, IsTheDocument}
+use Rattle.dm_event_history.proofs.{Gotten.get_more, Gotten.set_at, Headline.each_run_is_sound, Told.page_none}
 use Rattle.dm_event_history.proofs.Stays.{have_more, more_left, more_pages}
 use Rattle.relay_command.specs.declared.command.Command.{Command}
 use Rattle.relay_command.specs.declared.command.Command.TheVariants.{Words, Draw, Read, Plan, Ticket, Ledger, Print, Give, GiveLast, Take, Left, Audit, Scan, Deliver, Forget, Export, Import, Held, Copy, World}
 use Rattle.relay_desk_commands.specs.Desks.{DeskFiles, OnDesk}
-use Rattle.relay_desk_runs.specs.Answered.{GivesPrinted, HoldsPrinted, IsClean, IsNearPrinted, IsOfLabel, IsPrintedFile}
+use Rattle.relay_desk_runs.specs.Answered.{GivesPrinted, HoldsPrinted, HasPrinted, IsNearPrinted, IsOfLabel, IsPrintedFile}
 use Rattle.relay_desk_runs.specs.Answered.GivesPrinted.{nothing as gives_nothing, document as gives_document}
-use Rattle.relay_desk_runs.proofs.Scanning.{each_scan_keeps}
-use Rattle.relay_desk_runs.proofs.Importing.{each_forget_keeps, each_import_keeps}
+use Rattle.relay_desk_runs.proofs.{Scanning.each_scan_keeps, Importing.each_forget_keeps, Importing.each_import_keeps}
 use Rattle.relay_desk_runs.proofs.Giving.{each_copy_is_printed, each_deliver_is_printed, each_export_is_printed}
 use Rattle.relay_desk_runs.proofs.Opened.{held_same}
 use Rattle.relay.specs.Program.{Does, path_of}
-use Rattle.relay_program_runs.specs.Law.{At, DeliversPrinted, Ends, IsBlank, LetsOut, Prints, Ran, SomeRan, TakesPrinted, WritesPrinted, at_its_path, cut_short, exited, passed, passed_at, status_of, writes, writes_nothing}
+use Rattle.relay_program_runs.specs.Law.{At, DeliversPrinted, Halts, IsBlank, LetsOut, PrintsUnder, Ran, SomeRan, TakesPrinted, WritesPrinted, at_its_path, cut_short, exited, passed, passed_at, status_of, writes, writes_nothing}
 use Rattle.relay_program_runs.specs.Passed.{Passed, passed_by, text_of}
-use Rattle.relay_program_runs.proofs.Effects.{no_documents}
-use Rattle.relay_program_runs.proofs.Lists.{all_so, before_or_now}
+use Rattle.relay_program_runs.proofs.{Effects.no_documents, Lists.all_so, Lists.before_or_now}
 use Rattle.relay_program_runs.proofs.Printers.{OneMore, Stands, begun, holds, nothing_ran}
 
 -- ---- more labels
@@ -104,7 +97,7 @@ record Clean (labels : List Label) (command : Command) (before : OnDesk) (status
   delivered : IfSome (text_of command) (λ text. GivesPrinted labels text before status after)
 
 module _ (A : Type 0) (labels : List Label) (printed : ArePrinted labels) (one : AreOfOneDocument labels)
-    (images : List (Option (List ℕ))) (before after : OnDesk) (status : ℕ) (clean : IsClean labels before) where
+    (images : List (Option (List ℕ))) (before after : OnDesk) (status : ℕ) (clean : HasPrinted labels before) where
   same_set : after.files.set ≡ before.files.set → HoldsPrinted labels after.files.set
   same_set same = subst (HoldsPrinted labels) (sym same) clean.set
 
@@ -172,18 +165,19 @@ module _ (A : Type 0) (labels : List Label) (printed : ArePrinted labels) (one :
 
 -- the status that it exited with, or would have
 abbrev status_at : {A : Type 0} {command : Command} {images : List (Option (List ℕ))} {before after : OnDesk} →
-    Ends A command images before after → ℕ
+    Halts A command images before after → ℕ
 status_at (exited status does) = status
 status_at (cut_short status does) = status
 
 if_exited : {A : Type 0} {command : Command} {images : List (Option (List ℕ))} {before after : OnDesk}
-    (ends : Ends A command images before after) (P : ℕ → Type 0) → P (status_at ends) → IfSome (status_of ends) P
+    (ends : Halts A command images before after) (P : ℕ → Type 0) → P (status_at ends) → IfSome (status_of ends) P
 if_exited (exited status does) P so = so
 if_exited (cut_short status does) P so = tt
 
 clean_at : (A : Type 0) (labels : List Label) (printed : ArePrinted labels) (one : AreOfOneDocument labels)
-    (command : Command) {images : List (Option (List ℕ))} (before after : OnDesk) (ends : Ends A command images before after)
-    (clean : IsClean labels before) →
+    (command : Command) {images : List (Option (List ℕ))} (before after : OnDesk)
+    (ends : Halts A command images before after)
+    (clean : HasPrinted labels before) →
     AllByRecursion (IsNearPrinted labels) (passed_at ends).scanned →
     IfSome (passed_at ends).imported (IsPrintedFile labels) →
     Clean labels command before (status_at ends) after (passed_at ends)
@@ -234,7 +228,7 @@ module _ (A : Type 0) (IsAmong : List ℕ → Type 0) where
     abbrev labels : List Label
     labels = c.stands.relay.labels
 
-    sound : IsSound c.stands.relay × ArePrinted labels
+    sound : RelayIsSound c.stands.relay × ArePrinted labels
     sound = each_run_is_sound A ranges [] c.stands.moments c.stands.relay disjoint c.stands.run
 
     -- a grid that was let out carries the page of a label that left
@@ -266,10 +260,12 @@ module _ (A : Type 0) (IsAmong : List ℕ → Type 0) where
 
       -- ---- what is delivered
 
-      printed_before : (id : ℕ) (bytes : List ℕ) → IsTheDocument labels id bytes → SomeRan (Prints id bytes) earlier
+      printed_before : (id : ℕ) (bytes : List ℕ) → IsTheDocument labels id bytes →
+          SomeRan (PrintsUnder id bytes) earlier
       printed_before id bytes (all, number, label, there, id_is) =
-          subst (λ (d : List ℕ). SomeRan (Prints id d) earlier) (all number label there id_is)
-          (subst (λ (n : ℕ). SomeRan (Prints n label.cut.bytes) earlier) id_is (c.stands.printed number label there))
+          subst (λ (d : List ℕ). SomeRan (PrintsUnder id d) earlier) (all number label there id_is)
+          (subst (λ (n : ℕ). SomeRan (PrintsUnder n label.cut.bytes) earlier) id_is
+          (c.stands.printed number label there))
 
       as_written : (text : List ℕ) → GivesPrinted labels text ran.before (status_at ran.ends) ran.after →
           WritesPrinted earlier text ran

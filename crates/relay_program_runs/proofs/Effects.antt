@@ -1,15 +1,11 @@
 -- What a command does to the store at its path: nothing, what its printer does in the machine, or it makes a ledger.
 use Rattle.std.proofs.Common.{◌≡◌, ◌<◌, inl, inr, ℕ, List, [], ◌∷◌, None, Option, Some, slice_get, refl, sym, ap, subst, ◌∙◌, arith}
-use Rattle.std.specs.Prelude.{IfSome, IsTrue}
-use Rattle.std.specs.Option.{option_copied}
+use Rattle.std.specs.{Prelude.IfSome, Prelude.IsTrue, Option.option_copied, Ordering.nat_cmp}
 use Rattle.std.specs.FinMap as finite
-use Rattle.std.specs.Ordering.{nat_cmp}
 use Rattle.dm_store.specs.Saved.{Saved}
-use Rattle.dm_print_ledger.specs.declared.range.Range.{Range}
-use Rattle.dm_print_ledger.specs.Verdicts.{opening}
+use Rattle.dm_print_ledger.specs.{declared.range.Range.Range, Verdicts.opening}
 use Rattle.dm_print_ledger.specs.Ledger.{JobView, LedgerView, TicketView, is_range, ledger_bytes}
-use Rattle.dm_assembly_desk.specs.Documents.{Documents, Pages}
-use Rattle.dm_assembly_desk.specs.Desk.{HoldsJointFile, joint_file}
+use Rattle.dm_assembly_desk.specs.{Documents.Documents, Documents.Pages, Desk.HoldsJointFile, Desk.joint_file}
 use Rattle.dm_assembly_desk.specs.declared.limits.TheConstants.{MOST_CAPACITY}
 use Rattle.dm_event_history.specs.Relay.{Actor, Relay, stored_of}
 use Rattle.relay_command.specs.declared.command.Command.{Command}
@@ -17,12 +13,10 @@ use Rattle.relay_command.specs.declared.command.Command.TheVariants.{Words, Draw
 use Rattle.relay_printer_commands.specs.Printers.{images_of, ledger_at}
 use Rattle.relay_streams.specs.Streams.{AppendsPart}
 use Rattle.relay_desk_commands.specs.Desks.{DeskFiles, OnDesk}
-use Rattle.relay_runs.specs.Runs.{Follows, Keeps}
-use Rattle.relay_runs.proofs.EachGive.{give_follows, give_last_follows}
-use Rattle.relay_runs.proofs.EachPrint.{print_follows}
-use Rattle.relay_runs.proofs.EachTake.{take_follows}
+use Rattle.relay_runs.specs.Runs.{FollowsRun, KeepsLedger}
+use Rattle.relay_runs.proofs.{EachGive.give_follows, EachGive.give_last_follows, EachPrint.print_follows}
+use Rattle.relay_runs.proofs.{EachTake.take_follows, PrintTold.print_out}
 use Rattle.relay_runs.proofs.Ledgers.{give_idle, give_last_idle, is_made, made_same, print_idle, shown_same, take_idle}
-use Rattle.relay_runs.proofs.PrintTold.{print_out}
 use Rattle.relay_desk_runs.specs.Answered.{HasNoDocuments}
 use Rattle.relay_desk_runs.proofs.Opened.{at_desk_joint, copy_joint, held_same, import_joint, on_id_joint}
 use Rattle.relay.specs.Program.{Does}
@@ -32,7 +26,7 @@ use Rattle.relay_program_runs.specs.Passed.{Made, Passed, made_by, made_where, p
 abbrev pub HoldsSo : Relay → Saved → Option ℕ → Type 0
 HoldsSo relay saved None = IsTrue saved.is_honest × (saved.content ≡ None)
 HoldsSo relay saved (Some number) =
-    (actor : Actor LedgerView) × (slice_get relay.printers number ≡ Some actor) × Keeps saved actor
+    (actor : Actor LedgerView) × (slice_get relay.printers number ≡ Some actor) × KeepsLedger saved actor
 
 -- it holds no documents: the file of a ledger is no joint file
 no_joint : (ledger : LedgerView) (held : Documents) → ledger_bytes ledger ≡ joint_file held → ⊥
@@ -69,7 +63,7 @@ pub data Effect (A : Type 0) (relay : Relay) (o : Option ℕ) (command : Command
   unmade : o ≡ None → IsTrue after.files.joint.is_honest → after.files.joint.content ≡ None → p.printed ≡ None →
       p.given ≡ None → Effect A relay o command before after p
   follows : (number : ℕ) → o ≡ Some number →
-      Follows A relay number before.streams.input after.files.joint p.printed p.given →
+      FollowsRun A relay number before.streams.input after.files.joint p.printed p.given →
       Effect A relay o command before after p
   makes : (number : ℕ) (range : Range) → o ≡ None → IsTrue after.files.joint.is_honest → IsTrue (is_range range) →
       after.files.joint.content ≡ Some (ledger_bytes (opening number range)) →

@@ -1,29 +1,21 @@
 -- A scan of the images of labels takes in these labels alone. The labels are of side 12, as those of the worked list.
 use Rattle.std.proofs.Common.{◌≡◌, ◌*◌, ◌/◌, ◌%◌, ◌++◌, ℕ, zero, suc, Bool, true, false, List, [], ◌∷◌, None, Option, Some, drop, length, take, refl, sym, ap, subst, ◌∙◌, append_assoc, append-nil, arith}
-use Rattle.std.specs.List.{AllByRecursion}
-use Rattle.std.specs.Io.KnownBytes.{Consumes}
-use Rattle.std.proofs.lemmas.List.{length-append}
-use Rattle.std.proofs.lemmas.List.FromFn.{length-map-range_with_len}
-use Rattle.std.specs.Fmt.{digits}
-use Rattle.dm_size.specs.Sizes.{row}
-use Rattle.dm_size.specs.declared.size.Size.TheVariants.{Side12}
+use Rattle.std.specs.{List.AllByRecursion, Io.KnownBytes.Consumes, Fmt.digits}
+use Rattle.std.proofs.lemmas.List.{length-append, FromFn.length-map-range_with_len}
+use Rattle.dm_size.specs.{Sizes.row, declared.size.Size.TheVariants.Side12}
 use Rattle.dm_finder_frame.specs.Frame.{GridView, IsWholeGrid, square_of}
-use Rattle.dm_pbm_io.specs.Header.{IsHeaderBody, magic, stride}
+use Rattle.dm_pbm_io.specs.{Header.IsHeaderBody, Header.magic, Header.stride, Laws.IsReadable}
 use Rattle.dm_pbm_io.specs.Image.{IsGridInside, Picture, Spells, image_with_quiet_zone, p4, packed, pixel_with_quiet_zone, rows_text, written}
-use Rattle.dm_pbm_io.specs.Laws.{IsReadable}
-use Rattle.dm_pbm_io.proofs.OneImage.{one_header, one_image, same_fronts}
-use Rattle.dm_pbm_io.proofs.RoundTrip.{written_readable}
-use Rattle.dm_pbm_io.proofs.Rows.{length-packed}
-use Rattle.dm_pbm_io.proofs.TakenBack.{taken_back}
+use Rattle.dm_pbm_io.proofs.{OneImage.one_header, OneImage.one_image, OneImage.same_fronts, RoundTrip.written_readable}
+use Rattle.dm_pbm_io.proofs.{Rows.length-packed, TakenBack.taken_back}
 use Rattle.dm_assembly_desk.specs.declared.fault.ScanFault.{ScanFault}
 use Rattle.dm_assembly_desk.specs.declared.fault.ScanFault.TheVariants as scan_fault
 use Rattle.relay_streams.specs.Streams.{InputView}
-use Rattle.relay_shared.specs.Command.{AnswersImages, Comes, EndsImages, Progress, Said, Takes, TellsImages, TellsInputs}
-use Rattle.relay_shared.specs.Command.Comes.{image, unread, too_many}
+use Rattle.relay_shared.specs.Command.{AnswersImages, ImageComes, EndsImages, Progress, Said, TakesImage, TellsImages, TellsInputs}
+use Rattle.relay_shared.specs.Command.{ImageComes.image, ImageComes.unread, ImageComes.too_many, TellsInputs.of_input}
 use Rattle.relay_shared.specs.Command.AnswersImages.{none, another}
 use Rattle.relay_shared.specs.Command.EndsImages.{no_image, last_line}
 use Rattle.relay_shared.specs.Command.TellsImages.{ended, stopped}
-use Rattle.relay_shared.specs.Command.TellsInputs.{of_input}
 use Rattle.relay_printer_commands.proofs.Sizes.{same_size}
 use Rattle.relay_printer_commands.specs.Printers.{images_of}
 use Rattle.relay_desk_commands.specs.Desks.{AtDesk, EndsScan, OnDesk, ScansPicture, scan_images}
@@ -173,7 +165,7 @@ module _ (A : Type 0) (Q : GridView → Type 0) where
     goes_on : last ≡ false → (more : List GridView) × AllByRecursion Is12 more × (y ≡ images_of more)
 
   come : {count : ℕ} {now after : AtDesk} {bytes : List ℕ} {input : InputView} {said : Said} {last : Bool}
-      (comes : Comes (scan_images A) count now bytes input said last after) (grids : List GridView) (y : List ℕ) →
+      (comes : ImageComes (scan_images A) count now bytes input said last after) (grids : List GridView) (y : List ℕ) →
       AllByRecursion Is12 grids → images_of grids ≡ bytes ++ y → Came last (grids_of_bytes comes) y
   come {bytes = bytes} (image p few spells answers last_is) [] y are is = absurd (no_bytes bytes y p spells is)
   come {bytes = bytes} (image p few spells answers last_is) (g ∷ grids) y are is =
@@ -200,7 +192,7 @@ module _ (A : Type 0) (Q : GridView → Type 0) where
       left : now.input.remaining ≡ Some (images_of more)
 
     takes_so : {count : ℕ} {old new : Progress (scan_images A)} {said : Said} {last : Bool} (taken : List GridView) →
-        Read taken old → (takes : Takes (scan_images A) count old said last new) →
+        Read taken old → (takes : TakesImage (scan_images A) count old said last new) →
         (y : List ℕ) × (new.input.remaining ≡ Some y) × Came last (grids_of_bytes takes.comes) y
     takes_so {old = old} {new = new} taken r takes =
         let c = consumed_known old.input.remaining new.input.remaining (images_of r.more) takes.bytes r.left takes.consumed in

@@ -1,18 +1,15 @@
 -- Lines that ran over the places of a system are commands that ran at a site: the paths that they name, each once.
 use Rattle.std.proofs.Common.{◌≡◌, ◌≢◌, ◌++◌, ◌⊎◌, inl, inr, ℕ, zero, suc, List, [], ◌∷◌, None, Option, Some, slice_get, slice_set, refl, sym, ap, subst, ◌∙◌, Bool, true, false}
-use Rattle.std.specs.Prelude.{Decides, IfSome, IsTrue}
-use Rattle.std.specs.List.{AllByRecursion}
-use Rattle.std.specs.Str.{bytes_eq}
+use Rattle.std.specs.{Prelude.Decides, Prelude.IfSome, Prelude.IsTrue, List.AllByRecursion, Str.bytes_eq}
 use Rattle.std.proofs.lemmas.Slice.Eq.{bytes_eq-Decides}
 use Rattle.relay_command.specs.declared.command.Command.{Command}
 use Rattle.relay_desk_commands.specs.Desks.{DeskFiles}
 use Rattle.relay.specs.Program.{path_of, IsAt, PlacesView, SystemView, at_none, at_path, does, does_and_saves, does_here, lacks_memory, shows}
 use Rattle.relay.specs.Program as program
-use Rattle.relay_program_runs.specs.Law.{At, Asks, IsBlank, IsNew, Ran, Runs}
+use Rattle.relay_program_runs.specs.Law.{At, MeetsPremises, IsBlank, IsNew, Ran, RunInTurn}
 use Rattle.relay_program_runs.specs.Lines.{Follow, LineRan, LinesAsk, NoLinePrintsAnIdAgain, WhatLinesDeliverWasPrinted, all_commands, commands_in, if_at, ran_at, saved_as}
-use Rattle.relay_program_runs.proofs.Lists.{all_so}
+use Rattle.relay_program_runs.proofs.{Lists.all_so, Walk.no_id_is_printed_twice, Walk.what_is_delivered_was_printed}
 use Rattle.relay_program_runs.proofs.Steps.{Pairs, at_same, found, pairs_so, there}
-use Rattle.relay_program_runs.proofs.Walk.{no_id_is_printed_twice, what_is_delivered_was_printed}
 
 -- ---- paths, each once
 
@@ -157,12 +154,12 @@ module _ (A : Type 0) where
         × RunsOver next later
 
     runs_there : Pairs IsApart paths → (places : PlacesView) (rans : List (Ran A)) → AllIn paths rans →
-        RunsOver places rans → Runs (site_of paths places) rans
+        RunsOver places rans → RunInTurn (site_of paths places) rans
     runs_there apart places [] all over = tt
     runs_there apart places (ran ∷ later) (is, all) (finds, next, leaves, keeps, rest) = (
       is.0,
       at_in paths places is.0 (path_of ran.command) is.1 ∙ ap Some (at_same refl (sym finds)),
-      subst (λ (site : List At). Runs site later)
+      subst (λ (site : List At). RunInTurn site later)
           (sym (set_in_site paths apart is.0 (path_of ran.command) is.1 places next ran.after.files leaves keeps))
           (runs_there apart next later all rest),
     )
@@ -216,7 +213,7 @@ module _ (A : Type 0) where
         rest saved.0 (over_lines later line.after.places rest saved.1 follow))
 
   asks : (lines : List (LineRan A)) (ask : LinesAsk lines) →
-      Asks (site_of (covers (all_commands lines)).paths ask.places) (all_commands lines)
+      MeetsPremises (site_of (covers (all_commands lines)).paths ask.places) (all_commands lines)
   asks lines ask = let c = covers (all_commands lines) in record {
     is_new = new_site ask.places ask.is_new c.paths c.apart;
     runs = runs_there c.paths c.apart ask.places (all_commands lines) c.all (over_lines c.paths lines ask.places c.all

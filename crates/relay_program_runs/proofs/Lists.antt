@@ -2,8 +2,7 @@
 use Rattle.std.proofs.Common.{◌≡◌, ◌⊎◌, ◌++◌, inl, inr, ℕ, zero, suc, List, [], ◌∷◌, Some, slice_get, refl, sym, ap, subst, ◌∙◌, length, append-nil, append_assoc}
 use Rattle.std.specs.List.{AllByRecursion}
 use Rattle.dm_event_history.proofs.Gotten.{get_more, in_either}
-use Rattle.relay_program_runs.specs.Law.{Ran, SomeRan, all_made}
-use Rattle.relay_program_runs.specs.Passed.{Made, made_by}
+use Rattle.relay_program_runs.specs.{Law.Ran, Law.SomeRan, Law.all_made, Passed.Made, Passed.made_by}
 
 pub all_so : {X : Type 0} (P Q : X → Type 0) (xs : List X) → ((x : X) → P x → Q x) → AllByRecursion P xs → AllByRecursion Q xs
 all_so P Q [] each all = tt

@@ -5,32 +5,28 @@ use Rattle.std.proofs.lemmas.List.{append-nil, length-set}
 use Rattle.dm_finder_frame.specs.Frame.{GridView}
 use Rattle.dm_append_label.specs.Labels.{Carries, PageView}
 use Rattle.dm_store.specs.Saved.{Saved}
-use Rattle.dm_print_ledger.specs.declared.range.Range.{Range}
-use Rattle.dm_print_ledger.specs.Verdicts.{opening}
-use Rattle.dm_print_ledger.specs.Ledger.{JobView, TicketView}
+use Rattle.dm_print_ledger.specs.{declared.range.Range.Range, Verdicts.opening, Ledger.JobView, Ledger.TicketView}
 use Rattle.dm_print_ledger.proofs.LedgerLaws.{opening_sound}
 use Rattle.dm_event_history.specs.Relay.{CutDocument, Label, Move, Relay, Running, Used, fresh_from, start}
 use Rattle.dm_event_history.specs.Steps.{IsRun, Moment}
-use Rattle.dm_event_history.specs.Headline.{AreDisjoint, ArePrinted, IsSound, gone, one_if}
-use Rattle.dm_event_history.proofs.Deciding.{same_or_other}
-use Rattle.dm_event_history.proofs.Gotten.{get_more, in_either, set_at}
-use Rattle.dm_event_history.proofs.Headline.{each_run_is_sound}
-use Rattle.dm_event_history.proofs.Numbers.{gone_more}
+use Rattle.dm_event_history.specs.Headline.{AreDisjoint, ArePrinted, RelayIsSound, gone, one_if}
+use Rattle.dm_event_history.proofs.{Deciding.same_or_other, Gotten.get_more, Gotten.in_either, Gotten.set_at}
+use Rattle.dm_event_history.proofs.{Headline.each_run_is_sound, Numbers.gone_more}
 use Rattle.dm_event_world.proofs.Changing.{at_place}
 use Rattle.relay_command.specs.declared.command.Command.{Command}
 use Rattle.relay_desk_commands.specs.Desks.{OnDesk}
-use Rattle.relay_runs.specs.Runs.{Follows, IsOfJob, Keeps, grids_in, grids_of, listed}
+use Rattle.relay_runs.specs.Runs.{FollowsRun, IsOfJob, KeepsLedger, grids_in, grids_of, listed}
 use Rattle.relay_runs.proofs.Places.{set_there}
 use Rattle.relay_printer_commands.specs.Printers.{images_of}
 use Rattle.relay_streams.specs.Streams.{AppendsPart}
-use Rattle.relay_program_runs.specs.Law.{At, Ends, IsBlank, IsFirstOfItsId, IsOnePart, Prints, Ran, SomeRan, all_made, at_its_path, cut_short, exited, passed, passed_at}
+use Rattle.relay_program_runs.specs.Law.{At, Halts, IsBlank, IsFirstOfItsId, IsOnePart, PrintsUnder, Ran, SomeRan, all_made, at_its_path, cut_short, exited, passed, passed_at}
 use Rattle.relay_program_runs.specs.Passed.{Made, made_by}
 use Rattle.relay_program_runs.proofs.Effects.{Effect, HoldsSo, Taken, effect, follows, idle, makes, out_of, unmade}
 use Rattle.relay_program_runs.proofs.Lists.{at_length, before_or_now, made_more, one_before, one_now}
 
 -- ---- what is so once commands ran
 
--- a job with this identification was answered
+-- a job with this ID was answered
 abbrev pub HasId : {A : Type 0} → ℕ → Ran A → Type 0
 HasId id ran = IsSomeAnd (passed ran).printed (λ its. its.id ≡ id)
 
@@ -65,7 +61,7 @@ pub record Stands (A : Type 0) (ranges : List Range) (earlier : List (Ran A)) (s
   pub gave : (ticket : TicketView) → SomeRan (Gave ticket) earlier →
       (it : ℕ) × (slice_get relay.tickets it ≡ Some ticket)
   pub printed : (number : ℕ) (label : Label) → slice_get relay.labels number ≡ Some label →
-      SomeRan (Prints label.page.id label.cut.bytes) earlier
+      SomeRan (PrintsUnder label.page.id label.cut.bytes) earlier
   pub grids : (grid : GridView) → SomeRan (HasLabel grid) earlier → LeftAs relay grid
   pub used : (id : ℕ) → SomeRan (HasId id) earlier → 1 ≤ gone relay.moves id
 
@@ -256,7 +252,7 @@ module _ (A : Type 0) (ranges : List Range) (earlier : List (Ran A)) (site : Lis
     module _ (number : ℕ) (range : Range) (none : its_number.0 ≡ None)
         (is_one : made_by ran.command ran.before ran.after ≡ record { number = number; range = range } ∷ [])
         (in_ranges : slice_get ranges number ≡ Some range) (first : (p : ℕ) → slice_get s.numbers p ≡ Some (Some number) → ⊥)
-        (keeps : Keeps ran.after.files.joint (Running (opening number range))) where
+        (keeps : KeepsLedger ran.after.files.joint (Running (opening number range))) where
       abbrev numbered : List (Option ℕ)
       numbered = slice_set s.numbers place (Some number)
 
@@ -321,13 +317,14 @@ module _ (A : Type 0) (ranges : List Range) (earlier : List (Ran A)) (site : Lis
   -- ---- its printer was called
 
   module _ (disjoint : AreDisjoint ranges) (number : ℕ) (is_number : its_number.0 ≡ Some number)
-      (f : Follows A s.relay number ran.before.streams.input ran.after.files.joint (passed ran).printed (passed ran).given)
+      (f : FollowsRun A s.relay number ran.before.streams.input ran.after.files.joint (passed ran).printed
+      (passed ran).given)
       (out : (job : JobView) → (passed ran).printed ≡ Some job →
       AppendsPart ran.before.streams.output.contents ran.after.streams.output.contents (images_of job.labels)) where
     whole : IsRun (start ranges []) (f.moments ++ s.moments) f.after
     whole = runs_on (start ranges []) s.moments s.relay f.moments f.after s.run f.runs.run
 
-    sound_after : IsSound f.after
+    sound_after : RelayIsSound f.after
     sound_after = (each_run_is_sound A ranges [] (f.moments ++ s.moments) f.after disjoint whole).0
 
     moved : (id : ℕ) → gone f.after.moves id ≡ gone s.relay.moves id + gone f.goods.moves id
@@ -336,7 +333,7 @@ module _ (A : Type 0) (ranges : List Range) (earlier : List (Ran A)) (site : Lis
     used_one : (id : ℕ) → gone (Used id ∷ []) id ≡ 1
     used_one id = let same : (id == id) ≡ true = eq-eqb id id refl in ap (λ b. one_if b + 0) same
 
-    -- its identification was not used before
+    -- its ID was not used before
     uses_new : (job : JobView) → (passed ran).printed ≡ Some job → (gone s.relay.moves job.id ≡ 0) × (gone f.after.moves job.id ≡ 1)
     uses_new job is =
         let one : gone f.goods.moves job.id ≡ 1 =
@@ -376,7 +373,8 @@ module _ (A : Type 0) (ranges : List Range) (earlier : List (Ran A)) (site : Lis
     there_after i label there = let a = after_some s.relay.labels f.goods.labels i label there in
         (a.0, subst (λ (ls : List Label). slice_get ls a.0 ≡ Some label) (sym labels_are) a.1)
 
-    label_new : (i : ℕ) (label : Label) → slice_get f.goods.labels i ≡ Some label → Prints label.page.id label.cut.bytes ran
+    label_new : (i : ℕ) (label : Label) → slice_get f.goods.labels i ≡ Some label →
+        PrintsUnder label.page.id label.cut.bytes ran
     label_new i label there =
         let its : IsOfJob ran.before.streams.input (passed ran).printed label = f.printed i label there in
         let at = there_after i label there in
@@ -397,7 +395,7 @@ module _ (A : Type 0) (ranges : List Range) (earlier : List (Ran A)) (site : Lis
         are_printed : ArePrinted f.after.labels
         are_printed = (each_run_is_sound A ranges [] (f.moments ++ s.moments) f.after disjoint whole).1
 
-        -- a label of the job carries a part of the document, since labels of one identification are cut from one
+        -- a label of the job carries a part of the document, since labels of one ID are cut from one
         each_page : (k : ℕ) (grid : GridView) (its : IsOfJob ran.before.streams.input (passed ran).printed label)
             (at : (n : ℕ) × (slice_get f.after.labels n ≡ Some label))
             (has : (own : Label) × (slice_get f.goods.labels k ≡ Some own) × (own.grid ≡ grid)) →
@@ -491,7 +489,8 @@ module _ (A : Type 0) (ranges : List Range) (earlier : List (Ran A)) (site : Lis
 -- ---- whatever the command
 
 effect_at : (A : Type 0) (relay : Relay) (command : Command) {images : List (Option (List ℕ))} (before after : OnDesk)
-    (ends : Ends A command images before after) (o : Option ℕ) → HoldsSo relay before.files.joint o → Taken relay (passed_at ends).taken →
+    (ends : Halts A command images before after) (o : Option ℕ) → HoldsSo relay before.files.joint o →
+    Taken relay (passed_at ends).taken →
     Effect A relay o command before after (passed_at ends)
 effect_at A relay command {images} before after (exited status does) o holds left =
     effect A relay images before after status command does o holds left
@@ -499,7 +498,7 @@ effect_at A relay command {images} before after (cut_short status does) o holds 
     effect A relay images before after status command does o holds left
 
 out_at : (A : Type 0) (command : Command) {images : List (Option (List ℕ))} (before after : OnDesk)
-    (ends : Ends A command images before after) (job : JobView) → (passed_at ends).printed ≡ Some job →
+    (ends : Halts A command images before after) (job : JobView) → (passed_at ends).printed ≡ Some job →
     AppendsPart before.streams.output.contents after.streams.output.contents (images_of job.labels)
 out_at A command {images} before after (exited status does) job is =
     out_of A images before after status command does job is

@@ -2,13 +2,11 @@
 -- may begin with all of them.
 use Rattle.std.proofs.Common.{◌≡◌, ◌⊎◌, ◌+◌, ◌<◌, ◌≤◌, inl, inr, ℕ, zero, suc, List, [], ◌∷◌, Some, length, slice_get, slice_index_or, refl, sym, ap, subst, ◌∙◌, arith}
 use Rattle.std.specs.Prelude.{AllPairs}
-use Rattle.std.proofs.lemmas.Bool.{cases_lt}
-use Rattle.std.proofs.lemmas.Option.{slice_get-get_or, slice_get_within}
+use Rattle.std.proofs.lemmas.{Bool.cases_lt, Option.slice_get-get_or, Option.slice_get_within}
 use Rattle.dm_print_ledger.specs.declared.range.Range.{Range}
 use Rattle.dm_event_history.specs.Headline.{AreDisjoint, IsApart}
 use Rattle.dm_event_history.proofs.Deciding.{same_or_other}
-use Rattle.relay_program_runs.specs.Law.{AreApart}
-use Rattle.relay_program_runs.specs.Passed.{Made}
+use Rattle.relay_program_runs.specs.{Law.AreApart, Passed.Made}
 
 -- the range at this place, after as many gaps as are wanted
 abbrev placed : Range → List Range → ℕ → Range → List Range

@@ -1,7 +1,6 @@
 -- Of short lists without one premise of a law: its other premises hold, and its conclusion does not.
 use Rattle.std.proofs.Common.{◌≡◌, inl, inr, ℕ, zero, suc, List, [], ◌∷◌, None, Some, refl, sym, ap, subst, ◌∙◌, arith}
-use Rattle.std.specs.Prelude.{AllPairs, codes}
-use Rattle.std.specs.Borrow.{Bor}
+use Rattle.std.specs.{Prelude.AllPairs, Prelude.codes, Borrow.Bor}
 use Rattle.dm_encodation.specs.declared.scheme.Scheme.TheVariants.{Ascii}
 use Rattle.relay_command.specs.declared.command.Command.TheVariants.{Deliver, Give, Import, Ledger, Print, Scan, Take}
 use Rattle.relay_command.specs.declared.command.Labels.TheVariants.{OfSide}
@@ -9,7 +8,7 @@ use Rattle.relay_streams.specs.Streams.{OutputView}
 use Rattle.relay_printer_commands.specs.Printers.{IsTextOf}
 use Rattle.relay_desk_commands.specs.Desks.{DeskFiles}
 use Rattle.relay_runs.proofs.TicketTexts.{ten_ticket}
-use Rattle.relay_program_runs.specs.Law.{AreApart, Prints, Ran, SomeRan, WritesPrinted, passed, writes, writes_nothing}
+use Rattle.relay_program_runs.specs.Law.{AreApart, PrintsUnder, Ran, SomeRan, WritesPrinted, passed, writes, writes_nothing}
 use Rattle.relay_program_runs.specs.Worked.{IsDone, NeedsExports, NeedsFiles, NeedsLabels, NeedsNumbers, NeedsRanges, NeedsTickets, no_files}
 use Rattle.relay_program_runs.proofs.Steps.{again, also, and_made, at_same, blank, broken, exits, new, pairs_so, ran, takes_given, there}
 use Rattle.relay_program_runs.proofs.WorkedFacts.{gave, its_made, keeps_fresh, left_fresh, one_made, prints_id, took}
@@ -99,7 +98,7 @@ module _ {A : Type 0} {f f1 f2 f3 : Bor (List ℕ)} {x1 x2 y1 y2 : DeskFiles} {o
 -- ---- what no command of the list let out
 
 no_print : {A : Type 0} {one : Ran A} → (passed one).printed ≡ None → {id : ℕ} {document : List ℕ} →
-    SomeRan (Prints id document) (one ∷ []) → ⊥
+    SomeRan (PrintsUnder id document) (one ∷ []) → ⊥
 no_print {one = one} none (zero, other, at, prints) =
     let same : one ≡ other = cc (at) in
     let job = ap (λ (r : Ran _). (passed r).printed) same ∙ prints.job_is in cc (job, none)

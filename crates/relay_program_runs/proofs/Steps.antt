@@ -1,17 +1,16 @@
 -- Lists of commands, each at its place of a site: that the site is new, that they ran one after another, and which
 -- ledgers they made.
 use Rattle.std.proofs.Common.{◌≡◌, ◌≢◌, ◌≤◌, ◌<◌, ◌+◌, ◌++◌, ℕ, zero, suc, List, [], ◌∷◌, Option, Some, length, slice_get, slice_index_or, slice_set, refl, sym, ap, subst, ◌∙◌, arith}
-use Rattle.std.specs.Prelude.{AllPairs, IfSome, IsSomeAnd}
-use Rattle.std.specs.List.{AllByRecursion}
+use Rattle.std.specs.{Prelude.AllPairs, Prelude.IfSome, Prelude.IsSomeAnd, List.AllByRecursion}
 use Rattle.dm_store.specs.Saved.{with_open_plans, Saved, SavedSet}
 use Rattle.dm_print_ledger.specs.Ledger.{JobView, TicketView}
 use Rattle.relay_command.specs.declared.command.Command.{Command}
 use Rattle.relay_desk_commands.specs.Desks.{DeskFiles}
 use Rattle.relay.specs.Program.{path_of}
 use Rattle.relay_program_runs.specs.Passed.{Made}
-use Rattle.relay_program_runs.specs.Law.{At, Each, IsBlank, IsFirstOfItsId, IsNew, Ran, Runs, SomeRan, TakesGiven, all_made, cut_short, exited, passed}
+use Rattle.relay_program_runs.specs.Law.{At, Each, IsBlank, IsFirstOfItsId, IsNew, Ran, RunInTurn, SomeRan, TakesGiven, all_made, cut_short, exited, passed}
 use Rattle.relay_program_runs.proofs.Lists.{all_so}
-use Rattle.relay_program_runs.specs.Worked.{Breaks, IsDone, files_of, given, no_files}
+use Rattle.relay_program_runs.specs.Worked.{Breaks, IsDone, two_files, given, no_files}
 
 -- ---- lists
 
@@ -116,8 +115,8 @@ module _ {A : Type 0} {command : Command} {x y : DeskFiles} {input output : List
       (subst (λ (f : DeskFiles). IsDone A command f input status y output) files d))
 
 pub store_so : {store other : Saved} {set : SavedSet} → store ≡ other →
-    files_of (with_open_plans store) set ≡ files_of (with_open_plans other) set
-store_so {set = set} same = ap (λ (s : Saved). files_of (with_open_plans s) set) same
+    two_files (with_open_plans store) set ≡ two_files (with_open_plans other) set
+store_so {set = set} same = ap (λ (s : Saved). two_files (with_open_plans s) set) same
 
 abbrev pub rans_of : {A : Type 0} → List (Step A) → List (Ran A)
 rans_of [] = []
@@ -129,12 +128,13 @@ Fit site [] = Unit {0}
 Fit site (step ∷ steps) = (slice_get site step.place ≡ Some (there step.path step.did.before.files))
     × Fit (slice_set site step.place (there step.path step.after)) steps
 
-pub run_so : {A : Type 0} (site : List At) (steps : List (Step A)) → Fit site steps → Runs site (rans_of steps)
+pub run_so : {A : Type 0} (site : List At) (steps : List (Step A)) → Fit site steps → RunInTurn site (rans_of steps)
 run_so site [] fit = tt
 run_so site (step ∷ steps) (finds, rest) = (
   step.place,
   finds ∙ ap Some (at_same (sym step.named) refl),
-  subst (λ (at : At). Runs (slice_set site step.place at) (rans_of steps)) (at_same (sym step.named) (sym step.leaves))
+  subst (λ (at : At). RunInTurn (slice_set site step.place at) (rans_of steps))
+      (at_same (sym step.named) (sym step.leaves))
       (run_so (slice_set site step.place (there step.path step.after)) steps rest),
 )
 
@@ -144,7 +144,7 @@ and_made {one} {more = more} is are =
 
 -- ---- premises and conclusions
 
--- it has a job of this identification
+-- it has a job of this ID
 pub record PrintsId {A : Type 0} (id : ℕ) (ran : Ran A) : Type 0 where
   pub job : JobView
   pub job_is : (passed ran).printed ≡ Some job
@@ -172,7 +172,7 @@ takes_given {A} earlier {giver} taker number at gives takes =
 pub broken : {A : Type 0} (Apart : Made → Made → Type 0) (Takes So : List (Ran A) → Ran A → Type 0) (site : List At)
     (steps : List (Step A)) → Rise 0 site → AllByRecursion IsBlank site → Fit site steps → (made : List Made) →
     all_made (rans_of steps) ≡ made → Pairs Apart made → Each Takes [] (rans_of steps) →
-    (Each So [] (rans_of steps) → ⊥) → Breaks A Runs Apart Takes So
+    (Each So [] (rans_of steps) → ⊥) → Breaks A RunInTurn Apart Takes So
 broken Apart Takes So site steps rise blank fit made are apart takes fails = record {
   site = site;
   rans = rans_of steps;

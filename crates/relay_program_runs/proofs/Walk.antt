@@ -5,10 +5,9 @@ use Rattle.std.proofs.lemmas.Option.{slice_get_within}
 use Rattle.dm_print_ledger.specs.Ledger.{TicketView}
 use Rattle.dm_event_history.specs.Relay.{Relay}
 use Rattle.dm_event_history.proofs.Gotten.{get_more}
-use Rattle.relay_program_runs.specs.Law.{AreApart, At, DeliversPrinted, Each, IsFirstOfItsId, NoIdIsPrintedTwice, Ran, Runs, SomeRan, TakesGiven, TakesPrinted, WhatIsDeliveredWasPrinted, all_made, at_its_path, passed}
+use Rattle.relay_program_runs.specs.Law.{AreApart, At, DeliversPrinted, Each, IsFirstOfItsId, NoIdIsPrintedTwice, Ran, RunInTurn, SomeRan, TakesGiven, TakesPrinted, WhatIsDeliveredWasPrinted, all_made, at_its_path, passed}
 use Rattle.relay_program_runs.specs.Passed.{Made, made_by}
-use Rattle.relay_program_runs.proofs.Effects.{Taken}
-use Rattle.relay_program_runs.proofs.Lists.{at_length, made_more}
+use Rattle.relay_program_runs.proofs.{Effects.Taken, Lists.at_length, Lists.made_more}
 use Rattle.relay_program_runs.proofs.Printers.{Gave, OneMore, Stands, WasMade, begun, one_more}
 use Rattle.relay_program_runs.proofs.Ranges.{range_found, ranges_apart, ranges_of, two_apart}
 use Rattle.relay_program_runs.proofs.Desks.{AreClean, clean_begun, clean_more, delivers}
@@ -48,7 +47,7 @@ taken A earlier relay (Some ticket) gave was = gave ticket was
 
 module _ (A : Type 0) (made : List Made) (apart : AllPairs AreApart made) where
   each_first : (later earlier : List (Ran A)) (site : List At) → Stands A (ranges_of made) earlier site →
-      made ≡ all_made earlier ++ all_made later → Runs site later → Each TakesGiven earlier later →
+      made ≡ all_made earlier ++ all_made later → RunInTurn site later → Each TakesGiven earlier later →
       Each IsFirstOfItsId earlier later
   each_first [] earlier site s are runs takes = tt
   each_first (ran ∷ later) earlier site s are runs takes =
@@ -61,7 +60,8 @@ module _ (A : Type 0) (made : List Made) (apart : AllPairs AreApart made) where
       )
 
   each_delivers : (IsAmong : List ℕ → Type 0) (later earlier : List (Ran A)) (site : List At) →
-      AreClean A IsAmong (ranges_of made) earlier site → made ≡ all_made earlier ++ all_made later → Runs site later →
+      AreClean A IsAmong (ranges_of made) earlier site → made ≡ all_made earlier ++ all_made later →
+      RunInTurn site later →
       Each TakesGiven earlier later → Each (TakesPrinted IsAmong) earlier later →
       Each (DeliversPrinted IsAmong) earlier later
   each_delivers IsAmong [] earlier site c are runs takes brings = tt

@@ -1,8 +1,7 @@
 -- The premises of the laws, of the commands of the worked list.
 use Rattle.std.proofs.Common.{◌≡◌, ◌≤◌, ◌<◌, ◌++◌, inl, inr, ℕ, List, [], ◌∷◌, None, Option, Some, length, slice_get, refl, sym, ap, subst, ◌∙◌, arith}
 use Rattle.std.specs.Prelude.{AllPairs, IfSome, IsSomeAnd, IsTrue, codes, is_some, true}
-use Rattle.std.specs.Borrow.{Bor}
-use Rattle.std.specs.List.{AllByRecursion}
+use Rattle.std.specs.{Borrow.Bor, List.AllByRecursion}
 use Rattle.dm_gf256.proofs.OneBlockWord.{differ-self}
 use Rattle.dm_check_blocks.specs.Blocks.{block_of}
 use Rattle.dm_encodation.specs.declared.scheme.Scheme.TheVariants.{Ascii}
@@ -16,10 +15,9 @@ use Rattle.relay_desk_commands.specs.Desks.{DeskFiles}
 use Rattle.relay_runs.proofs.TicketTexts.{ten_ticket}
 use Rattle.relay_desk_runs.specs.Answered.{grids_scanned}
 use Rattle.relay.specs.Program.{path_of}
-use Rattle.relay_program_runs.specs.Law.{AreApart, Asks, At, Each, LetsOut, Ran, SomeRan, TakesPrinted, passed}
+use Rattle.relay_program_runs.specs.Law.{AreApart, MeetsPremises, At, Each, LetsOut, Ran, SomeRan, TakesPrinted, passed}
 use Rattle.relay_program_runs.specs.Worked.{Delivers, IsDone, IsWorked, given, no_files}
-use Rattle.relay_program_runs.proofs.Images.{Is12, scanned_so}
-use Rattle.relay_program_runs.proofs.Lists.{all_so}
+use Rattle.relay_program_runs.proofs.{Images.Is12, Images.scanned_so, Lists.all_so}
 use Rattle.relay_program_runs.proofs.Steps.{Step, also, and_made, blank, cut, exits, new, pairs_so, ran, rans_of, run_so, stops, takes_given, there}
 use Rattle.relay_program_runs.proofs.WorkedFacts.{IsIn, PrintedWell, copy_done, export_done, gave, import_of_all, its_made, keeps_fresh, one_made, print_done, took}
 
@@ -124,7 +122,7 @@ module _ {A : Type 0} {f1 f2 f3 f4 f5 f6 f7 f8 f9 f10 f11 f12 f13 f14 t i9 i10 i
   wrote : IsSomeAnd r7.after.streams.output.contents (λ bytes. 0 < length bytes)
   wrote = subst (λ (o : Option (List ℕ)). IsSomeAnd o (λ bytes. 0 < length bytes)) (sym r7.output_is) more
 
-  asks : Asks site (rans_of steps)
+  asks : MeetsPremises site (rans_of steps)
   asks = record {
     is_new = new site (omega arith, (omega arith, (omega arith, (omega arith, tt)))) (blank, (blank, (blank, (blank, tt))));
     runs = run_so site steps (also refl (also refl (also refl (also refl (also refl (also refl (also refl (also refl

@@ -1,29 +1,22 @@
 -- What commands that ended well did, over streams whose bytes are known.
 use Rattle.std.proofs.Common.{◌≡◌, ◌⊎◌, ◌≤◌, ◌+◌, ◌++◌, inl, inr, ℕ, Bool, true, false, List, [], ◌∷◌, None, Option, Some, Result, Ok, Err, length, slice_get, take, refl, sym, ap, subst, ◌∙◌, append_assoc, append-nil, arith}
-use Rattle.std.specs.Prelude.{IfSome, IsTrue, MatchBool}
-use Rattle.std.specs.Borrow.{Bor}
-use Rattle.std.specs.List.{AllByRecursion}
+use Rattle.std.specs.{Prelude.IfSome, Prelude.IsTrue, Prelude.MatchBool, Borrow.Bor, List.AllByRecursion}
 use Rattle.std.specs.Io.KnownBytes.{Appends}
 use Rattle.std.proofs.lemmas.List.{take_all}
-use Rattle.dm_size.specs.Sizes.{row, side}
+use Rattle.dm_size.specs.{Sizes.row, Sizes.side, declared.size.Size.Size, declared.size.Size.TheVariants.Side12}
 use Rattle.dm_symbol.specs.Correction.{grid_of_words}
-use Rattle.dm_assembly_desk.specs.declared.fault.ImportFault.{ImportFault}
+use Rattle.dm_assembly_desk.specs.declared.{fault.ImportFault.ImportFault, reply.Imported.Imported}
 use Rattle.dm_assembly_desk.specs.declared.fault.ImportFault.TheVariants as import_fault
-use Rattle.dm_assembly_desk.specs.declared.reply.Imported.{Imported}
 use Rattle.relay_desk_commands.specs.declared.import.TheConstants.{IMPORT_BYTES}
-use Rattle.dm_size.specs.declared.size.Size.{Size}
-use Rattle.dm_size.specs.declared.size.Size.TheVariants.{Side12}
-use Rattle.dm_encodation.specs.declared.scheme.Scheme.{Scheme}
-use Rattle.dm_encodation.specs.declared.scheme.Scheme.TheVariants.{Ascii}
+use Rattle.dm_encodation.specs.declared.scheme.Scheme.{Scheme, TheVariants.Ascii}
 use Rattle.dm_finder_frame.specs.Frame.{GridView, IsWholeGrid}
 use Rattle.dm_finder_frame.proofs.FramedGrids.{grid_is_whole}
 use Rattle.dm_pbm_io.specs.Image.{p4}
 use Rattle.dm_store.specs.Saved.{Saved}
 use Rattle.dm_print_ledger.proofs.LedgerLaws.{opening_sound}
-use Rattle.dm_print_ledger.specs.Verdicts.{SavesFirst, opening, AreLabels, Carries, IsJobOf, IsMade, Takes, giver_of, least, take_verdict, ticket_of, union_of}
-use Rattle.dm_print_ledger.specs.declared.fault.CreateFault.{CreateFault}
+use Rattle.dm_print_ledger.specs.Verdicts.{SavesFirst, opening, AreLabels, CarriesOut, IsJobOf, IsMade, TakesTicket, giver_of, least, take_verdict, ticket_of, union_with_range}
+use Rattle.dm_print_ledger.specs.declared.{fault.CreateFault.CreateFault, range.Range.Range}
 use Rattle.dm_print_ledger.specs.declared.fault.CreateFault.TheVariants as create_fault
-use Rattle.dm_print_ledger.specs.declared.range.Range.{Range}
 use Rattle.dm_print_ledger.specs.declared.fault.TakeFault.TheVariants as take_fault
 use Rattle.dm_print_ledger.specs.Ledger.{JobView, LedgerView, PrinterView, TicketView, givers_with, is_range, ledger_bytes, running}
 use Rattle.dm_event_history.specs.Relay.{Running}
@@ -39,19 +32,15 @@ use Rattle.relay_printer_commands.specs.Printers.EndsGive.{opened as give_opened
 use Rattle.relay_printer_commands.specs.Printers.EndsLedger.{created, refused as not_created}
 use Rattle.relay_printer_commands.specs.Printers.EndsTake.{no_ticket, not_opened as take_not_opened, opened as take_opened}
 use Rattle.relay_desk_commands.specs.Desks.{DeskFiles, EndsExport, EndsImport, OnDesk, EndsCopy}
-use Rattle.relay_desk_commands.specs.Desks.EndsAtDesk.{no_desk, opened}
-use Rattle.relay_desk_commands.specs.Desks.EndsOnId.{no_id, of_id}
+use Rattle.relay_desk_commands.specs.Desks.{EndsAtDesk.no_desk, EndsAtDesk.opened, EndsOnId.no_id, EndsOnId.of_id}
 use Rattle.relay_desk_commands.specs.Desks.EndsCopyOf.{no_side as no_size, of_side as of_size}
 use Rattle.relay_desk_commands.specs.Desks.EndsImport.{not_read, read}
-use Rattle.relay_runs.proofs.Files.{opened as open_as}
-use Rattle.relay_runs.proofs.TicketTexts.{text_once}
-use Rattle.relay_runs.specs.Runs.{job_ended, ticket_given, ticket_taken, Keeps}
+use Rattle.relay_runs.proofs.{Files.opened as open_as, TicketTexts.text_once}
+use Rattle.relay_runs.specs.Runs.{job_ended, ticket_given, ticket_taken, KeepsLedger}
 use Rattle.relay_desk_runs.specs.Answered.{file_exported, file_imported, if_imported, label_copied}
-use Rattle.relay_program_runs.specs.Law.{passed}
-use Rattle.relay_program_runs.specs.Passed.{Made, made_where}
-use Rattle.relay_program_runs.specs.Worked.{IsDone, files_of, given, no_files, reading}
-use Rattle.relay_program_runs.proofs.Images.{Is12}
-use Rattle.relay_program_runs.proofs.Steps.{PrintsId, ran}
+use Rattle.relay_program_runs.specs.{Law.passed, Passed.Made, Passed.made_where}
+use Rattle.relay_program_runs.specs.Worked.{IsDone, two_files, given, no_files, streams_of_input}
+use Rattle.relay_program_runs.proofs.{Images.Is12, Steps.PrintsId, Steps.ran}
 
 -- a refusal has the status 1
 abbrev IsOne : ℕ → Type 0
@@ -74,7 +63,8 @@ all_out (Some xs) (Some ys) out text none some appends =
 
 -- the files of a ledger of which nothing was used
 abbrev pub fresh : ℕ → Range → DeskFiles
-fresh number range = files_of (record no_files.joint { content = Some (ledger_bytes (opening number range)) }) no_files.set
+fresh number range = two_files (record no_files.joint { content = Some (ledger_bytes (opening number range)) })
+    no_files.set
 
 abbrev pub range_of : ℕ → ℕ → Range
 range_of first last = record { first = first; last = last }
@@ -104,7 +94,8 @@ made_well number range streams new (created printer creates told) = by_range (is
 module _ {A : Type 0} {f : Bor (List ℕ)} {number first last : ℕ} {y : DeskFiles} {input o : List ℕ}
     (r : IsDone A (Ledger f number first last) no_files input 0 y o) where
   well : IsTrue (is_range (range_of first last)) × (r.after.files.joint ≡ (fresh number (range_of first last)).joint)
-  well = made_well number (range_of first last) (reading input) (ledger_at r.after.files.joint r.after.streams) r.does.0
+  well = made_well number (range_of first last) (streams_of_input input)
+      (ledger_at r.after.files.joint r.after.streams) r.does.0
 
   made : r.after.files ≡ fresh number (range_of first last)
   made = λ i. record { joint = well.1 i; set = r.does.1 i }
@@ -112,8 +103,9 @@ module _ {A : Type 0} {f : Bor (List ℕ)} {number first last : ℕ} {y : DeskFi
   pub left_fresh : y ≡ fresh number (range_of first last)
   left_fresh = sym r.files_are ∙ made
 
-  pub keeps_fresh : Keeps y.joint (Running (opening number (range_of first last)))
-  keeps_fresh = subst (λ (d : DeskFiles). Keeps d.joint (Running (opening number (range_of first last)))) (sym left_fresh)
+  pub keeps_fresh : KeepsLedger y.joint (Running (opening number (range_of first last)))
+  keeps_fresh = subst (λ (d : DeskFiles). KeepsLedger d.joint (Running (opening number (range_of first last))))
+      (sym left_fresh)
       (record { honest = refl; sound = opening_sound number (range_of first last) well.0; content = refl })
 
   abbrev pub its_made : Made
@@ -156,11 +148,11 @@ labels_12 A every size scheme id n m (part ∷ parts) before (grid ∷ labels) s
     at_end [] x ys = refl
     at_end (z ∷ xs) x ys = at_end xs x ys
 
--- a print that ended well has a job, of the least identification that was free, and its labels are all that was written
+-- a print that ended well has a job, of the least ID that was free, and its labels are all that was written
 pub record PrintedWell (A : Type 0) (saved : Saved) (job : Option JobView) (out : List ℕ) : Type 0 where
   pub it : JobView
   pub job_is : job ≡ Some it
-  pub id_is : (ledger : LedgerView) → Keeps saved (Running ledger) → it.id ≡ least ledger.free
+  pub id_is : (ledger : LedgerView) → KeepsLedger saved (Running ledger) → it.id ≡ least ledger.free
   pub written : out ≡ images_of it.labels
   pub labels : AllByRecursion (Is12 A (IsIn it.labels)) it.labels
 
@@ -186,7 +178,7 @@ print_done {A} {number = number} {x} {input = input} {o} r =
     by_ends (ledger_at r.after.files.joint r.after.streams) r.output_is r.does.0.0
   where
     by_ends : (new : OnLedger) → new.streams.output.contents ≡ Some o →
-        (ends : EndsPrint number (OfSide 12) Ascii (ledger_at x.joint (reading input)) 0 new) →
+        (ends : EndsPrint number (OfSide 12) Ascii (ledger_at x.joint (streams_of_input input)) 0 new) →
         PrintedWell A x.joint (job_ended ends) o
     by_ends new some (no_side side same told) = absurd (refused_one told.0)
     by_ends new some (not_read fault rest side failed same told) = absurd (refused_one told.0)
@@ -205,13 +197,13 @@ print_done {A} {number = number} {x} {input = input} {o} r =
           id_is = λ ledger keeps. made.1.id_is
               ∙ ap (λ (v : PrinterView). least v.ledger.free) (open_as x.joint (Running ledger) number before keeps opens).1;
           written = all_out (Some []) new.streams.output.contents o (images_of job.labels) refl some
-              (images_out job.labels _ (record (reading input) { input = rest }) new.streams told.0);
+              (images_out job.labels _ (record (streams_of_input input) { input = rest }) new.streams told.0);
           labels = labels_12 A job.labels size Ascii _ _ 1 made.0 [] job.labels refl
               (same_size size Side12 (is_12 size chosen.suits)) made.1.labels;
         }
 
 pub prints_id : {A : Type 0} {f : Bor (List ℕ)} {number : ℕ} {x y : DeskFiles} {input o : List ℕ} {ledger : LedgerView} →
-    Keeps x.joint (Running ledger) → (r : IsDone A (Print f number (OfSide 12) Ascii) x input 0 y o) →
+    KeepsLedger x.joint (Running ledger) → (r : IsDone A (Print f number (OfSide 12) Ascii) x input 0 y o) →
     PrintsId (least ledger.free) (ran r)
 prints_id {ledger = ledger} keeps r =
     let p = print_done r in record { job = p.it; job_is = p.job_is; id_is = p.id_is ledger keeps }
@@ -221,18 +213,20 @@ prints_id {ledger = ledger} keeps r =
 -- what a call saved that was answered
 answered_next : {X F may_lack : Type 0} (failed memory save : F) (verdict : Result LedgerView F) (old new : PrinterView)
     (x : X) → old.is_failed ≡ false → IsTrue old.saved.is_honest →
-    Carries failed memory save may_lack verdict old (Ok x) new → (next : LedgerView) → verdict ≡ Ok next →
-    Keeps new.saved (Running next)
+    CarriesOut failed memory save may_lack verdict old (Ok x) new → (next : LedgerView) → verdict ≡ Ok next →
+    KeepsLedger new.saved (Running next)
 answered_next failed memory save verdict old new x runs honest carries next is =
     let does = carries.saves runs next is in
     record { honest = does.1.0.same_honesty ∙ honest; sound = does.0; content = does.1.0.done refl honest }
 
 pub gave : {A : Type 0} {f : Bor (List ℕ)} {number to first last : ℕ} {x y : DeskFiles} {input o : List ℕ}
-    {ledger : LedgerView} → Keeps x.joint (Running ledger) → (r : IsDone A (Give f number to first last) x input 0 y o) →
+    {ledger : LedgerView} → KeepsLedger x.joint (Running ledger) →
+    (r : IsDone A (Give f number to first last) x input 0 y o) →
     (passed (ran r)).given ≡ Some (ticket_of ledger to (range_of first last))
 gave {number = number} {to} {first} {last} {x} {input = input} {ledger = ledger} keeps r = by_ends r.does.0
   where
-    by_ends : {new : OnLedger} (ends : EndsGive number to (range_of first last) (ledger_at x.joint (reading input)) 0 new) →
+    by_ends : {new : OnLedger}
+        (ends : EndsGive number to (range_of first last) (ledger_at x.joint (streams_of_input input)) 0 new) →
         ticket_given ends ≡ Some (ticket_of ledger to (range_of first last))
     by_ends (give_not_opened fault opens same told) = absurd (refused_one told.0)
     by_ends (give_opened before after (Err fault) opens gives same told only) = absurd (refused_one told)
@@ -243,23 +237,23 @@ gave {number = number} {to} {first} {last} {x} {input = input} {ledger = ledger}
 -- the ledger after a ticket was taken
 abbrev pub with_ticket : LedgerView → TicketView → LedgerView
 with_ticket ledger ticket = record ledger {
-  free = union_of ledger.free ticket.range;
+  free = union_with_range ledger.free ticket.range;
   givers = givers_with ledger.givers (giver_of ticket);
 }
 
 -- the ticket was taken in, and the printer goes on so
 abbrev pub Took : Option TicketView → TicketView → Saved → LedgerView → Type 0
-Took taken ticket saved ledger = (taken ≡ Some ticket) × Keeps saved (Running (with_ticket ledger ticket))
+Took taken ticket saved ledger = (taken ≡ Some ticket) × KeepsLedger saved (Running (with_ticket ledger ticket))
 
 pub took : {A : Type 0} {f t : Bor (List ℕ)} {number : ℕ} {x y : DeskFiles} {input o : List ℕ} {ledger : LedgerView}
     (ticket : TicketView) → IsTextOf t.now ticket → take_verdict ledger ticket ≡ Ok (with_ticket ledger ticket) →
-    Keeps x.joint (Running ledger) → (r : IsDone A (Take f number t) x input 0 y o) →
+    KeepsLedger x.joint (Running ledger) → (r : IsDone A (Take f number t) x input 0 y o) →
     Took (passed (ran r)).taken ticket y.joint ledger
 took {t = t} {number} {x} {y} {input} {ledger = ledger} ticket is verdict keeps r =
     let well = by_ends r.does.0 in
-    (well.0, subst (λ (d : DeskFiles). Keeps d.joint (Running (with_ticket ledger ticket))) r.files_are well.1)
+    (well.0, subst (λ (d : DeskFiles). KeepsLedger d.joint (Running (with_ticket ledger ticket))) r.files_are well.1)
   where
-    by_ends : {new : OnLedger} (ends : EndsTake number t.now (ledger_at x.joint (reading input)) 0 new) →
+    by_ends : {new : OnLedger} (ends : EndsTake number t.now (ledger_at x.joint (streams_of_input input)) 0 new) →
         Took (ticket_taken ends) ticket new.saved ledger
     by_ends (no_ticket has same told) = absurd (refused_one told.0)
     by_ends (take_not_opened fault has opens same told) = absurd (refused_one told.0)
@@ -268,11 +262,11 @@ took {t = t} {number} {x} {y} {input} {ledger = ledger} ticket is verdict keeps 
     by_ends (take_opened other before after (Ok done) has is_other opens takes same told only) =
         let one : other ≡ ticket = text_once t.now other ticket is_other is in (
           ap Some one,
-          subst (λ (s : Saved). Keeps s (Running (with_ticket ledger ticket))) (sym same)
+          subst (λ (s : Saved). KeepsLedger s (Running (with_ticket ledger ticket))) (sym same)
               (answered_next take_fault.Failed take_fault.Memory take_fault.Save (take_verdict ledger ticket)
               (running x.joint ledger) after done refl keeps.honest
-              (subst (λ (u : TicketView). Takes (running x.joint ledger) u (Ok done) after) one
-              (subst (λ (v : PrinterView). Takes v other (Ok done) after)
+              (subst (λ (u : TicketView). TakesTicket (running x.joint ledger) u (Ok done) after) one
+              (subst (λ (v : PrinterView). TakesTicket v other (Ok done) after)
               (open_as x.joint (Running ledger) number before keeps opens).1 takes)) (with_ticket ledger ticket) verdict),
         )
 

@@ -1,13 +1,12 @@
--- The commands of the program, one after another: what each found and left, and two laws. No identification is printed
+-- The commands of the program, one after another: what each found and left, and two laws. No ID is printed
 -- twice, and what is delivered was printed. Neither law says that any command succeeds.
 --
 -- The stores and sets are honest: each holds what it was last given to hold, or, after a save that failed, that or what it
 -- held before. Files on a disk that keeps its promise are such stores; that a system's disk keeps it is trusted. Each
 -- command has what is at its path to itself until it ends: of two at one path at once nothing is said.
 use Rattle.std.specs.Prelude.{◌≡◌, ◌≢◌, ◌+◌, ◌++◌, ◌∷◌, ◌⊎◌, ℕ, length, AllPairs, Bool, IfSome, IsSomeAnd, IsTrue, List, [], None, Option, Some, slice_get, slice_set}
-use Rattle.std.specs.List.{AllByRecursion}
+use Rattle.std.specs.{List.AllByRecursion, Io.KnownBytes.Appends}
 use Rattle.std.specs.FinMap as finite
-use Rattle.std.specs.Io.KnownBytes.{Appends}
 use Rattle.dm_finder_frame.specs.Frame.{GridView}
 use Rattle.dm_symbol.specs.Correction.{IsNear}
 use Rattle.dm_size.specs.declared.size.Size.{Size}
@@ -28,9 +27,9 @@ use Rattle.relay_program_runs.specs.Passed.{Made, Passed, made_by, passed_by, te
 -- A command exited with this status. Or the machine cut it short: then it left what it may leave if from some point on each
 -- call and each write fails, so what its clause allows, and nobody saw the status of that. If a save failed and the machine
 -- stopped before the file was read again, the command counts as cut short, since the stop may have undone the save.
-pub data Ends (A : Type 0) (command : Command) (images : List (Option (List ℕ))) (before after : OnDesk) : Type 0 where
-  exited : (status : ℕ) → Does A command images before status after → Ends A command images before after
-  cut_short : (status : ℕ) → Does A command images before status after → Ends A command images before after
+pub data Halts (A : Type 0) (command : Command) (images : List (Option (List ℕ))) (before after : OnDesk) : Type 0 where
+  exited : (status : ℕ) → Does A command images before status after → Halts A command images before after
+  cut_short : (status : ℕ) → Does A command images before status after → Halts A command images before after
 
 -- A command with its options; the bytes of each file of images that it was given, where they are known; what it found and
 -- what it left: the store at its path, the set beside it, and its streams; and how it ended, with the clause of `do_command`
@@ -40,16 +39,16 @@ pub record Ran (A : Type 0) : Type 0 where
   pub images : List (Option (List ℕ))
   pub before : OnDesk
   pub after : OnDesk
-  pub ends : Ends A command images before after
+  pub ends : Halts A command images before after
 
 abbrev pub status_of : {A : Type 0} {command : Command} {images : List (Option (List ℕ))} {before after : OnDesk} →
-    Ends A command images before after → Option ℕ
+    Halts A command images before after → Option ℕ
 status_of (exited status does) = Some status
 status_of (cut_short status does) = None
 
 -- what it let out and took in
 abbrev pub passed_at : {A : Type 0} {command : Command} {images : List (Option (List ℕ))} {before after : OnDesk} →
-    Ends A command images before after → Passed
+    Halts A command images before after → Passed
 passed_at {A} {command} {images} {before} {after} (exited status does) =
     passed_by A command images before status after does
 passed_at {A} {command} {images} {before} {after} (cut_short status does) =
@@ -82,10 +81,10 @@ at_its_path ran files = record { path = path_of ran.command; files = files }
 
 -- The commands ran one after another, the oldest first. Each found at its path what is there, and what it left is there
 -- then; nothing else changes it.
-abbrev pub Runs : {A : Type 0} → List At → List (Ran A) → Type 0
-Runs site [] = Unit {0}
-Runs site (ran ∷ later) = (place : ℕ) × (slice_get site place ≡ Some (at_its_path ran ran.before.files))
-    × Runs (slice_set site place (at_its_path ran ran.after.files)) later
+abbrev pub RunInTurn : {A : Type 0} → List At → List (Ran A) → Type 0
+RunInTurn site [] = Unit {0}
+RunInTurn site (ran ∷ later) = (place : ℕ) × (slice_get site place ≡ Some (at_its_path ran ran.before.files))
+    × RunInTurn (slice_set site place (at_its_path ran ran.after.files)) later
 
 -- so it is of each of them, by those that ran before it
 abbrev pub Each : {A : Type 0} → (List (Ran A) → Ran A → Type 0) → List (Ran A) → List (Ran A) → Type 0
@@ -102,7 +101,7 @@ abbrev pub all_made : {A : Type 0} → List (Ran A) → List Made
 all_made [] = []
 all_made (ran ∷ later) = made_by ran.command ran.before ran.after ++ all_made later
 
--- two ledgers are of two numbers, and no identification is in both ranges
+-- two ledgers are of two numbers, and no ID is in both ranges
 abbrev pub AreApart : Made → Made → Type 0
 AreApart one other = (one.number ≢ other.number) × IsApart one.range other.range
 
@@ -124,7 +123,7 @@ pub record TakesPrinted {A : Type 0} (IsAmong : List ℕ → Type 0) (earlier : 
 
 -- ---- conclusions
 
--- no job before had the identification of its job
+-- no job before had the ID of its job
 abbrev pub IsFirstOfItsId : {A : Type 0} → List (Ran A) → Ran A → Type 0
 IsFirstOfItsId earlier ran = IfSome (passed ran).printed (λ job.
     ¬ SomeRan (λ other. IsSomeAnd (passed other).printed (λ its. its.id ≡ job.id)) earlier)
@@ -136,10 +135,10 @@ pub record IsOnePart (parts : List (List ℕ)) (page : PageView) : Type 0 where
   pub n_is : page.n ≡ length parts
   pub part : slice_get parts place ≡ Some page.bytes
 
--- It read the document, and its job has the identification. Each label of the job carries a part of the document under
--- it, and a first part of their images was written. Where the bytes of the input are not known the labels alone say which
--- document it was; where those of the output are not, nothing says what was written.
-pub record Prints {A : Type 0} (id : ℕ) (document : List ℕ) (ran : Ran A) : Type 0 where
+-- It read the document, and its job has the ID. Each label of the job carries a part of the document under
+-- it, and a first part of their images was written. Where the bytes of the input are not known the labels alone say
+-- which document it was; where those of the output are not, nothing says what was written.
+pub record PrintsUnder {A : Type 0} (id : ℕ) (document : List ℕ) (ran : Ran A) : Type 0 where
   pub rest : InputView
   pub read : ReadsDocument ran.before.streams.input rest document
   pub job : JobView
@@ -153,12 +152,12 @@ pub record Prints {A : Type 0} (id : ℕ) (document : List ℕ) (ran : Ran A) : 
       (page : PageView) × Carries page grid × (page.id ≡ id) × IsOnePart parts page
   pub written : AppendsPart ran.before.streams.output.contents ran.after.streams.output.contents (images_of job.labels)
 
--- It wrote nothing, and its status is 1 if it exited; or it wrote a first part of a document that was printed before under the
--- identification of the text, and all of it if its status is 0.
+-- It wrote nothing, and its status is 1 if it exited; or it wrote a first part of a document that was printed before
+-- under the ID of the text, and all of it if its status is 0.
 pub data WritesPrinted {A : Type 0} (earlier : List (Ran A)) (text : List ℕ) (ran : Ran A) : Type 0 where
   writes_nothing : ran.after.streams.output ≡ ran.before.streams.output
       → IfSome (status_of ran.ends) (λ status. status ≡ 1) → WritesPrinted earlier text ran
-  writes : (id : ℕ) (document : List ℕ) → IsTextOfId text id → SomeRan (Prints id document) earlier
+  writes : (id : ℕ) (document : List ℕ) → IsTextOfId text id → SomeRan (PrintsUnder id document) earlier
       → AppendsPart ran.before.streams.output.contents ran.after.streams.output.contents document
       → IfSome (status_of ran.ends) (λ status. status ≡ 0 → Appends ran.before.streams.output.contents
       ran.after.streams.output.contents document) → WritesPrinted earlier text ran
@@ -172,20 +171,20 @@ DeliversPrinted IsAmong earlier ran =
 
 -- What both laws ask of a list of commands at a site: nothing is there at first, each command finds what the last one at
 -- its path left, ledgers are made apart, and tickets are taken as they were given.
-pub record Asks {A : Type 0} (site : List At) (rans : List (Ran A)) : Type 0 where
+pub record MeetsPremises {A : Type 0} (site : List At) (rans : List (Ran A)) : Type 0 where
   pub is_new : IsNew site
-  pub runs : Runs site rans
+  pub runs : RunInTurn site rans
   pub apart : AllPairs AreApart (all_made rans)
   pub tickets : Each TakesGiven [] rans
 
--- No identification is printed twice. Of scans nothing is asked. A `copy` draws a label again, and is no print.
+-- No ID is printed twice. Of scans nothing is asked. A `copy` draws a label again, and is no print.
 abbrev pub NoIdIsPrintedTwice : Type 0 → Type 0
-NoIdIsPrintedTwice A = (site : List At) (rans : List (Ran A)) → Asks site rans → Each IsFirstOfItsId [] rans
+NoIdIsPrintedTwice A = (site : List At) (rans : List (Ran A)) → MeetsPremises site rans → Each IsFirstOfItsId [] rans
 
 -- What is delivered at some paths was printed, if besides what they took in was printed. So a misread elsewhere is no
 -- matter, unless a copy or an export comes from there.
 abbrev pub WhatIsDeliveredWasPrinted : Type 0 → Type 0
-WhatIsDeliveredWasPrinted A = (among : List ℕ → Bool) (site : List At) (rans : List (Ran A)) → Asks site rans →
+WhatIsDeliveredWasPrinted A = (among : List ℕ → Bool) (site : List At) (rans : List (Ran A)) → MeetsPremises site rans →
     Each (TakesPrinted (λ path. IsTrue (among path))) [] rans → Each (DeliversPrinted (λ path. IsTrue (among path))) [] rans
 
 -- `WritesPrinted` in other words: such a `deliver` wrote nothing, or a first part of a document that was printed, and all
@@ -194,6 +193,6 @@ abbrev pub WhatIsWrittenWasPrinted : Type 0 → Type 0
 WhatIsWrittenWasPrinted A = (earlier : List (Ran A)) (text : List ℕ) (ran : Ran A) → WritesPrinted earlier text ran →
     let old : OutputView = ran.before.streams.output in let new : OutputView = ran.after.streams.output in
     ((new ≡ old) × IfSome (status_of ran.ends) (λ status. status ≡ 1))
-    ⊎ ((id : ℕ) × (document : List ℕ) × IsTextOfId text id × SomeRan (Prints id document) earlier
+    ⊎ ((id : ℕ) × (document : List ℕ) × IsTextOfId text id × SomeRan (PrintsUnder id document) earlier
     × AppendsPart old.contents new.contents document
     × IfSome (status_of ran.ends) (λ status. status ≡ 0 → Appends old.contents new.contents document))

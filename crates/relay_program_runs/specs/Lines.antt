@@ -74,7 +74,7 @@ module _ {A : Type 0} where
 
 -- ---- the laws
 
--- No line prints an identification that was printed before.
+-- No line prints an ID that was printed before.
 abbrev pub NoLinePrintsAnIdAgain : Type 0 → Type 0
 NoLinePrintsAnIdAgain A = (lines : List (LineRan A)) → LinesAsk lines → Each IsFirstOfItsId [] (all_commands lines)
 

@@ -1,8 +1,7 @@
 -- Of each command: what it let out and took in, and which ledger it made.
 use Rattle.std.specs.Prelude.{◌∷◌, ℕ, List, [], None, Option, Some}
 use Rattle.dm_finder_frame.specs.Frame.{GridView}
-use Rattle.dm_print_ledger.specs.declared.range.Range.{Range}
-use Rattle.dm_print_ledger.specs.Ledger.{JobView, TicketView}
+use Rattle.dm_print_ledger.specs.{declared.range.Range.Range, Ledger.JobView, Ledger.TicketView}
 use Rattle.relay_command.specs.declared.command.Command.{Command}
 use Rattle.relay_command.specs.declared.command.Command.TheVariants.{Copy, Deliver, Export, Give, GiveLast, Import, Ledger, Print, Scan, Take}
 use Rattle.relay_desk_commands.specs.Desks.{OnDesk}
@@ -10,16 +9,16 @@ use Rattle.relay_runs.specs.Runs.{job_ended, ticket_given, ticket_given_last, ti
 use Rattle.relay_desk_runs.specs.Answered.{file_exported, file_imported, grids_scanned, label_copied}
 use Rattle.relay.specs.Program.{Does}
 
--- the text of the identification that `deliver` is to give
+-- the text of the ID that `deliver` is to give
 abbrev pub text_of : Command → Option (List ℕ)
 text_of (Deliver file id) = Some id.now
 text_of other = None
 
 -- ---- what was let out and taken in
 
--- the job of a print, by which its identification is used whatever is written of it; the ticket of a give; the label that
--- `copy` wrote; the file of an export. And what was taken in, or may have been, since its save failed: a ticket, the grids
--- of a scan, the file of an import.
+-- the job of a print, by which its ID is used whatever is written of it; the ticket of a give; the label that
+-- `copy` wrote; the file of an export. And what was taken in, or may have been, since its save failed: a ticket, the
+-- grids of a scan, the file of an import.
 pub record Passed : Type 0 where
   pub printed : Option JobView
   pub given : Option TicketView

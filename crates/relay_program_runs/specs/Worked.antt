@@ -6,12 +6,10 @@ use Rattle.dm_finder_frame.specs.Frame.{GridView}
 use Rattle.dm_symbol.specs.Correction.{IsNear}
 use Rattle.dm_store.specs.declared.mem_store.NextSave.TheVariants.{Fine}
 use Rattle.dm_store.specs.Saved.{with_open_plans, Saved, SavedSet, in_memory}
-use Rattle.dm_print_ledger.specs.Ledger.{JobView, TicketView}
-use Rattle.dm_print_ledger.specs.declared.fault.TakeFault.{TakeFault}
+use Rattle.dm_print_ledger.specs.{Ledger.JobView, Ledger.TicketView, declared.fault.TakeFault.TakeFault}
 use Rattle.dm_print_ledger.specs.declared.fault.TakeFault.TheVariants as takes
-use Rattle.dm_assembly_desk.specs.declared.fault.ScanFault.{ScanFault}
+use Rattle.dm_assembly_desk.specs.declared.fault.{ScanFault.ScanFault, ImportFault.ImportFault}
 use Rattle.dm_assembly_desk.specs.declared.fault.ScanFault.TheVariants as scans
-use Rattle.dm_assembly_desk.specs.declared.fault.ImportFault.{ImportFault}
 use Rattle.dm_assembly_desk.specs.declared.fault.ImportFault.TheVariants as imports
 use Rattle.relay_runs.specs.Runs.{if_taken}
 use Rattle.relay_desk_runs.specs.Answered.{if_imported, if_saved}
@@ -22,11 +20,11 @@ use Rattle.dm_event_history.specs.Headline.{IsApart}
 use Rattle.relay_desk_commands.specs.Desks.{DeskFiles, IsTextOfId, OnDesk}
 use Rattle.relay.specs.Program.{Does, path_of}
 use Rattle.relay_program_runs.specs.Passed.{Made, made_where, text_of}
-use Rattle.relay_program_runs.specs.Law.{AreApart, Asks, At, DeliversPrinted, Each, IsBlank, IsFirstOfItsId, IsNew, LetsOut, NoIdIsPrintedTwice, Prints, Ran, Runs, SomeRan, TakesGiven, TakesPrinted, WhatIsDeliveredWasPrinted, WritesPrinted, all_made, at_its_path, passed, status_of}
+use Rattle.relay_program_runs.specs.Law.{AreApart, MeetsPremises, At, DeliversPrinted, Each, IsBlank, IsFirstOfItsId, IsNew, LetsOut, NoIdIsPrintedTwice, PrintsUnder, Ran, RunInTurn, SomeRan, TakesGiven, TakesPrinted, WhatIsDeliveredWasPrinted, WritesPrinted, all_made, at_its_path, passed, status_of}
 
 -- an input of these bytes, and outputs that nothing was written to
-abbrev pub reading : List ℕ → StreamsView
-reading input = record {
+abbrev pub streams_of_input : List ℕ → StreamsView
+streams_of_input input = record {
   input = record { remaining = Some input; has_failed = false };
   output = record { contents = Some []; has_failed = false };
   errors = record { contents = Some []; has_failed = false };
@@ -34,7 +32,7 @@ reading input = record {
 
 -- over these files, with such streams
 abbrev pub given : DeskFiles → List ℕ → OnDesk
-given files input = record { files = files; streams = reading input }
+given files input = record { files = files; streams = streams_of_input input }
 
 -- The command was done so, over this input and no file of images, left these files, and wrote these bytes.
 pub record IsDone (A : Type 0) (command : Command) (files : DeskFiles) (input : List ℕ) (status : ℕ)
@@ -44,12 +42,12 @@ pub record IsDone (A : Type 0) (command : Command) (files : DeskFiles) (input : 
   pub files_are : after.files ≡ files_after
   pub output_is : after.streams.output.contents ≡ Some output
 
-abbrev pub files_of : Saved → SavedSet → DeskFiles
-files_of store set = record { joint = store; set = set }
+abbrev pub two_files : Saved → SavedSet → DeskFiles
+two_files store set = record { joint = store; set = set }
 
 -- those in memory, behind fuses, that hold nothing
 abbrev pub no_files : DeskFiles
-no_files = files_of (with_open_plans (in_memory None false Fine)) (with_open_plans (in_memory finite.empty false Fine))
+no_files = two_files (with_open_plans (in_memory None false Fine)) (with_open_plans (in_memory finite.empty false Fine))
 
 -- ---- the worked list
 
@@ -71,7 +69,7 @@ pub record IsWorked (A : Type 0) (written : List ℕ) : Type 0 where
   pub site : List At
   pub rans : List (Ran A)
   pub count : length rans ≡ 14
-  pub asks : Asks site rans
+  pub asks : MeetsPremises site rans
   pub printed : Each (TakesPrinted (λ path. IsTrue true)) [] rans
   pub takes : SomeRan (λ ran. IsSome (passed ran).taken) rans
   pub cut : SomeRan (λ ran. status_of ran.ends ≡ None) rans
@@ -104,9 +102,9 @@ pub record RefusalsCountNot : Type 0 where
 
 -- ---- what the words of the laws say at least
 
--- A command is at the path that it names. A label of a job was let out, and an identification is not printed again, and a
--- document was read, however the print ended; and what is delivered was printed, however `deliver` ended and whatever is
--- known of its output. Each grid near one that was let out may be taken in.
+-- A command is at the path that it names. A label of a job was let out, and an ID is not printed again, and a
+-- document was read, however the print ended; and what is delivered was printed, however `deliver` ended and whatever
+-- is known of its output. Each grid near one that was let out may be taken in.
 pub record SayAtLeast (A : Type 0) : Type 0 where
   pub place : (ran : Ran A) (files : DeskFiles) → (at_its_path ran files).path ≡ path_of ran.command
   pub label : (among : List ℕ → Bool) (ran : Ran A) (job : JobView) (i : ℕ) (grid : GridView) →
@@ -116,11 +114,11 @@ pub record SayAtLeast (A : Type 0) : Type 0 where
       (passed ran).imported ≡ None → TakesPrinted (λ path. IsTrue (among path)) earlier ran
   pub first : (earlier : List (Ran A)) (ran : Ran A) (job : JobView) → IsFirstOfItsId earlier ran →
       (passed ran).printed ≡ Some job → ¬ SomeRan (λ other. IsSomeAnd (passed other).printed (λ its. its.id ≡ job.id)) earlier
-  pub read : (id : ℕ) (document : List ℕ) (ran : Ran A) → Prints id document ran →
+  pub read : (id : ℕ) (document : List ℕ) (ran : Ran A) → PrintsUnder id document ran →
       (rest : InputView) × ReadsDocument ran.before.streams.input rest document
   pub written : (earlier : List (Ran A)) (text : List ℕ) (ran : Ran A) → WritesPrinted earlier text ran →
       (ran.after.streams.output ≡ ran.before.streams.output)
-      ⊎ ((id : ℕ) × (document : List ℕ) × IsTextOfId text id × SomeRan (Prints id document) earlier
+      ⊎ ((id : ℕ) × (document : List ℕ) × IsTextOfId text id × SomeRan (PrintsUnder id document) earlier
       × AppendsPart ran.before.streams.output.contents ran.after.streams.output.contents document)
 
 -- ---- each premise is needed
@@ -138,15 +136,15 @@ pub record Breaks (A : Type 0) (Run : List At → List (Ran A) → Type 0) (Apar
 
 -- two ledgers have one range
 abbrev pub NeedsRanges : Type 0 → Type 0
-NeedsRanges A = Breaks A Runs (λ one other. one.number ≢ other.number) TakesGiven IsFirstOfItsId
+NeedsRanges A = Breaks A RunInTurn (λ one other. one.number ≢ other.number) TakesGiven IsFirstOfItsId
 
 -- two ledgers have one number
 abbrev pub NeedsNumbers : Type 0 → Type 0
-NeedsNumbers A = Breaks A Runs (λ one other. IsApart one.range other.range) TakesGiven IsFirstOfItsId
+NeedsNumbers A = Breaks A RunInTurn (λ one other. IsApart one.range other.range) TakesGiven IsFirstOfItsId
 
 -- a ticket is taken that nobody gave
 abbrev pub NeedsTickets : Type 0 → Type 0
-NeedsTickets A = Breaks A Runs AreApart (λ earlier ran. Unit {0}) IsFirstOfItsId
+NeedsTickets A = Breaks A RunInTurn AreApart (λ earlier ran. Unit {0}) IsFirstOfItsId
 
 -- What it found at its path is nothing, or was there once.
 abbrev pub FindsOld : {A : Type 0} → List (Ran A) → Ran A → Type 0
@@ -159,10 +157,10 @@ NeedsFiles A = Breaks A (λ site. Each FindsOld []) AreApart TakesGiven IsFirstO
 
 -- a label is taken in that no print or copy of the list let out, and no file
 abbrev pub NeedsLabels : Type 0 → Type 0
-NeedsLabels A = Breaks A Runs AreApart (λ earlier ran. TakesGiven earlier ran × ((passed ran).imported ≡ None))
+NeedsLabels A = Breaks A RunInTurn AreApart (λ earlier ran. TakesGiven earlier ran × ((passed ran).imported ≡ None))
     (DeliversPrinted (λ path. IsTrue true))
 
 -- a file is taken in that no export of the list gave, and no label
 abbrev pub NeedsExports : Type 0 → Type 0
-NeedsExports A = Breaks A Runs AreApart (λ earlier ran. TakesGiven earlier ran × ((passed ran).scanned ≡ []))
+NeedsExports A = Breaks A RunInTurn AreApart (λ earlier ran. TakesGiven earlier ran × ((passed ran).scanned ≡ []))
     (DeliversPrinted (λ path. IsTrue true))

@@ -6,7 +6,7 @@ ghost use Rattle.relay_program_runs.specs.Worked.{RefusalsCountNot, SayAtLeast};
 
 use std::alloc::Allocator;
 
-/// No identification is printed twice.
+/// No ID is printed twice.
 pub fn no_id_is_printed_twice<A: Allocator>()
     ensures { NoIdIsPrintedTwice A }
 {}
@@ -16,7 +16,7 @@ pub fn what_is_delivered_was_printed<A: Allocator>()
     ensures { WhatIsDeliveredWasPrinted A }
 {}
 
-/// No line of the program prints an identification that was printed before.
+/// No line of the program prints an ID that was printed before.
 pub fn no_line_prints_an_id_again<A: Allocator>()
     ensures { NoLinePrintsAnIdAgain A }
 {}

@@ -10,7 +10,7 @@ use dm_encodation::Scheme;
 use relay::{Command, Labels};
 use std::alloc::Allocator;
 
-/// Two ledgers have one range: the first identification is printed at both.
+/// Two ledgers have one range: the first ID is printed at both.
 #[rattlefmt::skip] // a command a line
 pub fn needs_ranges<A: Allocator + Copy>(alloc: A) -> bool
     ensures { IsTrue result → NeedsRanges A }
@@ -24,7 +24,7 @@ pub fn needs_ranges<A: Allocator + Copy>(alloc: A) -> bool
     all_well(&[one.status, two.status, three.status, four.status])
 }
 
-/// Two ledgers have one number: one ticket is taken at both, and its first identification is printed at both.
+/// Two ledgers have one number: one ticket is taken at both, and its first ID is printed at both.
 #[rattlefmt::skip] // a command a line
 pub fn needs_numbers<A: Allocator + Copy>(alloc: A) -> bool
     ensures { IsTrue result → NeedsNumbers A }
@@ -44,7 +44,7 @@ pub fn needs_numbers<A: Allocator + Copy>(alloc: A) -> bool
     all_well(&[one.status, two.status, three.status, four.status, five.status, six.status, seven.status, eight.status])
 }
 
-/// A ticket is taken that nobody gave: its first identification is printed where it is taken, and at its giver.
+/// A ticket is taken that nobody gave: its first ID is printed where it is taken, and at its giver.
 #[rattlefmt::skip] // a command a line
 pub fn needs_tickets<A: Allocator + Copy>(alloc: A) -> bool
     ensures { IsTrue result → NeedsTickets A }
@@ -61,7 +61,7 @@ pub fn needs_tickets<A: Allocator + Copy>(alloc: A) -> bool
 }
 
 /// A ledger is put back after a print, from a second one that was made likewise: the next print has the same
-/// identification.
+/// ID.
 #[rattlefmt::skip] // a command a line
 pub fn needs_files<A: Allocator + Copy>(alloc: A) -> bool
     ensures { IsTrue result → NeedsFiles A }

@@ -2,7 +2,7 @@
 
 ghost use Rattle.std.specs.Prelude.{◌≡◌, All, IfSome, IsTrue, codes};
 ghost use Rattle.dm_store.specs.Saved.{with_open_plans};
-ghost use Rattle.relay_program_runs.specs.Worked.{EndWell, IsDone, IsWorked, files_of, no_files};
+ghost use Rattle.relay_program_runs.specs.Worked.{EndWell, IsDone, IsWorked, two_files, no_files};
 
 use dm_encodation::Scheme;
 use dm_store::{Fuse, Kept, MemSet, MemStore, Store, StoreSet};
@@ -51,8 +51,8 @@ fn done_within<A: Allocator + Copy, S: Store + Drop, T: StoreSet + Drop>(
     room: usize,
     command: Command<'_>,
 ) -> After<S, T, A>
-    ensures { IsDone A command.entry (files_of (S.state at.0) (T.state at.1)) input.now result.status
-        (files_of (S.state result.store) (T.state result.set)) result.output.items }
+    ensures { IsDone A command.entry (two_files (S.state at.0) (T.state at.1)) input.now result.status
+        (two_files (S.state result.store) (T.state result.set)) result.output.items }
 {
     let (store, set) = at;
     let output = Narrow {
@@ -77,8 +77,8 @@ pub(crate) fn done<A: Allocator + Copy, S: Store + Drop, T: StoreSet + Drop>(
     input: &[u8],
     command: Command<'_>,
 ) -> After<S, T, A>
-    ensures { IsDone A command.entry (files_of (S.state at.0) (T.state at.1)) input.now result.status
-        (files_of (S.state result.store) (T.state result.set)) result.output.items }
+    ensures { IsDone A command.entry (two_files (S.state at.0) (T.state at.1)) input.now result.status
+        (two_files (S.state result.store) (T.state result.set)) result.output.items }
 {
     done_within(alloc, at, input, usize::MAX, command)
 }
@@ -95,7 +95,7 @@ const MANY: u32 = 100;
 
 // Nothing is at a path.
 pub(crate) fn nothing<A: Allocator + Copy>(alloc: A) -> (Fuse<MemStore<A>>, Fuse<MemSet<A>>)
-    ensures { files_of (with_open_plans result.0.inner) (with_open_plans result.1.inner) ≡ no_files }
+    ensures { two_files (with_open_plans result.0.inner) (with_open_plans result.1.inner) ≡ no_files }
 {
     (
         Fuse::new(MemStore::new(alloc), MANY, Kept::New),

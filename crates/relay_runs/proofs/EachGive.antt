@@ -1,34 +1,30 @@
 -- Each give over an honest store is a run.
 use Rattle.std.proofs.Common.{◌≡◌, inl, ℕ, [], ◌∷◌, Some, None, Result, length, slice_get, refl, sym, ap, subst}
 use Rattle.dm_store.specs.Saved.{Saved}
-use Rattle.dm_print_ledger.specs.declared.fault.GiveFault.{GiveFault}
+use Rattle.dm_print_ledger.specs.declared.{fault.GiveFault.GiveFault, range.Range.Range}
 use Rattle.dm_print_ledger.specs.declared.fault.GiveFault.TheVariants as give_fault
-use Rattle.dm_print_ledger.specs.declared.range.Range.{Range}
 use Rattle.dm_print_ledger.specs.Ledger.{LedgerView, PrinterView, TicketView, running}
-use Rattle.dm_print_ledger.specs.Verdicts.{Gives, give_verdict}
-use Rattle.dm_event_history.specs.declared.event.Event.{Event}
-use Rattle.dm_event_history.specs.declared.event.Event.TheVariants.{Give}
+use Rattle.dm_print_ledger.specs.Verdicts.{GivesTicket, give_verdict}
+use Rattle.dm_event_history.specs.declared.event.Event.{Event, TheVariants.Give}
 use Rattle.dm_event_history.specs.Relay.{Actor, Relay, stored_of, with_printer}
 use Rattle.dm_event_history.specs.Steps.{Calls, GiveComes, MayLackFirst, give_faults}
 use Rattle.dm_event_world.specs.inner.Calls.{give_reply}
 use Rattle.relay_printer_commands.specs.Printers.{EndsGive, EndsGiveLast, OnLedger}
 use Rattle.relay_printer_commands.specs.Printers.EndsGive.{opened as was_opened, not_opened}
 use Rattle.relay_printer_commands.specs.Printers.EndsGiveLast.{gave, too_few, unopened}
-use Rattle.relay_runs.specs.Runs.{answered, ticket_given, ticket_given_last, EachGiveIsARun, Follows, Keeps, grids_of}
+use Rattle.relay_runs.specs.Runs.{answered, ticket_given, ticket_given_last, EachGiveIsARun, FollowsRun, KeepsLedger, grids_of}
 use Rattle.relay_runs.proofs.Places.{calling, restart, restarted, run_of, still_within}
-use Rattle.relay_runs.proofs.Files.{HoldsFile, holds_file, opened}
-use Rattle.relay_runs.proofs.Calling.{keeps_shown, shows_opened}
-use Rattle.relay_runs.proofs.Giving.{GivenSo, given_so}
-use Rattle.relay_runs.proofs.Uncalled.{none_there, uncalled}
+use Rattle.relay_runs.proofs.{Files.HoldsFile, Files.holds_file, Files.opened, Giving.GivenSo, Giving.given_so}
+use Rattle.relay_runs.proofs.{Calling.keeps_shown, Calling.shows_opened, Uncalled.none_there, Uncalled.uncalled}
 
 module _ (A : Type 0) (relay : Relay) (place : ℕ) (actor : Actor LedgerView) (to : ℕ) (range : Range)
     (number : ℕ) (old new : OnLedger) (status : ℕ) (was : slice_get relay.printers place ≡ Some actor)
-    (keeps : Keeps old.saved actor) where
+    (keeps : KeepsLedger old.saved actor) where
   -- the printer was called
   called_so : (after : PrinterView) (answer : Result TicketView GiveFault) → new.saved ≡ after.saved →
       HoldsFile after.saved →
       GivenSo A (length (restarted relay place (stored_of actor)).tickets) to range (stored_of actor) answer after →
-      Follows A relay place old.streams.input new.saved None (answered answer)
+      FollowsRun A relay place old.streams.input new.saved None (answered answer)
   called_so after answer same file g =
       let event : Event A = Give place to range g.stop in
       record {
@@ -41,7 +37,7 @@ module _ (A : Type 0) (relay : Relay) (place : ℕ) (actor : Actor LedgerView) (
             (MayLackFirst (Calls give_faults g.stop
             (GiveComes (length (restarted relay place (stored_of actor)).tickets) to range)))
             (give_reply (length (restarted relay place (stored_of actor)).tickets) answer) g.end g.acts g.reply_is
-            (subst (λ (s : Saved). Keeps s g.end.actor) (sym same) (keeps_shown A after g.end.actor file g.shows))
+            (subst (λ (s : Saved). KeepsLedger s g.end.actor) (sym same) (keeps_shown A after g.end.actor file g.shows))
             (λ next goes. inl (still_within A relay place actor was, goes));
         labels = ap grids_of g.labels;
         printed = λ i label there. absurd (none_there g.end.goods.labels i label g.labels there);
@@ -50,12 +46,12 @@ module _ (A : Type 0) (relay : Relay) (place : ℕ) (actor : Actor LedgerView) (
       }
 
   give_by : (ends : EndsGive number to range old status new) →
-      Follows A relay place old.streams.input new.saved None (ticket_given ends)
+      FollowsRun A relay place old.streams.input new.saved None (ticket_given ends)
   give_by (not_opened fault opens same told) =
       uncalled A relay place old.streams.input old.saved new.saved actor None None was keeps same refl refl
   give_by (was_opened before after answer opens gives same told only) =
       let is_open = opened old.saved actor number before keeps opens in
-      let does = subst (λ (v : PrinterView). Gives v to range answer after) is_open.1 gives in
+      let does = subst (λ (v : PrinterView). GivesTicket v to range answer after) is_open.1 gives in
       let file : HoldsFile old.saved =
       record { ledger = stored_of actor; sound = keeps.sound; content = keeps.content } in
       called_so after answer same
@@ -72,9 +68,9 @@ give_follows A relay place actor to range number old new status was keeps ends =
 
 -- so is each give of the last
 pub give_last_follows : (A : Type 0) (relay : Relay) (place : ℕ) (actor : Actor LedgerView) (to count number : ℕ)
-    (old new : OnLedger) (status : ℕ) → slice_get relay.printers place ≡ Some actor → Keeps old.saved actor →
+    (old new : OnLedger) (status : ℕ) → slice_get relay.printers place ≡ Some actor → KeepsLedger old.saved actor →
     (ends : EndsGiveLast number to count old status new) →
-    Follows A relay place old.streams.input new.saved None (ticket_given_last ends)
+    FollowsRun A relay place old.streams.input new.saved None (ticket_given_last ends)
 give_last_follows A relay place actor to count number old new status was keeps
     (gave range before after answer last opens gives same told only) =
     give_follows A relay place actor to range number old new status was keeps

@@ -4,12 +4,10 @@ use Rattle.std.specs.Prelude.{is_some}
 use Rattle.dm_size.specs.declared.size.Size.{Size}
 use Rattle.dm_encodation.specs.declared.scheme.Scheme.{Scheme}
 use Rattle.dm_store.specs.Saved.{Saved}
-use Rattle.dm_print_ledger.specs.declared.fault.PrintFault.{PrintFault}
+use Rattle.dm_print_ledger.specs.{declared.fault.PrintFault.PrintFault, Verdicts.Prints, Verdicts.print_verdict}
 use Rattle.dm_print_ledger.specs.declared.fault.PrintFault.TheVariants as print_fault
 use Rattle.dm_print_ledger.specs.Ledger.{JobView, LedgerView, PrinterView, running}
-use Rattle.dm_print_ledger.specs.Verdicts.{Prints, print_verdict}
-use Rattle.dm_event_history.specs.declared.event.Event.{Event}
-use Rattle.dm_event_history.specs.declared.event.Event.TheVariants.{Print}
+use Rattle.dm_event_history.specs.declared.event.Event.{Event, TheVariants.Print}
 use Rattle.dm_event_history.specs.Relay.{Actor, Label, Relay, stored_of, with_printer}
 use Rattle.dm_event_history.specs.Steps.{Calls, MayLackFirst, PrintComes, print_faults}
 use Rattle.dm_event_world.specs.inner.Calls.{print_reply}
@@ -19,12 +17,11 @@ use Rattle.relay_shared.specs.Command.{ReadsDocument}
 use Rattle.relay_printer_commands.specs.Printers.{EndsPrint, PrintsDocument, OnLedger}
 use Rattle.relay_printer_commands.specs.Printers.EndsPrint.{no_side, not_read, too_long, read as was_read}
 use Rattle.relay_printer_commands.specs.Printers.PrintsDocument.{opened as was_opened, not_opened}
-use Rattle.relay_runs.specs.Runs.{answered, job_ended, job_printed, EachPrintIsARun, Follows, IsOfJob, Keeps}
+use Rattle.relay_runs.specs.Runs.{answered, job_ended, job_printed, EachPrintIsARun, FollowsRun, IsOfJob, KeepsLedger}
 use Rattle.relay_runs.proofs.Places.{calling, restart, restarted, run_of, still_within}
-use Rattle.relay_runs.proofs.Files.{HoldsFile, holds_file, opened}
+use Rattle.relay_runs.proofs.{Files.HoldsFile, Files.holds_file, Files.opened, Uncalled.uncalled}
 use Rattle.relay_runs.proofs.Calling.{keeps_shown, shows_opened}
 use Rattle.relay_runs.proofs.Printing.{PrintedSo, none_mapped, printed_so}
-use Rattle.relay_runs.proofs.Uncalled.{uncalled}
 
 answered_ok : (answer : Result JobView PrintFault) (job : JobView) → answered answer ≡ Some job → answer ≡ Ok job
 answered_ok (Ok it) job is = cc (is)
@@ -50,13 +47,13 @@ module _ {A : Type 0} {before : ℕ} {stored : LedgerView} (document : List ℕ)
 
 module _ (A : Type 0) (relay : Relay) (place : ℕ) (actor : Actor LedgerView) (labels : Labels) (scheme : Scheme)
     (number : ℕ) (old new : OnLedger) (status : ℕ) (was : slice_get relay.printers place ≡ Some actor)
-    (keeps : Keeps old.saved actor) where
+    (keeps : KeepsLedger old.saved actor) where
   -- the printer was called
   called_so : (document : List ℕ) (rest : InputView) (size : Size) (after : PrinterView)
       (answer : Result JobView PrintFault) → ReadsDocument old.streams.input rest document → new.saved ≡ after.saved →
       HoldsFile after.saved →
       PrintedSo A (length (restarted relay place (stored_of actor)).labels) document size scheme (stored_of actor) answer
-      after → Follows A relay place old.streams.input new.saved (answered answer) None
+      after → FollowsRun A relay place old.streams.input new.saved (answered answer) None
   called_so document rest size after answer is_read same file p =
       let event : Event A = Print place document size scheme p.stop in
       record {
@@ -69,7 +66,7 @@ module _ (A : Type 0) (relay : Relay) (place : ℕ) (actor : Actor LedgerView) (
             (MayLackFirst (Calls print_faults p.stop
             (PrintComes (length (restarted relay place (stored_of actor)).labels) document size scheme)))
             (print_reply (length (restarted relay place (stored_of actor)).labels) answer) p.end p.acts p.reply_is
-            (subst (λ (s : Saved). Keeps s p.end.actor) (sym same) (keeps_shown A after p.end.actor file p.shows))
+            (subst (λ (s : Saved). KeepsLedger s p.end.actor) (sym same) (keeps_shown A after p.end.actor file p.shows))
             (λ next goes. inl (still_within A relay place actor was, goes));
         labels = p.grids_are;
         printed = λ i label there. job_from document size scheme after old.streams.input rest is_read answer p i label there;
@@ -80,7 +77,7 @@ module _ (A : Type 0) (relay : Relay) (place : ℕ) (actor : Actor LedgerView) (
   by_document : (size : Size) (document : List ℕ) (rest : InputView) →
       ReadsDocument old.streams.input rest document → (prints : PrintsDocument number size scheme document
       (record old { streams = record old.streams { input = rest } }) status new) →
-      Follows A relay place old.streams.input new.saved (job_printed prints) None
+      FollowsRun A relay place old.streams.input new.saved (job_printed prints) None
   by_document size document rest is_read (not_opened fault opens same told) =
       uncalled A relay place old.streams.input old.saved new.saved actor None None was keeps same refl refl
   by_document size document rest is_read (was_opened before after answer opens prints same told) =
@@ -97,7 +94,7 @@ module _ (A : Type 0) (relay : Relay) (place : ℕ) (actor : Actor LedgerView) (
       (shows_opened A old.saved actor keeps) does)
 
   print_by : (ends : EndsPrint number labels scheme old status new) →
-      Follows A relay place old.streams.input new.saved (job_ended ends) None
+      FollowsRun A relay place old.streams.input new.saved (job_ended ends) None
   print_by (no_side side same told) =
       uncalled A relay place old.streams.input old.saved new.saved actor None None was keeps same refl refl
   print_by (not_read fault rest side failed same told) =

@@ -1,31 +1,26 @@
 -- Each take over an honest store, of a ticket that left, is a run.
 use Rattle.std.proofs.Common.{◌≡◌, inl, false, ℕ, List, [], ◌∷◌, Some, None, Result, Ok, Err, slice_get, refl, sym, ap, subst, ◌∙◌}
-use Rattle.std.proofs.lemmas.List.{append-nil}
-use Rattle.std.proofs.lemmas.Option.{slice_get_within}
+use Rattle.std.proofs.lemmas.{List.append-nil, Option.slice_get_within}
 use Rattle.std.specs.Prelude.{IfSome}
 use Rattle.dm_store.specs.Saved.{Saved}
-use Rattle.dm_print_ledger.specs.declared.fault.TakeFault.{TakeFault}
+use Rattle.dm_print_ledger.specs.{declared.fault.TakeFault.TakeFault, Verdicts.TakesTicket, Verdicts.take_verdict}
 use Rattle.dm_print_ledger.specs.declared.fault.TakeFault.TheVariants as take_fault
 use Rattle.dm_print_ledger.specs.Ledger.{LedgerView, PrinterView, TicketView, running}
-use Rattle.dm_print_ledger.specs.Verdicts.{Takes, take_verdict}
-use Rattle.dm_event_history.specs.declared.event.Event.{Event}
-use Rattle.dm_event_history.specs.declared.event.Event.TheVariants.{Take}
+use Rattle.dm_event_history.specs.declared.event.Event.{Event, TheVariants.Take}
 use Rattle.dm_event_history.specs.Relay.{Actor, Relay, stored_of, with_printer}
 use Rattle.dm_event_history.specs.Steps.{Calls, TakeComes, take_faults}
 use Rattle.dm_event_world.specs.inner.Calls.{take_reply}
 use Rattle.relay_printer_commands.specs.Printers.{EndsTake, OnLedger, HasTicket, IsTextOf}
 use Rattle.relay_printer_commands.specs.Printers.EndsTake.{no_ticket, opened as was_opened, not_opened}
-use Rattle.relay_runs.specs.Runs.{if_taken, ticket_taken, EachTakeIsARun, Follows, Keeps, grids_of}
+use Rattle.relay_runs.specs.Runs.{if_taken, ticket_taken, EachTakeIsARun, FollowsRun, KeepsLedger, grids_of}
 use Rattle.relay_runs.proofs.Places.{calling, restart, restarted, run_of, still_within}
-use Rattle.relay_runs.proofs.Files.{HoldsFile, holds_file, opened, unchanged}
-use Rattle.relay_runs.proofs.Calling.{keeps_shown, shows_opened}
-use Rattle.relay_runs.proofs.Taking.{TakenSo, taken_so}
-use Rattle.relay_runs.proofs.TicketTexts.{text_range}
+use Rattle.relay_runs.proofs.{Files.HoldsFile, Files.holds_file, Files.opened, Files.unchanged, TicketTexts.text_range}
+use Rattle.relay_runs.proofs.{Calling.keeps_shown, Calling.shows_opened, Taking.TakenSo, Taking.taken_so}
 use Rattle.relay_runs.proofs.Uncalled.{none_there, uncalled}
 
 module _ (A : Type 0) (relay : Relay) (place : ℕ) (actor : Actor LedgerView) (text : List ℕ)
     (number : ℕ) (old new : OnLedger) (status : ℕ) (was : slice_get relay.printers place ≡ Some actor)
-    (keeps : Keeps old.saved actor) where
+    (keeps : KeepsLedger old.saved actor) where
   -- a ticket that left is there after a restart
   still_there : (it : ℕ) (ticket : TicketView) → slice_get relay.tickets it ≡ Some ticket →
       slice_get (restarted relay place (stored_of actor)).tickets it ≡ Some ticket
@@ -33,7 +28,7 @@ module _ (A : Type 0) (relay : Relay) (place : ℕ) (actor : Actor LedgerView) (
       (sym (append-nil relay.tickets)) there
 
   abbrev Done : Type 0
-  Done = Follows A relay place old.streams.input new.saved None None
+  Done = FollowsRun A relay place old.streams.input new.saved None None
 
   -- the printer was called
   called_so : (it : ℕ) (ticket : TicketView) → slice_get relay.tickets it ≡ Some ticket → (after : PrinterView)
@@ -47,7 +42,7 @@ module _ (A : Type 0) (relay : Relay) (place : ℕ) (actor : Actor LedgerView) (
         after = with_printer (restarted relay place (stored_of actor)) place t.end.actor t.end.goods;
         runs = run_of A relay place actor was new.saved event
             (Calls take_faults t.stop (TakeComes it ticket)) (take_reply answer) t.end t.acts t.reply_is
-            (subst (λ (s : Saved). Keeps s t.end.actor) (sym same) (keeps_shown A after t.end.actor file t.shows))
+            (subst (λ (s : Saved). KeepsLedger s t.end.actor) (sym same) (keeps_shown A after t.end.actor file t.shows))
             (λ next goes. inl (
               (still_within A relay place actor was, slice_get_within _ it ticket (still_there it ticket there)),
               (ticket, still_there it ticket there, goes),
@@ -60,10 +55,10 @@ module _ (A : Type 0) (relay : Relay) (place : ℕ) (actor : Actor LedgerView) (
 
   module _ (ticket : TicketView) (before after : PrinterView) (has : HasTicket text) (is : IsTextOf text ticket)
       (is_open : before ≡ running old.saved (stored_of actor)) (same : new.saved ≡ after.saved) where
-    taken : (answer : Result (Unit {0}) TakeFault) → Takes before ticket answer after →
+    taken : (answer : Result (Unit {0}) TakeFault) → TakesTicket before ticket answer after →
         ((it : ℕ) × (slice_get relay.tickets it ≡ Some ticket)) → Done
     taken answer takes left =
-        let does = subst (λ (v : PrinterView). Takes v ticket answer after) is_open takes in
+        let does = subst (λ (v : PrinterView). TakesTicket v ticket answer after) is_open takes in
         let file : HoldsFile old.saved =
         record { ledger = stored_of actor; sound = keeps.sound; content = keeps.content } in
         called_so left.0 ticket left.1 after answer same
@@ -75,7 +70,7 @@ module _ (A : Type 0) (relay : Relay) (place : ℕ) (actor : Actor LedgerView) (
         (text_range text ticket has is) (shows_opened A old.saved actor keeps) does)
 
     -- a refusal changes nothing
-    not_taken : (fault : TakeFault) → (fault ≡ take_fault.Save → ⊥) → Takes before ticket (Err fault) after → Done
+    not_taken : (fault : TakeFault) → (fault ≡ take_fault.Save → ⊥) → TakesTicket before ticket (Err fault) after → Done
     not_taken fault isnt takes =
         let runs : before.is_failed ≡ false = ap (λ (v : PrinterView). v.is_failed) is_open in
         uncalled A relay place old.streams.input old.saved new.saved actor None None was keeps
@@ -83,7 +78,7 @@ module _ (A : Type 0) (relay : Relay) (place : ℕ) (actor : Actor LedgerView) (
         (take_verdict before.ledger ticket) before after fault runs isnt takes)
         ∙ ap (λ (v : PrinterView). v.saved) is_open) refl refl
 
-    by_answer : (answer : Result (Unit {0}) TakeFault) → Takes before ticket answer after →
+    by_answer : (answer : Result (Unit {0}) TakeFault) → TakesTicket before ticket answer after →
         IfSome (if_taken answer ticket) (λ ticket. (it : ℕ) × (slice_get relay.tickets it ≡ Some ticket)) → Done
     by_answer (Ok done) takes left = taken (Ok done) takes left
     by_answer (Err take_fault.Save) takes left = taken (Err take_fault.Save) takes left

@@ -6,11 +6,11 @@ use Rattle.dm_store.specs.Saved.{Saved}
 use Rattle.dm_print_ledger.specs.declared.fault.OpenFault.{OpenFault}
 use Rattle.dm_print_ledger.specs.declared.fault.OpenFault.TheVariants.{Number, Device, Memory}
 use Rattle.dm_print_ledger.specs.Ledger.{LedgerView, PrinterView, is_sound, ledger_bytes, running, shown_of}
-use Rattle.dm_print_ledger.specs.Verdicts.{Carries, HoldsLedger, Opens, numbered, open_verdict}
+use Rattle.dm_print_ledger.specs.Verdicts.{CarriesOut, HoldsLedger, PrinterOpens, numbered, open_verdict}
 use Rattle.dm_print_ledger.specs.Verdicts as verdicts
 use Rattle.dm_print_ledger.proofs.ReadLaws.{held_by, ledger_read}
 use Rattle.dm_event_history.specs.Relay.{Actor, stored_of}
-use Rattle.relay_runs.specs.Runs.{Keeps}
+use Rattle.relay_runs.specs.Runs.{KeepsLedger}
 use Rattle.relay_runs.proofs.Plans.{old_or_new}
 
 -- ---- opened
@@ -41,7 +41,7 @@ pub file_opens : (content : Option (List ℕ)) (l : LedgerView) (number : ℕ) �
 file_opens content l number sound is =
     ap (λ (c : Option (List ℕ)). open_verdict c number) is ∙ ap (numbered number) (ledger_read l sound)
 
-pub holds : (saved : Saved) (actor : Actor LedgerView) → Keeps saved actor → HoldsLedger saved (stored_of actor)
+pub holds : (saved : Saved) (actor : Actor LedgerView) → KeepsLedger saved actor → HoldsLedger saved (stored_of actor)
 holds saved actor keeps honest =
     held_by (stored_of actor) saved.content (ledger_bytes (stored_of actor)) keeps.sound refl keeps.content
 
@@ -52,8 +52,8 @@ ok_of ledger verdict (inr (inl device)) = cc (device)
 ok_of ledger verdict (inr (inr memory)) = cc (memory)
 
 -- a printer was opened: the number is its own, and it goes on with what is stored
-pub opened : (saved : Saved) (actor : Actor LedgerView) (number : ℕ) (before : PrinterView) → Keeps saved actor →
-    Opens saved number (Ok before) →
+pub opened : (saved : Saved) (actor : Actor LedgerView) (number : ℕ) (before : PrinterView) → KeepsLedger saved actor →
+    PrinterOpens saved number (Ok before) →
     (number ≡ (stored_of actor).number) × (before ≡ running saved (stored_of actor))
 opened saved actor number before keeps opens =
     let own = opens_own (stored_of actor) before.ledger number
@@ -71,12 +71,12 @@ pub record HoldsFile (saved : Saved) : Type 0 where
 
 module _ {X F may_lack : Type 0} (failed memory save : F) (verdict : Result LedgerView F) (old new : PrinterView)
     (answer : Result X F) (runs : old.is_failed ≡ false) (honest : IsTrue old.saved.is_honest) (file : HoldsFile old.saved)
-    (carries : Carries failed memory save may_lack verdict old answer new) where
+    (carries : CarriesOut failed memory save may_lack verdict old answer new) where
   still : (saved : Saved) → saved.content ≡ old.saved.content → HoldsFile saved
   still saved same = record { ledger = file.ledger; sound = file.sound; content = same ∙ file.content }
 
   saved_file : (next : LedgerView) → is_sound next ≡ true → (a : Result X F) →
-      verdicts.Saves may_lack memory save next old a new → HoldsFile new.saved
+      verdicts.SavesLedger may_lack memory save next old a new → HoldsFile new.saved
   saved_file next sound (Ok x) does =
       record { ledger = next; sound = sound; content = does.0.done refl honest }
   saved_file next sound (Err fault) (inl lack) = still new.saved (ap (λ (v : PrinterView). v.saved.content) lack.2)
@@ -97,7 +97,7 @@ module _ {X F may_lack : Type 0} (failed memory save : F) (verdict : Result Ledg
 
 -- a file from which a ledger is opened is that ledger's
 pub file_of : (saved : Saved) (actor : Actor LedgerView) → IsTrue saved.is_honest → HoldsFile saved →
-    HoldsLedger saved (stored_of actor) → Keeps saved actor
+    HoldsLedger saved (stored_of actor) → KeepsLedger saved actor
 file_of saved actor honest file is =
     let own = opens_own file.ledger (stored_of actor) (stored_of actor).number
     (sym (file_opens saved.content file.ledger (stored_of actor).number file.sound file.content) ∙ is honest) in
@@ -110,10 +110,11 @@ file_of saved actor honest file is =
 -- a refusal that is not that of the save changes nothing
 pub unchanged : {X F may_lack : Type 0} (failed memory save : F) (verdict : Result LedgerView F) (old new : PrinterView)
     (fault : F) → old.is_failed ≡ false → (fault ≡ save → ⊥)
-    → Carries {X = X} failed memory save may_lack verdict old (Err fault) new → new ≡ old
+    → CarriesOut {X = X} failed memory save may_lack verdict old (Err fault) new → new ≡ old
 unchanged {X} {may_lack = may_lack} failed memory save verdict old new fault runs isnt carries = by_verdict verdict refl
   where
-    by_saves : (next : LedgerView) → verdicts.Saves {X = X} may_lack memory save next old (Err fault) new → new ≡ old
+    by_saves : (next : LedgerView) → verdicts.SavesLedger {X = X} may_lack memory save next old (Err fault) new →
+        new ≡ old
     by_saves next (inl lack) = lack.2
     by_saves next (inr fails) = absurd (isnt fails.0)
 

@@ -1,13 +1,11 @@
 -- A give is a call of a relay.
 use Rattle.std.proofs.Common.{◌≡◌, ◌++◌, ℕ, false, List, [], Result, length, refl, sym, ◌∙◌, arith}
 use Rattle.std.specs.Prelude.{IsTrue, if◌then◌else◌}
-use Rattle.dm_print_ledger.specs.declared.fault.GiveFault.{GiveFault}
+use Rattle.dm_print_ledger.specs.declared.{fault.GiveFault.GiveFault, range.Range.Range}
 use Rattle.dm_print_ledger.specs.declared.fault.GiveFault.TheVariants as give_fault
-use Rattle.dm_print_ledger.specs.declared.range.Range.{Range}
 use Rattle.dm_print_ledger.specs.Ledger.{LedgerView, PrinterView, TicketView}
-use Rattle.dm_print_ledger.specs.Verdicts.{Gives, MayLackMemory, give_verdict}
-use Rattle.dm_event_history.specs.declared.stop.Stop.{Stop}
-use Rattle.dm_event_history.specs.Relay.{Running}
+use Rattle.dm_print_ledger.specs.Verdicts.{GivesTicket, MayLack, give_verdict}
+use Rattle.dm_event_history.specs.{declared.stop.Stop.Stop, Relay.Running}
 use Rattle.dm_event_history.specs.Steps.{Calls, Ending, GiveComes, MayLackFirst, give_faults}
 use Rattle.dm_event_world.specs.declared.actor.PrinterActor.TheVariants as actors
 use Rattle.dm_event_world.specs.Shows.{ShowsPrinter, left_label}
@@ -15,8 +13,7 @@ use Rattle.dm_event_world.specs.inner.Calls.{EndsSo, Left, ends_early, give_repl
 use Rattle.dm_event_world.proofs.PrinterEvents.{give_ends}
 use Rattle.relay_runs.specs.Runs.{answered, listed}
 use Rattle.relay_runs.proofs.Plans.{IsMet, IsUnder, fine_printer, under_stop}
-use Rattle.relay_runs.proofs.Calling.{met_ended, met_reply}
-use Rattle.relay_runs.proofs.Printing.{cancel, none_mapped}
+use Rattle.relay_runs.proofs.{Calling.met_ended, Calling.met_reply, Printing.cancel, Printing.none_mapped}
 
 -- a printer that was opened over its store and has given, as a call of a relay
 pub record GivenSo (A : Type 0) (before to : ℕ) (range : Range) (stored : LedgerView)
@@ -38,9 +35,9 @@ module _ (A : Type 0) (tickets : List TicketView) (to : ℕ) (range : Range) (vi
     (stored : LedgerView) (answer : Result TicketView GiveFault) (runs : view.is_failed ≡ false)
     (honest : IsTrue view.saved.is_honest)
     (shown : ShowsPrinter {A = A} (actors.Running (fine_printer view)) (Running stored))
-    (gives : Gives view to range answer after) where
+    (gives : GivesTicket view to range answer after) where
   abbrev Under : Type 0
-  Under = IsUnder give_fault.Failed give_fault.Memory give_fault.Save (MayLackMemory view)
+  Under = IsUnder give_fault.Failed give_fault.Memory give_fault.Save (MayLack view)
       (give_verdict view.ledger to range) view answer after
 
   give_so : Under → GivenSo A (length tickets) to range stored answer after

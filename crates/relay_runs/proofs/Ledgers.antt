@@ -4,10 +4,9 @@ use Rattle.std.specs.Prelude.{IsTrue, MatchBool}
 use Rattle.dm_store.specs.Saved.{Replaces, Saved}
 use Rattle.dm_store.specs.declared.store.StoreFault.TheVariants as replacing
 use Rattle.dm_encodation.specs.declared.scheme.Scheme.{Scheme}
-use Rattle.dm_print_ledger.specs.declared.fault.CreateFault.{CreateFault}
+use Rattle.dm_print_ledger.specs.declared.{fault.CreateFault.CreateFault, range.Range.Range}
 use Rattle.dm_print_ledger.specs.declared.fault.CreateFault.TheVariants as create_fault
-use Rattle.dm_print_ledger.specs.declared.range.Range.{Range}
-use Rattle.dm_print_ledger.specs.Verdicts.{Creates, SavesFirst, opening, Opens, open_verdict}
+use Rattle.dm_print_ledger.specs.Verdicts.{Creates, SavesFirst, opening, PrinterOpens, open_verdict}
 use Rattle.dm_print_ledger.specs.Ledger.{LedgerView, PrinterView, is_range, ledger_bytes}
 use Rattle.dm_event_history.specs.Relay.{Actor, stored_of}
 use Rattle.relay_command.specs.declared.command.Labels.{Labels}
@@ -19,21 +18,20 @@ use Rattle.relay_printer_commands.specs.Printers.EndsGiveLast.{gave, too_few, un
 use Rattle.relay_printer_commands.specs.Printers.EndsTake.{no_ticket, opened as take_opened, not_opened as take_not_opened}
 use Rattle.relay_printer_commands.specs.Printers.EndsLedger.{created, refused as not_created}
 use Rattle.relay_printer_commands.specs.Printers.EndsLeft.{shown as was_shown, refused as not_shown}
-use Rattle.relay_runs.specs.Runs.{job_ended, ticket_given, ticket_given_last, Keeps}
-use Rattle.relay_runs.proofs.Files.{ok_of}
-use Rattle.relay_runs.proofs.Plans.{old_or_new}
+use Rattle.relay_runs.specs.Runs.{job_ended, ticket_given, ticket_given_last, KeepsLedger}
+use Rattle.relay_runs.proofs.{Files.ok_of, Plans.old_or_new}
 
 -- ---- `ledger` makes none where one is held
 
-held_none : (saved : Saved) (actor : Actor LedgerView) → Keeps saved actor →
+held_none : (saved : Saved) (actor : Actor LedgerView) → KeepsLedger saved actor →
     (IsTrue saved.is_honest → saved.content ≡ None) → ⊥
 held_none saved actor keeps none =
     let here : saved.content ≡ None = none keeps.honest in
     let there : saved.content ≡ Some (ledger_bytes (stored_of actor)) = keeps.content in
     cc (here, there)
 
-first_same : (old new : Saved) (actor : Actor LedgerView) (ledger : LedgerView) (fault : CreateFault) → Keeps old actor →
-    SavesFirst {X = PrinterView} old ledger (Err fault) new → new ≡ old
+first_same : (old new : Saved) (actor : Actor LedgerView) (ledger : LedgerView) (fault : CreateFault) →
+    KeepsLedger old actor → SavesFirst {X = PrinterView} old ledger (Err fault) new → new ≡ old
 first_same old new actor ledger create_fault.Exists keeps saves = saves.1
 first_same old new actor ledger create_fault.Device keeps (inl opens) = opens.1
 first_same old new actor ledger create_fault.Device keeps (inr fails) = absurd (held_none old actor keeps fails.0)
@@ -41,7 +39,7 @@ first_same old new actor ledger create_fault.Memory keeps saves = saves.0
 first_same old new actor ledger create_fault.Range keeps saves = absurd saves
 
 creates_none : (old new : Saved) (actor : Actor LedgerView) (number : ℕ) (range : Range) (printer : PrinterView) →
-    Keeps old actor → Creates old number range (Ok printer) new → ⊥
+    KeepsLedger old actor → Creates old number range (Ok printer) new → ⊥
 creates_none old new actor number range printer keeps creates = by_range (is_range range) creates.saves
   where
     by_range : (b : Bool) → MatchBool b (SavesFirst {X = PrinterView} old (opening number range) (Ok printer) new)
@@ -50,7 +48,7 @@ creates_none old new actor number range printer keeps creates = by_range (is_ran
     by_range false no_range = let is = no_range.0 in cc (is)
 
 refuses_same : (old new : Saved) (actor : Actor LedgerView) (number : ℕ) (range : Range) (fault : CreateFault) →
-    Keeps old actor → Creates old number range (Err fault) new → new ≡ old
+    KeepsLedger old actor → Creates old number range (Err fault) new → new ≡ old
 refuses_same old new actor number range fault keeps creates = by_range (is_range range) creates.saves
   where
     by_range : (b : Bool) → MatchBool b (SavesFirst {X = PrinterView} old (opening number range) (Err fault) new)
@@ -59,7 +57,7 @@ refuses_same old new actor number range fault keeps creates = by_range (is_range
     by_range false no_range = no_range.1
 
 pub made_same : (number : ℕ) (range : Range) (old new : OnLedger) (status : ℕ) (actor : Actor LedgerView) →
-    Keeps old.saved actor → EndsLedger number range old status new → new.saved ≡ old.saved
+    KeepsLedger old.saved actor → EndsLedger number range old status new → new.saved ≡ old.saved
 made_same number range old new status actor keeps (created printer creates told) =
     absurd (creates_none old.saved new.saved actor number range printer keeps creates)
 made_same number range old new status actor keeps (not_created fault creates told) =
@@ -134,7 +132,7 @@ shown_same old new status (not_shown fault loads same told) = same
 -- ---- where there is no ledger nothing is done
 
 absent : (saved : Saved) (number : ℕ) (before : PrinterView) → IsTrue saved.is_honest → saved.content ≡ None →
-    Opens saved number (Ok before) → ⊥
+    PrinterOpens saved number (Ok before) → ⊥
 absent saved number before honest none opens =
     let is : Ok before.ledger ≡ open_verdict saved.content number =
     ok_of before.ledger (open_verdict saved.content number) (opens.0.answer honest) in

@@ -1,16 +1,13 @@
 -- A restart and a call of one printer, as a run of a relay.
 use Rattle.std.proofs.Common.{◌≡◌, ◌<◌, inl, ℕ, zero, suc, List, [], ◌∷◌, ◌++◌, Some, length, slice_get, slice_set, refl, sym, ap}
-use Rattle.std.proofs.lemmas.List.{append-nil}
-use Rattle.std.proofs.lemmas.Option.{slice_get_within}
+use Rattle.std.proofs.lemmas.{List.append-nil, Option.slice_get_within}
 use Rattle.dm_store.specs.Saved.{Saved}
 use Rattle.dm_print_ledger.specs.Ledger.{LedgerView}
-use Rattle.dm_event_history.specs.declared.event.Event.{Event}
-use Rattle.dm_event_history.specs.declared.event.Event.TheVariants.{RestartPrinter}
-use Rattle.dm_event_history.specs.declared.reply.Reply.{Reply}
-use Rattle.dm_event_history.specs.declared.reply.Reply.TheVariants.{Restarted}
-use Rattle.dm_event_history.specs.Relay.{Actor, Running, Goods, Relay, nothing, stored_of, with_printer}
+use Rattle.dm_event_history.specs.declared.event.Event.{Event, TheVariants.RestartPrinter}
+use Rattle.dm_event_history.specs.declared.reply.Reply.{Reply, TheVariants.Restarted}
+use Rattle.dm_event_history.specs.Relay.{Actor, Running, Goods, Relay, no_goods, stored_of, with_printer}
 use Rattle.dm_event_history.specs.Steps.{Ending, ending, Moment, PrinterGoes, Step}
-use Rattle.relay_runs.specs.Runs.{Keeps, Runs}
+use Rattle.relay_runs.specs.Runs.{KeepsLedger, RunLeadsTo}
 
 -- ---- lists
 
@@ -38,10 +35,10 @@ more {X} xs ys = ap (λ (l : List X). l ++ ys) (append-nil xs)
 
 -- the relay once this printer runs over what it stores
 abbrev pub restarted : Relay → ℕ → LedgerView → Relay
-restarted relay printer stored = with_printer relay printer (Running stored) nothing
+restarted relay printer stored = with_printer relay printer (Running stored) no_goods
 
 pub with_twice : (relay : Relay) (printer : ℕ) (one other : Actor LedgerView) (goods : Goods) →
-    with_printer (with_printer relay printer one nothing) printer other goods ≡ with_printer relay printer other goods
+    with_printer (with_printer relay printer one no_goods) printer other goods ≡ with_printer relay printer other goods
 with_twice relay printer one other goods = λ i. record {
   printers = set_twice relay.printers printer one other i;
   desks = relay.desks;
@@ -53,7 +50,7 @@ with_twice relay printer one other goods = λ i. record {
 
 -- where nothing happens the printer is what it was
 pub with_same : (relay : Relay) (printer : ℕ) (actor : Actor LedgerView) → slice_get relay.printers printer ≡ Some actor →
-    relay ≡ with_printer relay printer actor nothing
+    relay ≡ with_printer relay printer actor no_goods
 with_same relay printer actor was = λ i. record {
   printers = sym (set_back relay.printers printer actor was) i;
   desks = relay.desks;
@@ -68,7 +65,7 @@ with_same relay printer actor was = λ i. record {
 module _ (A : Type 0) (relay : Relay) (printer : ℕ) (actor : Actor LedgerView)
     (was : slice_get relay.printers printer ≡ Some actor) where
   -- nothing happens
-  pub no_run : (saved : Saved) → Keeps saved actor → Runs {A = A} relay printer saved [] nothing relay
+  pub no_run : (saved : Saved) → KeepsLedger saved actor → RunLeadsTo {A = A} relay printer saved [] no_goods relay
   no_run saved keeps = record {
     run = refl;
     actor = actor;
@@ -98,7 +95,7 @@ module _ (A : Type 0) (relay : Relay) (printer : ℕ) (actor : Actor LedgerView)
     record {
       actor = actor;
       was = was;
-      end = ending Restarted (Running (stored_of actor)) nothing;
+      end = ending Restarted (Running (stored_of actor)) no_goods;
       acts = inl refl;
       reply_is = refl;
       new_is = refl;
@@ -110,9 +107,10 @@ module _ (A : Type 0) (relay : Relay) (printer : ℕ) (actor : Actor LedgerView)
 
   -- the printer is restarted and called
   pub run_of : (saved : Saved) (event : Event A) (Acts : Actor LedgerView → Ending A LedgerView → Type 0) (reply : Reply A)
-      (end : Ending A LedgerView) → Acts (Running (stored_of actor)) end → reply ≡ end.reply → Keeps saved end.actor →
+      (end : Ending A LedgerView) → Acts (Running (stored_of actor)) end → reply ≡ end.reply →
+      KeepsLedger saved end.actor →
       ((new : Relay) → Goes Acts reply new → Step (restarted relay printer (stored_of actor)) event reply new) →
-      Runs relay printer saved (calling event reply ∷ restart ∷ []) end.goods
+      RunLeadsTo relay printer saved (calling event reply ∷ restart ∷ []) end.goods
       (with_printer (restarted relay printer (stored_of actor)) printer end.actor end.goods)
   run_of saved event Acts reply end acts reply_is keeps steps = record {
     run = (

@@ -1,13 +1,12 @@
 -- A call under any plan is one under the plan of a stop.
 use Rattle.std.proofs.Common.{◌≡◌, ◌⊎◌, inl, inr, true, false, ℕ, List, Some, Result, Ok, Err, refl, sym, ap, subst, ◌∙◌, arith}
 use Rattle.std.specs.Prelude.{IsTrue}
-use Rattle.dm_store.specs.declared.fuse.Kept.TheVariants.{Old, New}
+use Rattle.dm_store.specs.declared.{fuse.Kept.TheVariants.Old, fuse.Kept.TheVariants.New, mem_store.NextSave.NextSave}
 use Rattle.dm_store.specs.declared.store.StoreFault.TheVariants as replacing
-use Rattle.dm_store.specs.declared.mem_store.NextSave.{NextSave}
 use Rattle.dm_store.specs.declared.mem_store.NextSave.TheVariants as next_save
 use Rattle.dm_store.specs.Saved.{Saved, SavePlan, LoadsFine, SavesFine, HeldAfterFault, Replaces, save_plan_of}
 use Rattle.dm_print_ledger.specs.Ledger.{LedgerView, PrinterView, is_sound, ledger_bytes}
-use Rattle.dm_print_ledger.specs.Verdicts.{Carries, IsInOrder}
+use Rattle.dm_print_ledger.specs.Verdicts.{CarriesOut, PrinterIsInOrder}
 use Rattle.dm_print_ledger.specs.Verdicts as verdicts
 use Rattle.dm_event_history.specs.declared.stop.Stop.{Stop}
 use Rattle.dm_event_history.specs.declared.stop.Stop.TheVariants as stops
@@ -85,14 +84,14 @@ pub record IsUnder {X F : Type 0} (failed memory save : F) (may_lack : Type 0) (
   pub stop : Stop
   pub met : IsMet stop
   pub made : stops_before stop ≡ false
-  pub carries : Carries failed memory save may_lack verdict (planned (fine_printer old) (next_save_of stop)) answer
+  pub carries : CarriesOut failed memory save may_lack verdict (planned (fine_printer old) (next_save_of stop)) answer
       (fine_printer new)
   pub answered : (x : X) → answer ≡ Ok x → stop ≡ stops.None
 
 module _ {X F may_lack : Type 0} (failed memory save : F) (verdict : Result LedgerView F) (old new : PrinterView)
     (answer : Result X F) (runs : old.is_failed ≡ false) (honest : IsTrue old.saved.is_honest)
-    (carries : Carries failed memory save may_lack verdict old answer new) where
-  in_order : (next : NextSave) → IsInOrder (planned (fine_printer old) next)
+    (carries : CarriesOut failed memory save may_lack verdict old answer new) where
+  in_order : (next : NextSave) → PrinterIsInOrder (planned (fine_printer old) next)
   in_order next = record { sound = carries.in_order.sound; held = carries.in_order.held }
 
   never_failed : (next : NextSave) → (planned (fine_printer old) next).is_failed ≡ true →
@@ -118,7 +117,8 @@ module _ {X F may_lack : Type 0} (failed memory save : F) (verdict : Result Ledg
   }
 
   abbrev SavesSo : LedgerView → NextSave → Result X F → Type 0
-  SavesSo next plan a = verdicts.Saves may_lack memory save next (planned (fine_printer old) plan) a (fine_printer new)
+  SavesSo next plan a = verdicts.SavesLedger may_lack memory save next (planned (fine_printer old) plan) a
+      (fine_printer new)
 
   -- it is saved so under this stop
   saved_under : (stop : Stop) (next : LedgerView) → IsMet stop → stops_before stop ≡ false → verdict ≡ Ok next →
@@ -157,7 +157,7 @@ module _ {X F may_lack : Type 0} (failed memory save : F) (verdict : Result Ledg
       ]
 
   by_answer : (next : LedgerView) → verdict ≡ Ok next → IsTrue (is_sound next) → (a : Result X F) → answer ≡ a →
-      verdicts.Saves may_lack memory save next old a new → Is
+      verdicts.SavesLedger may_lack memory save next old a new → Is
   by_answer next is sound (Ok x) at does = saved_under stops.None next tt refl is sound
       (subst (SavesSo next next_save.Fine) (sym at)
       (saves_fine old.saved new.saved (ledger_bytes next) does.0, ap fine_printer does.1))

@@ -3,8 +3,7 @@ use Rattle.std.proofs.Common.{◌≡◌, ◌++◌, ℕ, List, [], ◌∷◌, Non
 use Rattle.std.proofs.lemmas.Grind.{flat_map-append}
 use Rattle.dm_pbm_io.specs.Image.{p4}
 use Rattle.dm_finder_frame.specs.Frame.{GridView}
-use Rattle.dm_print_ledger.specs.declared.fault.PrintFault.{PrintFault}
-use Rattle.dm_print_ledger.specs.Ledger.{JobView}
+use Rattle.dm_print_ledger.specs.{declared.fault.PrintFault.PrintFault, Ledger.JobView}
 use Rattle.relay_streams.specs.Streams.{AppendsPart, OutputView}
 use Rattle.relay_shared.specs.Command.{StreamsView}
 use Rattle.relay_printer_commands.specs.Printers.{LosesImages, PrintsLabels, TellsPrint, images_of, EndsPrint, OnLedger}

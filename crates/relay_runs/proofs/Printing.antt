@@ -17,14 +17,12 @@ use Rattle.dm_event_history.specs.Relay.{CutDocument, Running, Goods, Label, Use
 use Rattle.dm_event_history.specs.Steps.{Answers, AreLabelsFor, Calls, Ending, LacksMemory, MayLackFirst, PrintComes, Saves, cut_of, print_faults}
 use Rattle.dm_append_label.specs.Labels.{PageView}
 use Rattle.dm_event_history.proofs.LedgerFacts.{made_print}
-use Rattle.dm_event_world.specs.declared.actor.LeftLabel.{LeftLabel}
+use Rattle.dm_event_world.specs.{declared.actor.LeftLabel.LeftLabel, Shows.ShowsPrinter, Shows.left_label}
 use Rattle.dm_event_world.specs.declared.actor.PrinterActor.TheVariants as actors
-use Rattle.dm_event_world.specs.Shows.{ShowsPrinter, left_label}
 use Rattle.dm_event_world.specs.inner.Calls.{EndsSo, Left, job_labels, left_labels, most_labels, print_reply}
 use Rattle.dm_event_world.proofs.PrinterEvents.{few_labels, print_ends}
 use Rattle.relay_runs.specs.Runs.{answered, grids_in, grids_of}
-use Rattle.relay_runs.proofs.Plans.{IsUnder, fine_printer, under_stop}
-use Rattle.relay_runs.proofs.Calling.{met_ended, met_reply}
+use Rattle.relay_runs.proofs.{Plans.IsUnder, Plans.fine_printer, Plans.under_stop, Calling.met_ended, Calling.met_reply}
 
 -- ---- what leaves
 
@@ -78,7 +76,7 @@ print_used A before id count document size scheme stored end (inr (LacksMemory, 
 
 -- ---- what the labels are cut from
 
--- the label is of this identification and this document
+-- the label is of this ID and this document
 pub record IsCutFrom (id : ℕ) (document : List ℕ) (label : Label) : Type 0 where
   pub id_is : label.page.id ≡ id
   pub document_is : label.cut.bytes ≡ document

@@ -4,16 +4,14 @@ use Rattle.std.specs.Prelude.{IsTrue}
 use Rattle.dm_print_ledger.specs.declared.fault.TakeFault.{TakeFault}
 use Rattle.dm_print_ledger.specs.declared.fault.TakeFault.TheVariants as take_fault
 use Rattle.dm_print_ledger.specs.Ledger.{LedgerView, PrinterView, TicketView, is_range}
-use Rattle.dm_print_ledger.specs.Verdicts.{MayLackMemory, Takes, take_verdict}
-use Rattle.dm_event_history.specs.declared.stop.Stop.{Stop}
-use Rattle.dm_event_history.specs.Relay.{Running}
+use Rattle.dm_print_ledger.specs.Verdicts.{MayLack, TakesTicket, take_verdict}
+use Rattle.dm_event_history.specs.{declared.stop.Stop.Stop, Relay.Running}
 use Rattle.dm_event_history.specs.Steps.{Calls, Ending, TakeComes, take_faults}
 use Rattle.dm_event_world.specs.declared.actor.PrinterActor.TheVariants as actors
 use Rattle.dm_event_world.specs.Shows.{ShowsPrinter, left_label}
 use Rattle.dm_event_world.specs.inner.Calls.{EndsSo, Left, take_reply}
 use Rattle.dm_event_world.proofs.PrinterEvents.{take_ends}
-use Rattle.relay_runs.proofs.Plans.{IsUnder, fine_printer, under_stop}
-use Rattle.relay_runs.proofs.Calling.{met_ended, met_reply}
+use Rattle.relay_runs.proofs.{Plans.IsUnder, Plans.fine_printer, Plans.under_stop, Calling.met_ended, Calling.met_reply}
 use Rattle.relay_runs.proofs.Printing.{none_mapped}
 
 -- a printer that was opened over its store and has taken, as a call of a relay
@@ -31,9 +29,9 @@ module _ (A : Type 0) (number : ℕ) (ticket : TicketView) (view after : Printer
     (stored : LedgerView) (answer : Result (Unit {0}) TakeFault) (runs : view.is_failed ≡ false)
     (honest : IsTrue view.saved.is_honest) (in_range : IsTrue (is_range ticket.range))
     (shown : ShowsPrinter {A = A} (actors.Running (fine_printer view)) (Running stored))
-    (takes : Takes view ticket answer after) where
+    (takes : TakesTicket view ticket answer after) where
   abbrev Under : Type 0
-  Under = IsUnder take_fault.Failed take_fault.Memory take_fault.Save (MayLackMemory view)
+  Under = IsUnder take_fault.Failed take_fault.Memory take_fault.Save (MayLack view)
       (take_verdict view.ledger ticket) view answer after
 
   take_so : Under → TakenSo A number ticket stored answer after

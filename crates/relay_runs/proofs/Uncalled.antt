@@ -2,9 +2,9 @@
 use Rattle.std.proofs.Common.{◌≡◌, ℕ, List, [], Option, Some, None, slice_get, refl, sym, ap, subst}
 use Rattle.dm_store.specs.Saved.{Saved}
 use Rattle.dm_print_ledger.specs.Ledger.{JobView, LedgerView, TicketView}
-use Rattle.dm_event_history.specs.Relay.{Actor, Label, Relay, nothing}
+use Rattle.dm_event_history.specs.Relay.{Actor, Label, Relay, no_goods}
 use Rattle.relay_streams.specs.Streams.{InputView}
-use Rattle.relay_runs.specs.Runs.{Follows, Keeps, grids_in, listed}
+use Rattle.relay_runs.specs.Runs.{FollowsRun, KeepsLedger, grids_in, listed}
 use Rattle.relay_runs.proofs.Places.{no_run}
 
 pub none_there : (labels : List Label) (i : ℕ) (label : Label) → labels ≡ [] → slice_get labels i ≡ Some label → ⊥
@@ -13,12 +13,12 @@ none_there labels i label none there =
 
 pub uncalled : (A : Type 0) (relay : Relay) (place : ℕ) (input : InputView) (old new : Saved) (actor : Actor LedgerView)
     (job : Option JobView) (ticket : Option TicketView) → slice_get relay.printers place ≡ Some actor →
-    Keeps old actor → new ≡ old → job ≡ None → ticket ≡ None → Follows A relay place input new job ticket
+    KeepsLedger old actor → new ≡ old → job ≡ None → ticket ≡ None → FollowsRun A relay place input new job ticket
 uncalled A relay place input old new actor job ticket was keeps same no_job no_ticket = record {
   moments = [];
-  goods = nothing;
+  goods = no_goods;
   after = relay;
-  runs = no_run A relay place actor was new (subst (λ (s : Saved). Keeps s actor) (sym same) keeps);
+  runs = no_run A relay place actor was new (subst (λ (s : Saved). KeepsLedger s actor) (sym same) keeps);
   labels = ap grids_in (sym no_job);
   printed = λ i label there. absurd (none_there [] i label refl there);
   tickets = ap (listed {X = TicketView}) (sym no_ticket);

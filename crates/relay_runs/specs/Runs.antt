@@ -3,8 +3,7 @@
 use Rattle.std.specs.Prelude.{ℕ, List, Option, None, Some, Result, Ok, Err, ◌≡◌, [], ◌∷◌, map, slice_get, IsTrue, IfSome}
 use Rattle.dm_encodation.specs.declared.scheme.Scheme.{Scheme}
 use Rattle.dm_size.specs.declared.size.Size.{Size}
-use Rattle.dm_print_ledger.specs.declared.fault.TakeFault.{TakeFault}
-use Rattle.dm_print_ledger.specs.declared.fault.TakeFault.TheVariants.{Save}
+use Rattle.dm_print_ledger.specs.declared.fault.TakeFault.{TakeFault, TheVariants.Save}
 use Rattle.dm_print_ledger.specs.declared.range.Range.{Range}
 use Rattle.dm_print_ledger.specs.Ledger.{JobView, TicketView, LedgerView, is_sound, ledger_bytes}
 use Rattle.relay_command.specs.declared.command.Labels.{Labels}
@@ -27,7 +26,7 @@ abbrev pub answered : {X F : Type 0} → Result X F → Option X
 answered (Ok x) = Some x
 answered (Err fault) = None
 
--- the job of a print, if the printer answered one: from then on its identification is used, whatever goes out
+-- the job of a print, if the printer answered one: from then on its ID is used, whatever goes out
 abbrev pub job_printed : {number : ℕ} {size : Size} {scheme : Scheme} {document : List ℕ} {old new : OnLedger} {status : ℕ} →
     PrintsDocument number size scheme document old status new → Option JobView
 job_printed (print_opened before after answer opens prints same told) = answered answer
@@ -69,19 +68,19 @@ ticket_taken (take_not_opened fault has opens same told) = None
 -- A command of a printer does to its store, and lets out, what a run of the machine does.
 
 -- the store is honest, and holds the file of the sound ledger that the printer stores
-pub record Keeps (saved : Saved) (actor : Actor LedgerView) : Type 0 where
+pub record KeepsLedger (saved : Saved) (actor : Actor LedgerView) : Type 0 where
   pub honest : IsTrue saved.is_honest
   pub sound : IsTrue (is_sound (stored_of actor))
   pub content : saved.content ≡ Some (ledger_bytes (stored_of actor))
 
 -- From this relay on these moments led to one in which only this printer may be another, and these goods left. The store
 -- holds what the printer stores.
-pub record Runs {A : Type 0} (relay : Relay) (place : ℕ) (saved : Saved) (moments : List (Moment A)) (goods : Goods)
-    (after : Relay) : Type 0 where
+pub record RunLeadsTo {A : Type 0} (relay : Relay) (place : ℕ) (saved : Saved) (moments : List (Moment A))
+    (goods : Goods) (after : Relay) : Type 0 where
   pub run : IsRun relay moments after
   pub actor : Actor LedgerView
   pub there : slice_get after.printers place ≡ Some actor
-  pub keeps : Keeps saved actor
+  pub keeps : KeepsLedger saved actor
   pub after_is : after ≡ with_printer relay place actor goods
 
 abbrev pub grids_of : List Label → List GridView
@@ -104,13 +103,13 @@ pub record IsOfJob (input : InputView) (job : Option JobView) (label : Label) : 
   pub read : ReadsDocument input rest label.cut.bytes
 
 -- A command that left this store did what a run does from this relay on: the labels that left are those of its job, and
--- the tickets its ticket; the identification of its job was used.
-pub record Follows (A : Type 0) (relay : Relay) (place : ℕ) (input : InputView) (saved : Saved) (job : Option JobView)
-    (ticket : Option TicketView) : Type 0 where
+-- the tickets its ticket; the ID of its job was used.
+pub record FollowsRun (A : Type 0) (relay : Relay) (place : ℕ) (input : InputView) (saved : Saved)
+    (job : Option JobView) (ticket : Option TicketView) : Type 0 where
   pub moments : List (Moment A)
   pub goods : Goods
   pub after : Relay
-  pub runs : Runs relay place saved moments goods after
+  pub runs : RunLeadsTo relay place saved moments goods after
   pub labels : grids_of goods.labels ≡ grids_in job
   pub printed : (i : ℕ) (label : Label) → slice_get goods.labels i ≡ Some label → IsOfJob input job label
   pub tickets : goods.tickets ≡ listed ticket
@@ -120,20 +119,20 @@ pub record Follows (A : Type 0) (relay : Relay) (place : ℕ) (input : InputView
 
 abbrev pub EachPrintIsARun : Type 0 → Type 0
 EachPrintIsARun A = (relay : Relay) (place : ℕ) (actor : Actor LedgerView) (labels : Labels) (scheme : Scheme) (number : ℕ)
-    (old new : OnLedger) (status : ℕ) → slice_get relay.printers place ≡ Some actor → Keeps old.saved actor
+    (old new : OnLedger) (status : ℕ) → slice_get relay.printers place ≡ Some actor → KeepsLedger old.saved actor
     → (ends : EndsPrint number labels scheme old status new)
-    → Follows A relay place old.streams.input new.saved (job_ended ends) None
+    → FollowsRun A relay place old.streams.input new.saved (job_ended ends) None
 
 abbrev pub EachGiveIsARun : Type 0 → Type 0
 EachGiveIsARun A = (relay : Relay) (place : ℕ) (actor : Actor LedgerView) (to : ℕ) (range : Range) (number : ℕ)
-    (old new : OnLedger) (status : ℕ) → slice_get relay.printers place ≡ Some actor → Keeps old.saved actor
+    (old new : OnLedger) (status : ℕ) → slice_get relay.printers place ≡ Some actor → KeepsLedger old.saved actor
     → (ends : EndsGive number to range old status new)
-    → Follows A relay place old.streams.input new.saved None (ticket_given ends)
+    → FollowsRun A relay place old.streams.input new.saved None (ticket_given ends)
 
 -- a ticket that was taken in left before
 abbrev pub EachTakeIsARun : Type 0 → Type 0
 EachTakeIsARun A = (relay : Relay) (place : ℕ) (actor : Actor LedgerView) (text : List ℕ) (number : ℕ)
-    (old new : OnLedger) (status : ℕ) → slice_get relay.printers place ≡ Some actor → Keeps old.saved actor
+    (old new : OnLedger) (status : ℕ) → slice_get relay.printers place ≡ Some actor → KeepsLedger old.saved actor
     → (ends : EndsTake number text old status new)
     → IfSome (ticket_taken ends) (λ ticket. (it : ℕ) × (slice_get relay.tickets it ≡ Some ticket))
-    → Follows A relay place old.streams.input new.saved None None
+    → FollowsRun A relay place old.streams.input new.saved None None

@@ -1,13 +1,10 @@
 -- Lists of texts that are read one after another, and the last line end of a text.
 use Rattle.std.proofs.Common.{◌≡◌, ◌≢◌, ℕ, zero, suc, ◌+◌, ◌-◌, ◌<◌, ◌≤◌, List, [], ◌∷◌, ◌++◌, length, take, drop, get_or, Option, Some, None, Bor, true, false, refl, arith}
-use Rattle.std.proofs.lemmas.Grind.{common_steps}
-use Rattle.std.specs.List.{AllZip, position, position_or_len}
+use Rattle.std.proofs.lemmas.{Grind.common_steps, Slice.Zip.all_zipped_more}
+use Rattle.std.specs.{List.AllZip, List.position, List.position_or_len, Option.MatchOption, Option.unwrap_or}
 use Rattle.std.proofs.lemmas.List.{drop-map, get_or-map, map_more, take-map, take_rest}
-use Rattle.std.proofs.lemmas.Slice.Zip.{all_zipped_more}
-use Rattle.std.specs.Option.{MatchOption, unwrap_or}
 use Rattle.std.specs.Io.BufRead.{strip_last, ends_with_byte}
-use Rattle.relay_script.specs.Words.{texts, Nothing}
-use Rattle.relay_script.specs.Scripts.{begins_desks, desks_place}
+use Rattle.relay_script.specs.{Words.texts, Words.Nothing, Scripts.begins_desks, Scripts.desks_place}
 
 -- one more is read
 pub one_more_read : {B : Type 0} (R : List ℕ → B → Type 0) (parts : List (Bor (List ℕ))) (ys : List B) (i : ℕ)

@@ -3,9 +3,8 @@ use Rattle.std.proofs.Common.{ℕ, List}
 use Rattle.dm_size.specs.declared.size.Size.{Size}
 use Rattle.dm_encodation.specs.declared.scheme.Scheme.{Scheme}
 use Rattle.dm_print_ledger.specs.declared.range.Range.{Range}
-use Rattle.dm_event_history.specs.declared.event.Event.{Event}
+use Rattle.dm_event_history.specs.declared.{event.Event.Event, stop.Stop.Stop}
 use Rattle.dm_event_history.specs.declared.event.Event.TheVariants.{Print, Scan, RestartPrinter, RestartDesk, Ask, Forget, Give, Take, Export, Import}
-use Rattle.dm_event_history.specs.declared.stop.Stop.{Stop}
 use Rattle.relay_script.specs.Scripts.{SpellsEvent}
 
 pub nothing_spelled : {A : Type 0} (words : List (List ℕ))

@@ -4,8 +4,7 @@ use Rattle.std.specs.Prelude.{IsErrAnd}
 use Rattle.dm_event_history.specs.declared.stop.Stop.{Stop}
 use Rattle.dm_event_history.specs.declared.stop.Stop.TheVariants.{None as NoStop, BeforeSave, InSave, SaveFault, AfterLabels}
 use Rattle.dm_store.specs.declared.fuse.Kept.TheVariants.{Old, New}
-use Rattle.relay_script.specs.declared.words.ScriptFault.{ScriptFault}
-use Rattle.relay_script.specs.declared.words.ScriptFault.TheVariants.{Script as Blamed, Memory}
+use Rattle.relay_script.specs.declared.words.ScriptFault.{ScriptFault, TheVariants.Script as Blamed, TheVariants.Memory}
 use Rattle.relay_script.specs.Words.{IsRead, IsStopOf, Nothing}
 
 -- a word that is none of the six names and no number of labels names no stop

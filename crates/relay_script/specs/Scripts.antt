@@ -1,8 +1,6 @@
 -- Scripts of worlds: the printers, the desks, and the events that follow, each by the words of its line.
 use Rattle.std.specs.Prelude.{◌≡◌, ◌≤◌, ◌+◌, ℕ, Bool, List, [], length, take, drop, slice_index_or, codes, nat_eq, replicate}
-use Rattle.std.specs.Io.BufRead.{strip_last}
-use Rattle.std.specs.List.{AllZip, position_or_len, starts_with}
-use Rattle.std.specs.Str.{IsUtf8}
+use Rattle.std.specs.{Io.BufRead.strip_last, List.AllZip, List.position_or_len, List.starts_with, Str.IsUtf8}
 use Rattle.dm_print_ledger.specs.declared.range.Range.{Range}
 use Rattle.relay_command.specs.Schemes.{scheme_name}
 use Rattle.dm_event_history.specs.declared.event.Event.{Event}

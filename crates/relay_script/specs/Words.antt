@@ -1,17 +1,14 @@
 -- The words of a script, which is this project's own: what each kind of word stands for.
 use Rattle.std.specs.Prelude.{◌≡◌, ◌⊎◌, ◌<◌, ◌≤◌, ◌==◌, ℕ, List, [], ◌++◌, length, codes, Option, Result, Ok, Err, MatchOption, ⊤, map}
-use Rattle.std.specs.Borrow.{Bor}
-use Rattle.std.specs.List.{slice_split, before_first, after_first, AllZip}
+use Rattle.std.specs.{Borrow.Bor, List.slice_split, List.before_first, List.after_first, List.AllZip}
 use Rattle.std.specs.Str.Parse.{IsNumeral, digits_value}
 use Rattle.hex.specs.Hex.{decode_of, decode_sized}
-use Rattle.dm_size.specs.declared.size.Size.{Size}
-use Rattle.dm_size.specs.Sizes.{side}
+use Rattle.dm_size.specs.{declared.size.Size.Size, Sizes.side}
 use Rattle.dm_store.specs.declared.fuse.Kept.TheVariants.{Old, New}
 use Rattle.dm_append_label.specs.Labels.{id_words}
 use Rattle.dm_event_history.specs.declared.stop.Stop.{Stop}
 use Rattle.dm_event_history.specs.declared.stop.Stop.TheVariants.{None, BeforeSave, InSave, SaveFault, AfterLabels}
-use Rattle.relay_script.specs.declared.words.ScriptFault.{ScriptFault}
-use Rattle.relay_script.specs.declared.words.ScriptFault.TheVariants.{Script, Memory}
+use Rattle.relay_script.specs.declared.words.ScriptFault.{ScriptFault, TheVariants.Script, TheVariants.Memory}
 
 abbrev pub script_fault_name : ScriptFault → List ℕ
 script_fault_name Script = codes "Script"
@@ -22,8 +19,8 @@ abbrev pub Nothing : {A : Type 0} → (A → Type 0) → Type 0
 Nothing Fits = (x : _) → ¬ Fits x
 
 -- what was found fits, and where nothing was found there is nothing that fits
-abbrev pub IsFound : {A : Type 0} → Option A → (A → Type 0) → Type 0
-IsFound found Fits = MatchOption found (Nothing Fits) Fits
+abbrev pub FitsWhereFound : {A : Type 0} → Option A → (A → Type 0) → Type 0
+FitsWhereFound found Fits = MatchOption found (Nothing Fits) Fits
 
 -- what was read fits, and where the script is to blame there is nothing that fits
 abbrev pub IsRead : {A : Type 0} → Result A ScriptFault → (A → Type 0) → Type 0
@@ -40,18 +37,18 @@ abbrev pub cut_at : ℕ → List ℕ → List (List ℕ)
 cut_at byte text = slice_split (λ b. b == byte) text
 
 -- one to five decimal digits, at most 65,535
-abbrev pub IsNumber : List ℕ → Type 0
-IsNumber word = IsNumeral 10 word × (length word ≤ 5) × (digits_value 10 word < 65536)
+abbrev pub IsScriptNumber : List ℕ → Type 0
+IsScriptNumber word = IsNumeral 10 word × (length word ≤ 5) × (digits_value 10 word < 65536)
 
 -- the number that the word writes
 abbrev pub IsNumberOf : List ℕ → ℕ → Type 0
-IsNumberOf word n = IsNumber word × (n ≡ digits_value 10 word)
+IsNumberOf word n = IsScriptNumber word × (n ≡ digits_value 10 word)
 
 -- the number of modules along a side of a symbol
 unfoldable pub IsSideOf : List ℕ → Size → Type 0
 IsSideOf word size = IsNumberOf word (side size)
 
--- the two words of an identification, 1 to 254 each, in hexadecimal: there are 64,516 identifications
+-- the two codewords of an ID, 1 to 254 each, in hexadecimal: there are 64,516 IDs
 unfoldable pub IsIdOf : List ℕ → ℕ → Type 0
 IsIdOf word id = (id < 64516) × (decode_sized word 2 ≡ Ok (id_words id))
 

@@ -2,7 +2,7 @@
 
 ghost use Rattle.std.specs.Prelude.{codes, MatchOption};
 ghost use Rattle.relay_script.specs.Scripts.{HasForm, SpellsEvent};
-ghost use Rattle.relay_script.specs.Words.{IsFound, IsNumber, IsNumberOf, texts};
+ghost use Rattle.relay_script.specs.Words.{FitsWhereFound, IsScriptNumber, IsNumberOf, texts};
 
 use crate::spelled::{Spelled, cut};
 use crate::words::{ScriptFault, bytes, flips, id, number, size, stop};
@@ -13,7 +13,7 @@ use std::alloc::Allocator;
 
 // The number that a word writes, of something that is numbered from 0.
 fn index(word: &str) -> Option<usize>
-    ensures { MatchOption result (¬ IsNumber word.now) (IsNumberOf word.now) }
+    ensures { MatchOption result (¬ IsScriptNumber word.now) (IsNumberOf word.now) }
 {
     Some(usize::from(number(word)?))
 }
@@ -65,7 +65,7 @@ impl<A: Allocator + Copy> Spelled<A> for Event<A> {
 fn plain_event<A: Allocator + Copy>(words: &[&str]) -> Option<Event<A>>
     requires no_print { ¬ HasForm (texts words.now) (codes "print") 6 }
     requires no_scan { ¬ HasForm (texts words.now) (codes "scan") 5 }
-    ensures { IsFound result (SpellsEvent (texts words.now)) }
+    ensures { FitsWhereFound result (SpellsEvent (texts words.now)) }
 {
     match *words {
         ["restart", "printer", printer] => Some(Event::RestartPrinter {

@@ -1,7 +1,7 @@
 //! What each kind of word of a script stands for, and why a script is not taken.
 
 ghost use Rattle.std.specs.Prelude.{◌≡◌, ℕ, IfOk, MatchOption};
-ghost use Rattle.relay_script.specs.Words.{AreBytesOf, AreFlipsOf, IsFlipOf, IsFound, IsIdOf, IsNumber, IsNumberOf, IsRead, IsSideOf, IsStopOf};
+ghost use Rattle.relay_script.specs.Words.{AreBytesOf, AreFlipsOf, IsFlipOf, FitsWhereFound, IsIdOf, IsScriptNumber, IsNumberOf, IsRead, IsSideOf, IsStopOf};
 
 use crate::spelled::{Spelled, cut, read_all};
 use dm_append_label::FileId;
@@ -46,7 +46,7 @@ impl ScriptFault {
 }
 
 pub(crate) fn number(word: &str) -> Option<u16>
-    ensures { MatchOption result (¬ IsNumber word.now) (IsNumberOf word.now) }
+    ensures { MatchOption result (¬ IsScriptNumber word.now) (IsNumberOf word.now) }
 {
     if word.len() > 5 || word.starts_with('+') {
         return None;
@@ -56,14 +56,14 @@ pub(crate) fn number(word: &str) -> Option<u16>
 
 #[tactic(auto, unfolding(crate::specs::Words::IsSideOf))]
 pub(crate) fn size(word: &str) -> Option<Size>
-    ensures { IsFound result (IsSideOf word.now) }
+    ensures { FitsWhereFound result (IsSideOf word.now) }
 {
     Size::of_side(number(word)?)
 }
 
 #[tactic(auto, unfolding(crate::specs::Words::IsIdOf))]
 pub(crate) fn id(word: &str) -> Option<FileId>
-    ensures { IsFound result (IsIdOf word.now) }
+    ensures { FitsWhereFound result (IsIdOf word.now) }
 {
     let mut words = [0u8; 2];
     match hex::decode_to_slice(word, &mut words) {
@@ -74,7 +74,7 @@ pub(crate) fn id(word: &str) -> Option<FileId>
 
 #[tactic(auto, using(crate::proofs::Refused::none_named), unfolding(crate::specs::Words::IsStopOf))]
 pub(crate) fn stop(word: &str) -> Option<Stop>
-    ensures { IsFound result (IsStopOf word.now) }
+    ensures { FitsWhereFound result (IsStopOf word.now) }
 {
     match word {
         "-" => Some(Stop::None),
@@ -98,7 +98,7 @@ fn after_labels(word: &str) -> Option<Stop>
 
 #[tactic(auto, unfolding(crate::specs::Words::AreBytesOf))]
 pub(crate) fn bytes<A: Allocator>(alloc: A, word: &str) -> Result<Option<Bytes<A>>, AllocError>
-    ensures { IfOk result (λ found. IsFound found (AreBytesOf word.now)) }
+    ensures { IfOk result (λ found. FitsWhereFound found (AreBytesOf word.now)) }
 {
     if word == "-" {
         return Ok(Some(Bytes(Vec::new(alloc))));

@@ -1,18 +1,13 @@
 -- Modules that are gathered one after another, and the text of a change.
 use Rattle.std.specs.Prelude.{codes, IfSome, ◌==◌}
-use Rattle.std.specs.Fmt.{decimal}
+use Rattle.std.specs.{Fmt.decimal, List.range_with_len, Result.is_ok, Result.result_ok}
 use Rattle.std.proofs.Common.{◌≡◌, ◌+◌, ◌*◌, ◌<◌, ℕ, zero, suc, Bor, get_or, Bool, true, false, not, List, [], ◌∷◌, ◌++◌, Some, Result, Ok, Err, map, ap, sym, refl, ◌∙◌, zero-add, cond, arith}
-use Rattle.std.proofs.Math.Bool.{xor, beq}
-use Rattle.std.specs.List.{range_with_len}
-use Rattle.std.specs.Result.{is_ok, result_ok}
-use Rattle.std.proofs.lemmas.List.FromFn.{map-range_with_len_more}
+use Rattle.std.proofs.{Math.Bool.xor, Math.Bool.beq, lemmas.List.FromFn.map-range_with_len_more}
 use Rattle.dm_size.specs.Sizes.{side}
 use Rattle.dm_finder_frame.specs.Frame.{GridView}
 use Rattle.dm_pbm_io.specs.Image.{Picture}
-use Rattle.dm_symbol.specs.Correction.{CorrectedView, CorrectsGrid}
-use Rattle.dm_symbol.specs.declared.fault.SymbolFault.{SymbolFault}
-use Rattle.relay_shared.specs.Command.{cure_text, module_after, IsCure}
-use Rattle.relay_shared.specs.declared.cure.Cure.{Cure}
+use Rattle.dm_symbol.specs.{Correction.CorrectedView, Correction.CorrectsGrid, declared.fault.SymbolFault.SymbolFault}
+use Rattle.relay_shared.specs.{Command.cure_text, Command.module_after, Command.IsCure, declared.cure.Cure.Cure}
 
 -- how the text of a change ends
 abbrev pub reads_text : ℕ → List ℕ

@@ -1,12 +1,10 @@
 -- From one file of images to all of them.
 use Rattle.std.specs.Prelude.{◌≡◌, ◌≢◌, ◌<◌, ◌≤◌, ◌+◌, ℕ, List, [], ◌∷◌, Option, false, true, drop, get_or, length, map, max}
 use Rattle.std.proofs.Common.{◌∙◌, ap, arith, refl, subst, sym}
-use Rattle.std.proofs.lemmas.List.{drop_all, drop_more}
-use Rattle.std.proofs.Math.Nat.{max-zero}
+use Rattle.std.proofs.{lemmas.List.drop_all, lemmas.List.drop_more, Math.Nat.max-zero}
 use Rattle.relay_streams.specs.Streams.{InputView, OutputView}
 use Rattle.relay_shared.specs.Command.{AtImage, ImageCommand, Progress, TellsFile, TellsFiles, TellsImages, TellsInputs, at_image, has_stopped, progress_at}
-use Rattle.relay_shared.specs.Command.TellsFile.{opened}
-use Rattle.relay_shared.specs.Command.TellsFiles.{last_file, next_file, no_file}
+use Rattle.relay_shared.specs.Command.{TellsFile.opened, TellsFiles.last_file, TellsFiles.next_file, TellsFiles.no_file}
 use Rattle.relay_shared.specs.Command.TellsInputs.{of_files}
 
 same_input : (input : InputView) (bytes : Option (List ℕ)) → input.remaining ≡ bytes → input.has_failed ≡ false →

@@ -2,23 +2,20 @@
 use Rattle.std.specs.Prelude.{◌≡◌, ◌⊎◌, ℕ, ◌+◌, ◌≤◌, Bool, true, false, ◌||◌, if◌then◌else◌, List}
 use Rattle.std.specs.Io.KnownBytes.{Appends, Consumes, IsAtEnd, Keeps}
 use Rattle.std.proofs.Common.{inl, inr, ⊎_elim, refl, sym, subst, ◌∙◌}
-use Rattle.std.proofs.KnownBytes.{Appends-nil}
-use Rattle.std.proofs.lemmas.Bool.{or_parts, or_right}
+use Rattle.std.proofs.{KnownBytes.Appends-nil, lemmas.Bool.or_parts, lemmas.Bool.or_right}
 use Rattle.relay_streams.specs.Streams.{InputView, OutputView}
-use Rattle.relay_shared.specs.Command.{AnswersImages, Comes, ImageCommand, IsOfFailedRead, Progress, Said, Takes, TellsImages, progress_at, refusal_of, TellsRefusal}
-use Rattle.relay_shared.specs.Command.AnswersImages.{another}
-use Rattle.relay_shared.specs.Command.Comes.{image, unread, too_many}
+use Rattle.relay_shared.specs.Command.{AnswersImages, ImageComes, ImageCommand, IsOfFailedRead, Progress, Said, TakesImage, TellsImages, progress_at, refusal_of, TellsRefusal}
+use Rattle.relay_shared.specs.Command.{AnswersImages.another, ImageComes.image, ImageComes.unread, ImageComes.too_many}
 use Rattle.relay_shared.specs.Command.EndsImages.{no_image, last_line}
 use Rattle.relay_shared.specs.Command.TellsImages.{ended, stopped}
-use Rattle.relay_shared.specs.declared.images.TheConstants.{MOST_IMAGES}
-use Rattle.relay_shared.specs.declared.images.Answered.{Answered}
+use Rattle.relay_shared.specs.declared.images.{TheConstants.MOST_IMAGES, Answered.Answered}
 use Rattle.relay_shared.specs.inner.Steps.{StopsStep, TakesStep}
 
 -- what has come was answered, and its line was written
 pub took : (c : ImageCommand) (count : ℕ) (old : Progress c) (answer : Answered) (new : Progress c) (said : Said)
     {bytes : List ℕ} → Consumes old.input.remaining new.input.remaining bytes → answer.refused ≡ said.refused
     → (new.input.has_failed ≡ old.input.has_failed) ⊎ ((answer.last ≡ true) × IsOfFailedRead said)
-    → Comes c count old.state bytes new.input said answer.last new.state
+    → ImageComes c count old.state bytes new.input said answer.last new.state
     → Appends old.output.contents new.output.contents said.line → TakesStep c count old answer new
 took c count old answer new said {bytes} consumed same whole comes appended = record {
   said = said;
@@ -29,11 +26,11 @@ took c count old answer new said {bytes} consumed same whole comes appended = re
   ends = λ is. last_line (takes is);
 }
   where
-    takes : {last : Bool} → answer.last ≡ last → Takes c count old said last new
+    takes : {last : Bool} → answer.last ≡ last → TakesImage c count old said last new
     takes {last} is = record {
       bytes = bytes;
       consumed = consumed;
-      comes = subst (λ (b : Bool). Comes c count old.state bytes new.input said b new.state) is comes;
+      comes = subst (λ (b : Bool). ImageComes c count old.state bytes new.input said b new.state) is comes;
     }
 
 -- the input has ended, and nothing was taken or written
@@ -53,7 +50,7 @@ at_end c count now output few is whole = record {
 
 -- after an image that another may follow the command reads on
 reads_on : (c : ImageCommand) {count : ℕ} {now after : c.State} {bytes : List ℕ} {rest : InputView} {said : Said}
-    {last : Bool} → Comes c count now bytes rest said last after → last ≡ false → c.has_ended after ≡ false
+    {last : Bool} → ImageComes c count now bytes rest said last after → last ≡ false → c.has_ended after ≡ false
 reads_on c {after = after} (image p few spelled answers is) goes_on =
     (or_parts p.plain (c.has_ended after) (sym is ∙ goes_on)).1
 reads_on c (unread fault few is seen) goes_on = cc
@@ -83,7 +80,7 @@ module _ (c : ImageCommand) (count : ℕ) (start now after : Progress c) (refuse
   -- what has come is refused, and nothing is read after it
   pub refused_last : (name : List ℕ) {bytes : List ℕ} {status : ℕ}
       → Consumes now.input.remaining after.input.remaining bytes
-      → Comes c count now.state bytes after.input (refusal_of name) true after.state
+      → ImageComes c count now.state bytes after.input (refusal_of name) true after.state
       → IsOfFailedRead (refusal_of name) → TellsRefusal name now.output status after.output
       → TellsImages c start status after
   refused_last name consumed comes of_read (inl told) =

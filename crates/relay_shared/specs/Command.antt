@@ -2,25 +2,18 @@
 -- if its output fails; and which of its streams it changes.
 use Rattle.std.specs.Prelude.{◌≡◌, ℕ, true, List, ◌⊎◌, Result, Ok, Err, OnErr, OnOk, codes, ◌+◌, ◌<◌, ◌≤◌, Bool, false, ◌||◌, if◌then◌else◌, [], ◌∷◌, Option, max, MatchResult, ◌*◌, ◌-◌, ◌/◌, ◌%◌, ◌==◌, ◌++◌, map, slice_index_or, None, Some}
 use Rattle.relay_streams.specs.Streams.{InputView, ReadsFirst, AppendsPart, OutputView, refused_line, write_fault_name, input_fault_name}
-use Rattle.relay_streams.specs.declared.fault.InputFault.{InputFault}
-use Rattle.relay_shared.specs.declared.command.TheConstants.{DOCUMENT_BYTES}
+use Rattle.relay_streams.specs.declared.fault.{InputFault.InputFault, WriteFault.WriteFault}
+use Rattle.relay_shared.specs.declared.{command.TheConstants.DOCUMENT_BYTES, command.Refusal.Refusal, cure.Cure.Cure}
 use Rattle.std.specs.Io.KnownBytes.{Appends, Consumes, IsAtEnd, Keeps}
-use Rattle.relay_streams.specs.declared.fault.WriteFault.{WriteFault}
 use Rattle.relay_streams.specs.declared.fault.WriteFault.TheVariants.{Write}
-use Rattle.relay_shared.specs.declared.command.Refusal.{Refusal}
 use Rattle.relay_shared.specs.declared.command.Refusal.TheVariants.{Side, FileId, Ticket, TooMany, Memory, Output}
-use Rattle.dm_pbm_io.specs.Image.{Picture, Spells, Refuses}
-use Rattle.dm_pbm_io.specs.declared.fault.PbmFault.{PbmFault}
+use Rattle.dm_pbm_io.specs.{Image.Picture, Image.Spells, Image.Refuses, declared.fault.PbmFault.PbmFault}
 use Rattle.dm_pbm_io.specs.FaultNames.{pbm_fault_name}
-use Rattle.relay_shared.specs.declared.images.TheConstants.{MOST_IMAGES}
-use Rattle.relay_shared.specs.declared.images.Answered.{Answered}
-use Rattle.std.specs.Bool.{xor}
-use Rattle.std.specs.Fmt.{decimal}
-use Rattle.std.specs.List.{range_with_len}
+use Rattle.relay_shared.specs.declared.images.{TheConstants.MOST_IMAGES, Answered.Answered}
+use Rattle.std.specs.{Bool.xor, Fmt.decimal, List.range_with_len}
 use Rattle.dm_finder_frame.specs.Frame.{GridView}
 use Rattle.dm_symbol.specs.Correction.{CorrectedView, IsCorrectedAs}
 use Rattle.relay_shared.specs.Lines.{id_text}
-use Rattle.relay_shared.specs.declared.cure.Cure.{Cure}
 use Rattle.relay_streams.specs.declared.fault.InputFault.TheVariants as input_faults
 use Rattle.dm_pbm_io.specs.declared.fault.PbmFault.TheVariants as image_faults
 use Rattle.dm_size.specs.Sizes as sizes
@@ -39,7 +32,7 @@ pub record HasInputFault (input rest : InputView) (fault : InputFault) : Type 0 
 
 -- The text was written, or the output has failed. Either way a part of it is out, from its first byte on, and nothing
 -- else.
-pub record Puts {T : Type 0} (text : List ℕ) (old : OutputView) (result : Result T WriteFault) (new : OutputView)
+pub record PutsText {T : Type 0} (text : List ℕ) (old : OutputView) (result : Result T WriteFault) (new : OutputView)
     : Type 0 where
   pub written : OnOk result (Appends old.contents new.contents text)
   pub part : AppendsPart old.contents new.contents text
@@ -135,8 +128,8 @@ pub record Said : Type 0 where
   pub line : List ℕ
   pub refused : Bool
 
-abbrev pub nothing : Said
-nothing = record { line = []; refused = false }
+abbrev pub nothing_said : Said
+nothing_said = record { line = []; refused = false }
 
 -- the line of a refusal of this name
 abbrev pub refusal_of : List ℕ → Said
@@ -180,30 +173,30 @@ pub record AnswersPicture (c : ImageCommand) (number : ℕ) (p : Picture) (old :
 
 -- What the bytes are that come after this many images, unless the input ends: what is said of them, whether nothing is
 -- read after them, and the state.
-pub data Comes (c : ImageCommand) (count : ℕ) (now : c.State) (bytes : List ℕ) (rest : InputView)
+pub data ImageComes (c : ImageCommand) (count : ℕ) (now : c.State) (bytes : List ℕ) (rest : InputView)
     : Said → Bool → c.State → Type 0 where
   image : {said : Said} {last : Bool} {after : c.State} (p : Picture) → count < MOST_IMAGES → Spells bytes p
       → c.Answers (count + 1) now p said after → last ≡ (p.plain || c.has_ended after)
-      → Comes c count now bytes rest said last after
+      → ImageComes c count now bytes rest said last after
   unread : {after : c.State} (fault : PbmFault) → count < MOST_IMAGES → IsUnread fault bytes rest
       → c.SeesUnread (count + 1) now (pbm_fault_name fault) after
-      → Comes c count now bytes rest (refusal_of (pbm_fault_name fault)) true after
+      → ImageComes c count now bytes rest (refusal_of (pbm_fault_name fault)) true after
   too_many : count ≡ MOST_IMAGES → IsAnother bytes rest
-      → Comes c count now bytes rest (refusal_of (refusal_name TooMany)) true now
+      → ImageComes c count now bytes rest (refusal_of (refusal_name TooMany)) true now
 
 -- the bytes were taken of the input, and this is said of them
-pub record Takes (c : ImageCommand) (count : ℕ) (old : Progress c) (said : Said) (last : Bool) (new : Progress c)
+pub record TakesImage (c : ImageCommand) (count : ℕ) (old : Progress c) (said : Said) (last : Bool) (new : Progress c)
     : Type 0 where
   pub bytes : List ℕ
   pub consumed : Consumes old.input.remaining new.input.remaining bytes
-  pub comes : Comes c count old.state bytes new.input said last new.state
+  pub comes : ImageComes c count old.state bytes new.input said last new.state
 
 -- how the input ends after this many images: there is no other, or what comes is the last
 pub data EndsImages (c : ImageCommand) (count : ℕ) (old : Progress c) : Said → Progress c → Type 0 where
   no_image : {rest : InputView} {output : OutputView} → count ≤ MOST_IMAGES
       → Keeps old.input.remaining rest.remaining → IsAtEnd rest.remaining
-      → EndsImages c count old nothing (progress_at old.state rest output)
-  last_line : {said : Said} {new : Progress c} → Takes c count old said true new → EndsImages c count old said new
+      → EndsImages c count old nothing_said (progress_at old.state rest output)
+  last_line : {said : Said} {new : Progress c} → TakesImage c count old said true new → EndsImages c count old said new
 
 -- ---- all of them
 
@@ -212,7 +205,7 @@ pub data EndsImages (c : ImageCommand) (count : ℕ) (old : Progress c) : Said �
 pub data AnswersImages (c : ImageCommand) (start : Progress c) : ℕ → Bool → Progress c → Type 0 where
   none : AnswersImages c start 0 false start
   another : {count : ℕ} {refused : Bool} {old new : Progress c} (said : Said) → AnswersImages c start count refused old
-      → Takes c count old said false new → new.input.has_failed ≡ old.input.has_failed
+      → TakesImage c count old said false new → new.input.has_failed ≡ old.input.has_failed
       → Appends old.output.contents new.output.contents said.line
       → AnswersImages c start (count + 1) (refused || said.refused) new
 
@@ -230,7 +223,7 @@ pub data TellsImages (c : ImageCommand) (start : Progress c) (status : ℕ) (new
       → Appends old.output.contents new.output.contents said.line
       → status ≡ (if refused || said.refused then 1 else 0) → TellsImages c start status new
   stopped : {count : ℕ} {refused last : Bool} {old : Progress c} (said : Said) → AnswersImages c start count refused old
-      → Takes c count old said last new → new.output.has_failed ≡ true
+      → TakesImage c count old said last new → new.output.has_failed ≡ true
       → AppendsPart old.output.contents new.output.contents said.line → status ≡ 1 → TellsImages c start status new
 
 -- ---- the images of files
@@ -309,7 +302,7 @@ abbrev pub EndsNote : Bool → Picture → List ℕ → Type 0
 EndsNote is_of_image p ending =
     (ending ≡ []) ⊎ ((is_of_image ≡ true) × (cure : Cure) × IsCure p cure × (ending ≡ cure_text cure))
 
--- `relay: image`, its number, the identification of its label, if one is known, the name of its refusal, and the end
+-- `relay: image`, its number, the ID of its label, if one is known, the name of its refusal, and the end
 abbrev pub image_note : ℕ → Option ℕ → List ℕ → List ℕ → List ℕ
 image_note number None name ending =
     codes "relay: image " ++ (decimal number ++ (codes ": " ++ (name ++ (ending ++ 10 ∷ []))))
@@ -319,7 +312,7 @@ image_note number (Some id) name ending = codes "relay: image " ++
 -- this was noted on the standard error, or it has failed, with a part of it
 abbrev pub NotesImage : ℕ → Option ℕ → List ℕ → List ℕ → OutputView → OutputView → Type 0
 NotesImage number id name ending old new =
-    (put : Result (Unit {0}) WriteFault) × Puts (image_note number id name ending) old put new
+    (put : Result (Unit {0}) WriteFault) × PutsText (image_note number id name ending) old put new
 
 -- Nothing was noted of a refused picture, or, if the refusal is of the image itself, a change after which it is read.
 abbrev pub NotesChange : Bool → Picture → ℕ → List ℕ → OutputView → OutputView → Type 0

@@ -4,7 +4,7 @@ use Rattle.std.specs.Fmt.{decimal}
 use Rattle.hex.specs.Hex.{encode_lower}
 use Rattle.dm_append_label.specs.Labels.{id_words}
 
--- the two words of an identification in hexadecimal
+-- the two codewords of an ID in hexadecimal
 abbrev pub id_text : ℕ → List ℕ
 id_text id = encode_lower (id_words id)
 
@@ -12,11 +12,11 @@ id_text id = encode_lower (id_words id)
 abbrev pub word_text : ℕ → List ℕ
 word_text number = encode_lower (number / 256 ∷ number % 256 ∷ [])
 
--- the identification, m and n, and what the page was
+-- the ID, m and n, and what the page was
 abbrev pub accepted_line : ℕ → ℕ → ℕ → List ℕ → List ℕ
 accepted_line id m n kind = id_text id ++ (32 ∷ (decimal m ++ (47 ∷ (decimal n ++ (32 ∷ (kind ++ 10 ∷ []))))))
 
--- the identification, n, the pages that were added, bit m - 1 for page m, and what the import was
+-- the ID, n, the pages that were added, bit m - 1 for page m, and what the import was
 abbrev pub imported_line : ℕ → ℕ → ℕ → List ℕ → List ℕ
 imported_line id n added kind =
     id_text id ++ (32 ∷ (decimal n ++ (codes " added " ++ (word_text added ++ (32 ∷ (kind ++ 10 ∷ []))))))

@@ -66,7 +66,7 @@ pub fn read_document<A: Allocator, R: Read>(
 pub enum Refusal {
     /// The side isn't one of the 23 symbol sizes.
     Side,
-    /// The text is no identification.
+    /// The text is no ID.
     FileId,
     /// The text is no ticket.
     Ticket,

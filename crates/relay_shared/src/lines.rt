@@ -3,14 +3,14 @@
 
 ghost use Rattle.std.specs.Prelude.{◌≡◌};
 ghost use Rattle.relay_shared.specs.Lines.{accepted_line, id_text, imported_line, word_text};
-ghost use Rattle.relay_shared.specs.Command.{Puts};
+ghost use Rattle.relay_shared.specs.Command.{PutsText};
 
 use dm_append_label::FileId;
 use itoa::Buffer;
 use relay_streams::{Output, WriteFault};
 use std::io::Write;
 
-/// The two words of an identification in hexadecimal.
+/// The two codewords of an ID in hexadecimal.
 pub fn id_digits(id: FileId) -> [u8; 4]
     ensures { result ≡ id_text id }
 {
@@ -41,7 +41,7 @@ pub fn put_accepted<W: Write>(
     n: u8,
     kind: &str,
 ) -> Result<(), WriteFault>
-    ensures { Puts (accepted_line id m n kind.now) output.old result output.new }
+    ensures { PutsText (accepted_line id m n kind.now) output.old result output.new }
 {
     let id = id_digits(id);
     let (mut page, mut pages) = (Buffer::new(), Buffer::new());
@@ -59,7 +59,7 @@ pub fn put_imported<W: Write>(
     added: u16,
     kind: &str,
 ) -> Result<(), WriteFault>
-    ensures { Puts (imported_line id n added kind.now) output.old result output.new }
+    ensures { PutsText (imported_line id n added kind.now) output.old result output.new }
 {
     let id = id_digits(id);
     let mut digits = Buffer::new();

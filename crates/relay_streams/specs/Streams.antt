@@ -2,9 +2,7 @@
 -- line of a refusal.
 use Rattle.std.specs.Prelude.{◌≡◌, ◌<◌, ◌≤◌, ℕ, Bool, true, List, [], ◌∷◌, ◌++◌, length, take, Option, IfSome, MatchOption, Result, Err, codes}
 use Rattle.std.specs.Io.KnownBytes.{Keeps, Consumes, Appends, IsAtEnd}
-use Rattle.relay_streams.specs.declared.fault.WriteFault.{WriteFault}
-use Rattle.relay_streams.specs.declared.fault.ReadFault.{ReadFault}
-use Rattle.relay_streams.specs.declared.fault.InputFault.{InputFault}
+use Rattle.relay_streams.specs.declared.fault.{WriteFault.WriteFault, ReadFault.ReadFault, InputFault.InputFault}
 use Rattle.relay_streams.specs.declared.fault.WriteFault.TheVariants as write_faults
 use Rattle.relay_streams.specs.declared.fault.ReadFault.TheVariants as read_faults
 use Rattle.relay_streams.specs.declared.fault.InputFault.TheVariants as input_faults

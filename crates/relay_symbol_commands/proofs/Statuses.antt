@@ -3,8 +3,7 @@ use Rattle.std.specs.Prelude.{◌≡◌, ◌⊎◌, ℕ, ◌||◌, if◌then◌e
 use Rattle.std.proofs.Common.{arith, inl, inr, refl}
 use Rattle.relay_streams.specs.Streams.{OutputView, input_fault_name}
 use Rattle.relay_shared.specs.Command.{TellsRefusal, AtImage, ImageCommand, Progress, TellsFile, TellsFiles, TellsImages, TellsInputs}
-use Rattle.relay_shared.specs.Command.TellsImages.{ended, stopped}
-use Rattle.relay_shared.specs.Command.TellsFile.{not_opened, opened}
+use Rattle.relay_shared.specs.Command.{TellsImages.ended, TellsImages.stopped, TellsFile.not_opened, TellsFile.opened}
 use Rattle.relay_shared.specs.Command.TellsFiles.{last_file, next_file, no_file}
 use Rattle.relay_shared.specs.Command.TellsInputs.{of_input, of_files as of_named}
 

@@ -2,28 +2,23 @@
 use Rattle.std.specs.Prelude.{ℕ, List, ◌≡◌, ◌<◌, ◌≤◌, true, [], ◌∷◌, ◌++◌, Bool, Option, codes, ◌≢◌, false, Err}
 use Rattle.dm_append_label.specs.Labels.{PageView, id_words, head_at}
 use Rattle.dm_append_label.specs.Opening.{label_fault_name, symbol_fault, OpensAs, ReadsPage}
-use Rattle.dm_encodation.specs.Faults.{decode_fault_name, encode_fault_name}
-use Rattle.dm_encodation.specs.declared.fault.EncodeFault.TheVariants.{TooLong}
+use Rattle.dm_encodation.specs.{Faults.decode_fault_name, Faults.encode_fault_name, Written.filled, Written.need_of}
+use Rattle.dm_encodation.specs.{declared.fault.EncodeFault.TheVariants.TooLong, Grammar.ReadsOnly, Grammar.StuckOnly}
 use Rattle.dm_pbm_io.specs.FaultNames.{shape_fault_name}
 use Rattle.relay_streams.specs.Streams.{input_fault_name, InputView, OutputView}
 use Rattle.relay_streams.specs.declared.fault.InputFault.TheVariants.{Read}
 use Rattle.relay_shared.specs.Command.{refusal_name, ReadsDocument, RefusesOnErrors, RefusesOnOutput, StreamsView, TellsBytes, TellsOnOutput, ImageCommand, Said, TellsInputs, progress_at, refusal_of, NotesChange}
-use Rattle.relay_symbol_commands.specs.declared.refusal.ReadRefusal.{ReadRefusal}
+use Rattle.relay_symbol_commands.specs.declared.refusal.{ReadRefusal.ReadRefusal, SymbolRefusal.SymbolRefusal}
 use Rattle.relay_symbol_commands.specs.declared.refusal.ReadRefusal.TheVariants.{Shape, Label, Text, Memory}
-use Rattle.relay_symbol_commands.specs.declared.refusal.SymbolRefusal.{SymbolRefusal}
-use Rattle.std.specs.List.{flat_map}
-use Rattle.std.specs.Fmt.{decimal}
-use Rattle.dm_size.specs.declared.size.Size.{Size}
-use Rattle.dm_size.specs.Sizes.{IsSide, side, data_words}
+use Rattle.std.specs.{List.flat_map, Fmt.decimal}
+use Rattle.dm_size.specs.{declared.size.Size.Size, Sizes.IsSide, Sizes.side, Sizes.data_words}
 use Rattle.dm_check_blocks.specs.Blocks.{Completes}
-use Rattle.dm_encodation.specs.Written.{filled, need_of}
 use Rattle.dm_symbol.specs.Correction.{grid_of_words, CorrectsGrid, IsReadAs, data_of, words_of_grid}
 use Rattle.dm_pbm_io.specs.Image.{image_with_quiet_zone, written, HasShape, IsGridInside, Picture}
 use Rattle.relay_symbol_commands.specs.declared.document_symbol.Form.{Form}
 use Rattle.hex.specs.Hex.{encode_lower}
 use Rattle.relay_shared.specs.Lines.{hexadecimal}
 use Rattle.dm_gf256.specs.Field.{differ}
-use Rattle.dm_encodation.specs.Grammar.{ReadsOnly, StuckOnly}
 use Rattle.dm_encodation.specs.declared.fault.DecodeFault.{DecodeFault}
 use Rattle.dm_finder_frame.specs.Frame.{wrong_frame_modules, GridView}
 use Rattle.dm_symbol.specs.declared.fault.SymbolFault.{SymbolFault}
@@ -53,13 +48,13 @@ read_refusal_name read_refusals.Memory = refusal_name refusals.Memory
 
 -- The symbol that carries a document, and when there is none; and what `words` and `draw` write of it.
 
--- these words are those of the one symbol of this form that carries the document
+-- these codewords are those of the one symbol of this form that carries the document
 pub record CarriesDocument (form : Form) (document : List ℕ) (size : Size) (words : List ℕ) : Type 0 where
   pub is_side : side size ≡ form.side
   pub fits : need_of form.scheme document ≤ data_words size
   pub completed : Completes size (filled form.scheme [] document (data_words size)) words
 
--- the document on the input was read, and these words are those of its symbol
+-- the document on the input was read, and these codewords are those of its symbol
 abbrev pub ReadsSymbol : Form → InputView → InputView → Size → List ℕ → Type 0
 ReadsSymbol form input rest size words =
     (document : List ℕ) × ReadsDocument input rest document × CarriesDocument form document size words
@@ -73,12 +68,12 @@ RefusesSymbol form input rest symbol_refusals.TooLong = (size : Size) × (docume
     × ReadsDocument input rest document × (data_words size < need_of form.scheme document)
 RefusesSymbol form input rest symbol_refusals.Memory = IsSide form.side × (rest.has_failed ≡ input.has_failed)
 
--- the words in decimal, a space between each two, and a line end
+-- the codewords in decimal, a space between each two, and a line end
 abbrev pub words_line : List ℕ → List ℕ
 words_line [] = 10 ∷ []
 words_line (word ∷ words) = decimal word ++ (flat_map (λ later. 32 ∷ decimal later) words ++ 10 ∷ [])
 
--- how `words` ends, where `rest` is the input once it was read: the line of the words was written, or that of a refusal
+-- how `words` ends, where `rest` is the input once it was read: the line of codewords was written, or that of a refusal
 pub data EndsWords (form : Form) (old : StreamsView) (status : ℕ) (new : StreamsView) : Type 0 where
   told : (size : Size) (words : List ℕ) (rest : InputView) → ReadsSymbol form old.input rest size words
       → TellsOnOutput (words_line words) (record old { input = rest }) status new → EndsWords form old status new
@@ -102,25 +97,25 @@ pub data EndsDraw (form : Form) (plain : Bool) (old : StreamsView) (status : ℕ
 -- Annexes A, E and F), how images follow one another Netpbm's, and where reading ends and what a line shows this
 -- project's own rule.
 
--- how many words were corrected, how many modules of the finder patterns are wrong, the bytes, and the line's end
-abbrev pub line_end : ℕ → ℕ → List ℕ → List ℕ
-line_end corrected wrong bytes =
+-- how many codewords were corrected, how many modules of the finder patterns are wrong, the bytes, and the line's end
+abbrev pub line_tail : ℕ → ℕ → List ℕ → List ℕ
+line_tail corrected wrong bytes =
     codes " corrected " ++ (decimal corrected ++
     (codes " wrong " ++ (decimal wrong ++ (32 ∷ (hexadecimal bytes ++ 10 ∷ [])))))
 
--- `label`, the two words of the identification in hexadecimal, m and n, and the end
+-- `label`, the two codewords of the ID in hexadecimal, m and n, and the end
 abbrev pub label_line : PageView → ℕ → ℕ → List ℕ
 label_line page corrected wrong =
     codes "label " ++ (encode_lower (id_words page.id)
-    ++ (32 ∷ (decimal page.m ++ (47 ∷ (decimal page.n ++ line_end corrected wrong page.bytes)))))
+    ++ (32 ∷ (decimal page.m ++ (47 ∷ (decimal page.n ++ line_tail corrected wrong page.bytes)))))
 
 -- `symbol`, the side, and the end
 abbrev pub symbol_line : ℕ → ℕ → ℕ → List ℕ → List ℕ
-symbol_line modules corrected wrong bytes = codes "symbol " ++ (decimal modules ++ line_end corrected wrong bytes)
+symbol_line modules corrected wrong bytes = codes "symbol " ++ (decimal modules ++ line_tail corrected wrong bytes)
 
 -- ---- one grid
 
--- the grid is read as these words, and they begin with no head of a label
+-- the grid is read as these codewords, and they begin with no head of a label
 pub record HasNoHead (grid : GridView) (words : List ℕ) : Type 0 where
   pub read : IsReadAs grid words
   pub no_head : head_at (data_of grid.size words) ≡ Err NotAppended
@@ -132,8 +127,8 @@ pub data HasLine (grid : GridView) : List ℕ → Type 0 where
   symbol : (words bytes : List ℕ) → HasNoHead grid words → ReadsOnly 1 (data_of grid.size words) bytes
       → HasLine grid (symbol_line (side grid.size) (differ (words_of_grid grid) words) (wrong_frame_modules grid) bytes)
 
--- Why a grid has no line: its words can't be corrected; they have the head of a label and no page; they have no head
--- and no text; or memory was refused.
+-- Why a grid has no line: its codewords can't be corrected; they have the head of a label and no page; they have no
+-- head and no text; or memory was refused.
 pub data RefusesGrid (grid : GridView) : ReadRefusal → Type 0 where
   symbol : (fault : SymbolFault) → CorrectsGrid grid (Err fault) → RefusesGrid grid (Label (symbol_fault fault))
   page : (words : List ℕ) (fault : LabelFault) → IsReadAs grid words → fault ≢ NotAppended
@@ -156,18 +151,18 @@ abbrev pub HasPictureLine : Picture → List ℕ → Type 0
 HasPictureLine p line = (grid : GridView) × HasShape p × IsGridInside p grid × HasLine grid line
 
 -- the refusal is of the image itself, and not of what its symbol says
-abbrev pub is_of_image : ReadRefusal → Bool
-is_of_image Shape = true
-is_of_image (Label (Border wrong)) = true
-is_of_image (Label (Block block)) = true
-is_of_image refusal = false
+abbrev pub is_image_refusal : ReadRefusal → Bool
+is_image_refusal Shape = true
+is_image_refusal (Label (Border wrong)) = true
+is_image_refusal (Label (Block block)) = true
+is_image_refusal refusal = false
 
 -- what is said of a picture, and the standard error before and after it
 pub data PrintsPicture (number : ℕ) (p : Picture) (before : OutputView) : Said → OutputView → Type 0 where
   read : {line : List ℕ} → HasPictureLine p line →
       PrintsPicture number p before (record { line = line; refused = false }) before
   refused : {after : OutputView} (refusal : ReadRefusal) → RefusesPicture p refusal
-      → NotesChange (is_of_image refusal) p number (read_refusal_name refusal) before after
+      → NotesChange (is_image_refusal refusal) p number (read_refusal_name refusal) before after
       → PrintsPicture number p before (refusal_of (read_refusal_name refusal)) after
 
 -- ---- the whole input

@@ -1,5 +1,5 @@
-//! The commands of the symbol that carries the document on the standard input: `relay words`, its words in decimal, and
-//! `relay draw`, its image.
+//! The commands of the symbol that carries the document on the standard input: `relay words`, its codewords in decimal,
+//! and `relay draw`, its image.
 
 ghost use Rattle.std.specs.Prelude.{◌≡◌, length, IfOk, MatchResult, OnOk, ◌++◌, ◌∷◌, string_bytes, ◌*◌};
 ghost use Rattle.dm_size.specs.Sizes as sizes;
@@ -34,7 +34,7 @@ pub struct Form {
     pub scheme: Scheme,
 }
 
-/// The size of a symbol, and all its words.
+/// The size of a symbol, and all its codewords.
 #[derive(Drop)]
 pub(crate) struct Symbol<A: Allocator = Global> {
     pub size: Size,
@@ -92,8 +92,8 @@ fn line_of_words<A: Allocator + Copy>(alloc: A, words: &[u8]) -> Result<String<A
     Ok(line)
 }
 
-/// Reads a document and prints the words of its symbol in decimal, or the line `refused NAME`. The side is looked at
-/// first, then the input is read, at most 41,601 bytes of it, and then the document is encoded.
+/// Reads a document and prints the codewords of its symbol in decimal, or the line `refused NAME`. The side is looked
+/// at first, then the input is read, at most 41,601 bytes of it, and then the document is encoded.
 pub fn words_command<A: Allocator + Copy, R: Read, W: Write, E: Write>(
     alloc: A,
     streams: &mut Streams<R, W, E>,

@@ -3,7 +3,7 @@
 ghost use Rattle.std.specs.Prelude.{◌≡◌, ◌++◌, map, string_bytes, IfOk, OnOk, false, MatchResult, ◌⊎◌};
 ghost use Rattle.relay_shared.specs.Command.{NotesChange};
 ghost use Rattle.relay_shared.specs.Lines.{hexadecimal};
-ghost use Rattle.relay_symbol_commands.specs.Symbols.{label_line, line_end, HasLine, HasNoHead, HasPictureLine, RefusesGrid, RefusesPicture, EndsRead, is_of_image, read_images, read_refusal_name};
+ghost use Rattle.relay_symbol_commands.specs.Symbols.{label_line, line_tail, HasLine, HasNoHead, HasPictureLine, RefusesGrid, RefusesPicture, EndsRead, is_image_refusal, read_images, read_refusal_name};
 ghost use Rattle.dm_finder_frame.specs.Frame.{GridView};
 ghost use Rattle.dm_pbm_io.specs.Image.{picture};
 ghost use Rattle.dm_symbol.specs.Correction.{IsCorrectedAs};
@@ -42,7 +42,7 @@ fn push_line_end<A: Allocator + Copy>(
     bytes: &[u8],
 ) -> Result<(), AllocError>
     ensures { OnOk result
-        (string_bytes line.new ≡ string_bytes line.old ++ line_end corrected wrong bytes.now) }
+        (string_bytes line.new ≡ string_bytes line.old ++ line_tail corrected wrong bytes.now) }
 {
     let text = hexadecimal_of(alloc, bytes)?;
     write!(line, " corrected {corrected} wrong {wrong} {text}\n")?;
@@ -67,7 +67,7 @@ fn line_of_label<A: Allocator + Copy>(
     Ok(line)
 }
 
-// The line of a symbol that is no label: its text begins at its first word.
+// The line of a symbol that is no label: its text begins at its first codeword.
 fn line_of_no_label<A: Allocator + Copy>(
     alloc: A,
     symbol: &Corrected,
@@ -88,10 +88,7 @@ fn line_of_no_label<A: Allocator + Copy>(
 }
 
 // The line of a grid: that of a label first.
-fn line_of_grid<A: Allocator + Copy>(
-    alloc: A,
-    grid: &Grid<A>,
-) -> Result<String<A>, ReadRefusal>
+fn line_of_grid<A: Allocator + Copy>(alloc: A, grid: &Grid<A>) -> Result<String<A>, ReadRefusal>
     ensures { MatchResult result (λ line. HasLine grid.now (string_bytes line)) (RefusesGrid grid.now) }
 {
     let symbol = match correct_grid(grid) {
@@ -106,10 +103,7 @@ fn line_of_grid<A: Allocator + Copy>(
 }
 
 // The line of an image.
-fn line_of_image<A: Allocator + Copy>(
-    alloc: A,
-    image: &Image<A>,
-) -> Result<String<A>, ReadRefusal>
+fn line_of_image<A: Allocator + Copy>(alloc: A, image: &Image<A>) -> Result<String<A>, ReadRefusal>
     ensures { MatchResult result
         (λ line. HasPictureLine (picture image.now) (string_bytes line)) (RefusesPicture (picture image.now)) }
 {
@@ -128,7 +122,7 @@ fn note_change<A: Allocator + Copy, E: Write>(
     image: &Image<A>,
     refusal: ReadRefusal,
 )
-    ensures { NotesChange (is_of_image refusal) (picture image.now) number (read_refusal_name refusal)
+    ensures { NotesChange (is_image_refusal refusal) (picture image.now) number (read_refusal_name refusal)
         errors.old errors.new }
 {
     let ending = note_ending(alloc, image, refusal.is_of_image());

@@ -1,7 +1,7 @@
 //! Refusals, as the commands name them: each by the name of its innermost fault.
 
 ghost use Rattle.std.specs.Prelude.{◌≡◌};
-ghost use Rattle.relay_symbol_commands.specs.Symbols.{read_refusal_name, symbol_refusal_name, is_of_image};
+ghost use Rattle.relay_symbol_commands.specs.Symbols.{read_refusal_name, symbol_refusal_name, is_image_refusal};
 ghost use Rattle.relay_symbol_commands.specs.declared.refusal.ReadRefusal.TheVariants as read_refusals;
 ghost use Rattle.relay_symbol_commands.specs.declared.refusal.SymbolRefusal.TheVariants as symbol_refusals;
 
@@ -21,7 +21,7 @@ pub enum SymbolRefusal {
     Side,
     #[error("the input could not be read")]
     Read,
-    /// The document needs more words than the symbol has.
+    /// The document needs more codewords than the symbol has.
     #[error("the document does not fit the symbol")]
     TooLong,
     #[error("out of memory")]
@@ -82,7 +82,7 @@ impl ReadRefusal {
 
     // Whether it is of the image itself, and not of what its symbol says.
     pub(crate) fn is_of_image(self) -> bool
-        ensures { result ≡ is_of_image self }
+        ensures { result ≡ is_image_refusal self }
     {
         match self {
             ReadRefusal::Shape => true,

@@ -1,9 +1,7 @@
 -- When bytes show no grid.
 use Rattle.std.proofs.Common.{◌≡◌, ◌+◌, Bool, true, false, ◌++◌, ℕ, List, [], Some, arith, length, ◌∙◌, sym, subst}
-use Rattle.dm_pbm_io.specs.Header.{magic}
-use Rattle.dm_pbm_io.specs.Image.{HasShape, Picture, Refuses, Spells}
-use Rattle.dm_pbm_io.specs.Laws.{HasOneImage, IsNotRefused, IsOfBytes}
-use Rattle.dm_pbm_io.specs.declared.fault.PbmFault.{PbmFault}
+use Rattle.dm_pbm_io.specs.{Header.magic, Image.HasShape, Image.Picture, Image.Refuses, Image.Spells}
+use Rattle.dm_pbm_io.specs.{Laws.HasOneImage, Laws.IsNotRefused, Laws.IsOfBytes, declared.fault.PbmFault.PbmFault}
 use Rattle.relay_symbols.specs.Symbols.{ShowsNone}
 
 starts : (plain : Bool) (rest : List ℕ) → length (magic plain ++ rest) ≡ 2 + length rest

@@ -3,15 +3,12 @@
 use Rattle.std.specs.Prelude.{◌≡◌, ◌≢◌, ℕ, ◌<◌, ◌≤◌, ◌⊎◌, List, ◌++◌, [], length, drop, Result, Ok, Err, ℤ, pos, negsuc}
 use Rattle.dm_finder_frame.specs.Frame.{GridView, HasBadFrame}
 use Rattle.dm_pbm_io.specs.Image.{HasShape, IsGridInside, p4, Picture, Spells}
-use Rattle.dm_size.specs.declared.size.Size.{Size}
-use Rattle.dm_size.specs.Sizes.{IsSide, side, all_words, data_words}
-use Rattle.dm_encodation.specs.declared.fault.DecodeFault.{DecodeFault}
-use Rattle.dm_encodation.specs.declared.scheme.Scheme.TheVariants.{Ascii}
+use Rattle.dm_size.specs.{declared.size.Size.Size, Sizes.IsSide, Sizes.side, Sizes.all_words, Sizes.data_words}
+use Rattle.dm_encodation.specs.declared.{fault.DecodeFault.DecodeFault, scheme.Scheme.TheVariants.Ascii}
 use Rattle.dm_append_label.specs.Labels.{Seals, PageView, IsHead, IsTooLong, head_of}
 use Rattle.dm_append_label.specs.Opening.{HasBadHead, HasBadText, OpensAs}
 use Rattle.dm_append_label.specs.declared.fault.LabelFault.{LabelFault}
-use Rattle.dm_encodation.specs.Grammar.{ReadsOnly, StuckOnly}
-use Rattle.dm_encodation.specs.Written.{filled, need_of}
+use Rattle.dm_encodation.specs.{Grammar.ReadsOnly, Grammar.StuckOnly, Written.filled, Written.need_of}
 use Rattle.dm_symbol.specs.Correction.{HasBadBlock, IsReadAs, DrawsSymbol, data_of, grid_of_words}
 use Rattle.relay_symbols.specs.declared.refusal.Refusal.{Refusal}
 use Rattle.relay_symbols.specs.declared.refusal.Refusal.TheVariants.{NoSide, WordCount, NoPage, TooLong, NoSymbol, TooManyWrong, NoLabel, NoText, NoRoom, NoMemory}
@@ -31,13 +28,13 @@ code_of NoMemory = negsuc 9
 
 -- What a call answers that may find these bytes or refusals: how many bytes it put at the front of the caller's, which
 -- were `old` and are `new`, or the number of a refusal.
-pub data Answers (MayFind : Result (List ℕ) Refusal → Type 0) (old new : List ℕ) (answer : ℤ) : Type 0 where
+pub data AnswersCode (MayFind : Result (List ℕ) Refusal → Type 0) (old new : List ℕ) (answer : ℤ) : Type 0 where
   found : (bytes : List ℕ) → MayFind (Ok bytes) → length bytes ≤ length old → new ≡ bytes ++ drop (length bytes) old
-      → answer ≡ pos (length bytes) → Answers MayFind old new answer
+      → answer ≡ pos (length bytes) → AnswersCode MayFind old new answer
   no_room : (bytes : List ℕ) → MayFind (Ok bytes) → length old < length bytes → new ≡ old → answer ≡ code_of NoRoom
-      → Answers MayFind old new answer
+      → AnswersCode MayFind old new answer
   refused : (refusal : Refusal) → MayFind (Err refusal) → new ≡ old → answer ≡ code_of refusal
-      → Answers MayFind old new answer
+      → AnswersCode MayFind old new answer
 
 -- ---- Drawing. The text of a symbol is in ASCII encodation, with no head (ISO/IEC 16022:2006, 5.2).
 
@@ -45,7 +42,7 @@ pub data Answers (MayFind : Result (List ℕ) Refusal → Type 0) (old new : Lis
 abbrev pub OfSide : ℕ → (Size → Type 0) → Type 0
 OfSide n P = (size : Size) × (side size ≡ n) × P size
 
--- the image of the grid of all words of a symbol of this side
+-- the image of the grid of all codewords of a symbol of this side
 abbrev pub DrawsWords : ℕ → List ℕ → Result (List ℕ) Refusal → Type 0
 DrawsWords n words (Ok image) =
     OfSide n (λ size. (length words ≡ all_words size) × (image ≡ p4 (grid_of_words size words)))
@@ -93,11 +90,11 @@ OfImage bytes P = (grid : GridView) × ShowsGrid bytes grid × P grid
 abbrev pub ShowsNone : List ℕ → Type 0
 ShowsNone bytes = (grid : GridView) → ShowsGrid bytes grid → ⊥
 
--- more modules of the finder patterns, or more words of a block, are wrong than may be
+-- more modules of the finder patterns, or more codewords of a block, are wrong than may be
 abbrev pub IsTooWrong : GridView → Type 0
 IsTooWrong grid = ((wrong : ℕ) × HasBadFrame grid wrong) ⊎ ((block : ℕ) × HasBadBlock grid block)
 
--- the text that the words of the symbol, corrected, read as
+-- the text that the codewords of the symbol, corrected, read as
 abbrev pub ReadsText : List ℕ → Result (List ℕ) Refusal → Type 0
 ReadsText bytes (Ok text) = OfImage bytes (λ grid.
     (words : List ℕ) × IsReadAs grid words × ReadsOnly 1 (data_of grid.size words) text)
@@ -109,12 +106,12 @@ ReadsText bytes (Err NoMemory) = Unit {0}
 ReadsText bytes (Err _) = ⊥
 
 -- the bytes of the page that the symbol opens as
-abbrev pub ReadsPage : List ℕ → Result (List ℕ) Refusal → Type 0
-ReadsPage bytes (Ok text) = OfImage bytes (λ grid.
+abbrev pub BeginsWithPage : List ℕ → Result (List ℕ) Refusal → Type 0
+BeginsWithPage bytes (Ok text) = OfImage bytes (λ grid.
     (page : PageView) × (corrected : ℕ) × (wrong : ℕ) × OpensAs grid page corrected wrong × (text ≡ page.bytes))
-ReadsPage bytes (Err NoSymbol) = ShowsNone bytes
-ReadsPage bytes (Err TooManyWrong) = OfImage bytes IsTooWrong
-ReadsPage bytes (Err NoLabel) = OfImage bytes (λ grid. (fault : LabelFault) × HasBadHead grid fault)
-ReadsPage bytes (Err NoText) = OfImage bytes (λ grid. (fault : DecodeFault) × HasBadText grid fault)
-ReadsPage bytes (Err NoMemory) = Unit {0}
-ReadsPage bytes (Err _) = ⊥
+BeginsWithPage bytes (Err NoSymbol) = ShowsNone bytes
+BeginsWithPage bytes (Err TooManyWrong) = OfImage bytes IsTooWrong
+BeginsWithPage bytes (Err NoLabel) = OfImage bytes (λ grid. (fault : LabelFault) × HasBadHead grid fault)
+BeginsWithPage bytes (Err NoText) = OfImage bytes (λ grid. (fault : DecodeFault) × HasBadText grid fault)
+BeginsWithPage bytes (Err NoMemory) = Unit {0}
+BeginsWithPage bytes (Err _) = ⊥

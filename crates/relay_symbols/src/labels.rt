@@ -2,7 +2,7 @@
 
 ghost use Rattle.std.specs.Prelude.{◌≡◌, ◌⊎◌, Ok, Err, MatchResult};
 ghost use Rattle.dm_append_label.specs.Labels.{IsHead};
-ghost use Rattle.relay_symbols.specs.Symbols.{Answers, DrawsLabel, ReadsPage};
+ghost use Rattle.relay_symbols.specs.Symbols.{AnswersCode, DrawsLabel, BeginsWithPage};
 ghost use Rattle.relay_symbols.specs.declared.refusal.Refusal.TheVariants.{NoPage, NoMemory};
 
 use crate::images::{grid_from, grid_image};
@@ -12,8 +12,8 @@ use dm_encodation::Scheme;
 use dm_size::Size;
 use std::alloc::{Allocator, Global};
 
-// The page of a text: page m of n of the document of an identification, given by its number.
-fn page_of<A: Allocator + Copy>(
+// The page of a text: page m of n of the document of an ID, given by its number.
+fn page_of_text<A: Allocator + Copy>(
     alloc: A,
     id: u16,
     m: u8,
@@ -50,7 +50,7 @@ fn label_image<A: Allocator + Copy>(
     let Some(size) = Size::of_side(side) else {
         return Err(Refusal::NoSide);
     };
-    let page = page_of(alloc, id, m, n, text)?;
+    let page = page_of_text(alloc, id, m, n, text)?;
     let label = match seal(alloc, &page, size, Scheme::Ascii) {
         Ok(label) => label,
         Err(SealFault::TooLong) => return Err(Refusal::TooLong),
@@ -59,7 +59,7 @@ fn label_image<A: Allocator + Copy>(
     Ok(grid_image(alloc, &label)?)
 }
 
-/// Draws the label of this side of page `m` of `n` that has this text, under the file identification of this number, in
+/// Draws the label of this side of page `m` of `n` that has this text, under the ID of this number, in
 /// ASCII encodation. Answers how many bytes its image has, which are then at the front of `image`; or -1 (no size has
 /// this side), -3 (the number is above 64,515, or there is no such page: `n` is 2 to 16, `m` 1 to `n`), -4 (the text
 /// does not fit after the head), -9 (the image has no room) or -10 (memory was refused), and leaves `image` as it was.
@@ -73,7 +73,7 @@ pub extern "C" fn relay_label_from_text(
     text: &[u8],
     image: &mut [u8],
 ) -> isize
-    ensures { Answers (DrawsLabel side (record { id = id; m = m; n = n; bytes = text.now }))
+    ensures { AnswersCode (DrawsLabel side (record { id = id; m = m; n = n; bytes = text.now }))
         image.old image.new result }
 {
     answer(label_image(alloc, side, id, m, n, text), image)
@@ -81,8 +81,8 @@ pub extern "C" fn relay_label_from_text(
 
 // The bytes of the page of the label of an image.
 fn page_bytes<A: Allocator + Copy>(alloc: A, image: &[u8]) -> Result<Vec<u8, A>, Refusal>
-    ensures { MatchResult result (λ bytes. ReadsPage image.now (Ok bytes.items))
-        (λ refusal. ReadsPage image.now (Err refusal)) }
+    ensures { MatchResult result (λ bytes. BeginsWithPage image.now (Ok bytes.items))
+        (λ refusal. BeginsWithPage image.now (Err refusal)) }
 {
     let grid = grid_from(alloc, image)?;
     match open_label(alloc, &grid) {
@@ -95,12 +95,12 @@ fn page_bytes<A: Allocator + Copy>(alloc: A, image: &[u8]) -> Result<Vec<u8, A>,
 }
 
 /// Opens the label of the image that `image` begins with, and corrects it. Answers the number of its page's bytes,
-/// which are then at the front of `bytes`; or -5 (`image` begins with no image of a symbol), -6 (too many words, or
-/// modules of the finder patterns, are wrong), -7 (the words have no head), -8 (there is no text after it), -9 (the
+/// which are then at the front of `bytes`; or -5 (`image` begins with no image of a symbol), -6 (too many codewords, or
+/// modules of the finder patterns, are wrong), -7 (the codewords have no head), -8 (there is no text after it), -9 (the
 /// bytes have no room) or -10 (memory was refused), and leaves `bytes` as they were.
 #[unsafe(no_mangle)]
 pub extern "C" fn relay_page_from_image(alloc: Global, image: &[u8], bytes: &mut [u8]) -> isize
-    ensures { Answers (ReadsPage image.now) bytes.old bytes.new result }
+    ensures { AnswersCode (BeginsWithPage image.now) bytes.old bytes.new result }
 {
     answer(page_bytes(alloc, image), bytes)
 }

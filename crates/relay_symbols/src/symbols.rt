@@ -1,7 +1,7 @@
 //! Symbols for programs in C.
 
 ghost use Rattle.std.specs.Prelude.{Ok, Err, MatchResult};
-ghost use Rattle.relay_symbols.specs.Symbols.{Answers, DrawsText, DrawsWords, ReadsText};
+ghost use Rattle.relay_symbols.specs.Symbols.{AnswersCode, DrawsText, DrawsWords, ReadsText};
 
 use crate::images::{grid_from, grid_image};
 use crate::refusal::{Refusal, answer};
@@ -39,12 +39,12 @@ pub extern "C" fn relay_symbol_from_text(
     text: &[u8],
     image: &mut [u8],
 ) -> isize
-    ensures { Answers (DrawsText side text.now) image.old image.new result }
+    ensures { AnswersCode (DrawsText side text.now) image.old image.new result }
 {
     answer(text_image(alloc, side, text), image)
 }
 
-// The bytes of the image of a symbol's words, if they are as many as it has.
+// The bytes of the image of a symbol's codewords, if they are as many as it has.
 fn words_image<A: Allocator + Copy>(
     alloc: A,
     side: u16,
@@ -64,10 +64,10 @@ fn words_image<A: Allocator + Copy>(
     Ok(grid_image(alloc, &grid)?)
 }
 
-/// Draws the grid of all words of a symbol of this side, data words first, whether they are those of a symbol or not.
-/// Answers how many bytes its image has, which are then at the front of `image`; or -1 (no size has this side), -2 (the
-/// words are not as many as it has), -9 (the image has no room) or -10 (memory was refused), and leaves `image` as it
-/// was.
+/// Draws the grid of all codewords of a symbol of this side, data codewords first, whether they are those of a symbol
+/// or not. Answers how many bytes its image has, which are then at the front of `image`; or -1 (no size has this side),
+/// -2 (the codewords are not as many as it has), -9 (the image has no room) or -10 (memory was refused), and leaves
+/// `image` as it was.
 #[unsafe(no_mangle)]
 pub extern "C" fn relay_image_from_words(
     alloc: Global,
@@ -75,7 +75,7 @@ pub extern "C" fn relay_image_from_words(
     words: &[u8],
     image: &mut [u8],
 ) -> isize
-    ensures { Answers (DrawsWords side words.now) image.old image.new result }
+    ensures { AnswersCode (DrawsWords side words.now) image.old image.new result }
 {
     answer(words_image(alloc, side, words), image)
 }
@@ -97,12 +97,12 @@ fn text_of<A: Allocator + Copy>(alloc: A, image: &[u8]) -> Result<Vec<u8, A>, Re
 }
 
 /// Reads the symbol of the image that `image` begins with, and corrects it. Answers the length of its text, which is
-/// then at the front of `text`; or -5 (`image` begins with no image of a symbol), -6 (too many words, or modules of the
-/// finder patterns, are wrong), -8 (the words are no text), -9 (the text has no room) or -10 (memory was refused), and
-/// leaves `text` as it was.
+/// then at the front of `text`; or -5 (`image` begins with no image of a symbol), -6 (too many codewords, or modules of
+/// the finder patterns, are wrong), -8 (the codewords are no text), -9 (the text has no room) or -10 (memory was
+/// refused), and leaves `text` as it was.
 #[unsafe(no_mangle)]
 pub extern "C" fn relay_text_from_image(alloc: Global, image: &[u8], text: &mut [u8]) -> isize
-    ensures { Answers (ReadsText image.now) text.old text.new result }
+    ensures { AnswersCode (ReadsText image.now) text.old text.new result }
 {
     answer(text_of(alloc, image), text)
 }

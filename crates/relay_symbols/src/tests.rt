@@ -3,7 +3,7 @@ use crate::{
     relay_text_from_image,
 };
 
-// All words of the symbol of side 10 that carries the digits 123456, and its image.
+// All codewords of the symbol of side 10 that carries the digits 123456, and its image.
 const WORDS: [u8; 8] = [142, 164, 186, 114, 25, 5, 88, 102];
 
 const IMAGE: &[u8] = b"P4\n12 12\n\
@@ -32,7 +32,8 @@ fn draws_and_reads_the_worked_example(rt: HostRuntime) {
     }
 }
 
-// `ABC` in C40, `abc` in Text and two bytes in Base 256, each with a pad, by the standard's tables; then check words.
+// `ABC` in C40, `abc` in Text and two bytes in Base 256, each with a pad, by the standard's tables; then error
+// correction codewords.
 #[test]
 fn reads_the_other_encodations(rt: HostRuntime) {
     let symbols: [([u8; 12], &[u8]); 3] = [
@@ -126,8 +127,8 @@ fn refuses_to_draw_and_writes_nothing(rt: HostRuntime) {
     assert!(rt; small == [7; 32]);
 }
 
-// What no image of a symbol is, too many wrong modules, words that are cut off, a symbol that is no label, a head that
-// is wrong, and no room for the text.
+// What no image of a symbol is, too many wrong modules, codewords that are cut off, a symbol that is no label, a head
+// that is wrong, and no room for the text.
 #[test]
 fn refuses_to_read_and_writes_nothing(rt: HostRuntime) {
     let mut text = [7; 5];

@@ -1,23 +1,19 @@
 -- From the lines of single answers to those of all.
 use Rattle.std.proofs.Common.{◌≡◌, ◌⊎◌, inl, inr, Bool, true, false, ◌||◌, ℕ, List, [], ◌∷◌, Result, Ok, Err, refl, ap, sym, ◌∙◌, subst}
 use Rattle.std.specs.Prelude.{if◌then◌else◌}
-use Rattle.std.specs.List.{flat_map}
-use Rattle.std.proofs.lemmas.Bool.{or_right}
-use Rattle.std.specs.Io.KnownBytes.{Appends}
-use Rattle.std.proofs.KnownBytes.{Appends-nil, Appends-trans}
-use Rattle.dm_event_world.specs.Shows.{HearsAll}
-use Rattle.dm_event_world.specs.declared.answers.Answer.{Answer}
-use Rattle.relay_streams.specs.Streams.{AppendsPart, OutputView}
-use Rattle.relay_streams.specs.declared.fault.WriteFault.{WriteFault}
+use Rattle.std.specs.{List.flat_map, Io.KnownBytes.Appends}
+use Rattle.std.proofs.{lemmas.Bool.or_right, KnownBytes.Appends-nil, KnownBytes.Appends-trans}
+use Rattle.dm_event_world.specs.{Shows.HearsAll, declared.answers.Answer.Answer}
+use Rattle.relay_streams.specs.{Streams.AppendsPart, Streams.OutputView, declared.fault.WriteFault.WriteFault}
 use Rattle.relay_streams.specs.declared.fault.WriteFault.TheVariants.{Write}
 use Rattle.relay_streams.proofs.Parts.{part_after, part_more, part_none, part_whole}
-use Rattle.relay_shared.specs.Command.{Puts}
+use Rattle.relay_shared.specs.Command.{PutsText}
 use Rattle.relay_world_command.specs.World.{answer_line, has_refusal, is_refused_answer, TellsAnswers}
 
 -- the line of one answer: it is written unless the output has failed before, and it is kept whether it is of a refusal
 abbrev pub PutsAnswer : {A : Type 0} → Answer A → OutputView → Bool → OutputView → Bool → Type 0
 PutsAnswer answer old before new after = (after ≡ (before || is_refused_answer answer))
-    × (old.has_failed ≡ false → (put : Result (Unit {0}) WriteFault) × Puts (answer_line answer) old put new)
+    × (old.has_failed ≡ false → (put : Result (Unit {0}) WriteFault) × PutsText (answer_line answer) old put new)
     × (old.has_failed ≡ true → new ≡ old)
 
 -- the lines are out, or the output has failed, with a part of them
@@ -41,7 +37,7 @@ or_none false = refl
 
 -- what was written before, and the lines after it
 out_more : {A : Type 0} (answer : Answer A) (answers : List (Answer A)) (old mid new : OutputView)
-    (put : Result (Unit {0}) WriteFault) → Puts (answer_line answer) old put mid
+    (put : Result (Unit {0}) WriteFault) → PutsText (answer_line answer) old put mid
     → Out answers mid new → (mid.has_failed ≡ true → new ≡ mid) → Out (answer ∷ answers) old new
 out_more answer answers old mid new (Ok x) puts (inl all) stuck =
     inl (Appends-trans _ _ _ _ _ puts.written all)
@@ -53,7 +49,7 @@ out_more answer answers old mid new (Err e) puts later stuck =
 
 out_by : {A : Type 0} (answer : Answer A) (answers : List (Answer A)) (old mid new : OutputView) (failed : Bool)
     → old.has_failed ≡ failed
-    → (old.has_failed ≡ false → (put : Result (Unit {0}) WriteFault) × Puts (answer_line answer) old put mid)
+    → (old.has_failed ≡ false → (put : Result (Unit {0}) WriteFault) × PutsText (answer_line answer) old put mid)
     → (old.has_failed ≡ true → mid ≡ old) → Out answers mid new → (mid.has_failed ≡ true → new ≡ mid)
     → Out (answer ∷ answers) old new
 out_by answer answers old mid new false is puts same later stuck =
@@ -97,13 +93,13 @@ unchanged name hears each first (answer ∷ answers) last heard =
 
 -- what was put of the lines
 pub put_of : {A : Type 0} (answers : List (Answer A)) (old new : OutputView) → Out answers old new →
-    (put : Result (Unit {0}) WriteFault) × Puts (flat_map answer_line answers) old put new
+    (put : Result (Unit {0}) WriteFault) × PutsText (flat_map answer_line answers) old put new
 put_of answers old new (inl all) = (Ok tt, record { written = all; part = part_whole _ _ _ all; failed = tt })
 put_of answers old new (inr part) = (Err Write, record { written = tt; part = part.1; failed = part.0 })
 
 -- the exit status after the lines
 pub tells : {A : Type 0} (answers : List (Answer A)) (old new : OutputView) (put : Result (Unit {0}) WriteFault)
-    (refused failed : Bool) (status : ℕ) → Puts (flat_map answer_line answers) old put new →
+    (refused failed : Bool) (status : ℕ) → PutsText (flat_map answer_line answers) old put new →
     refused ≡ has_refusal answers → failed ≡ new.has_failed → status ≡ (if refused || failed then 1 else 0) →
     TellsAnswers answers old status new
 tells answers old new put refused true status puts is failed told =

@@ -1,32 +1,27 @@
 -- What `world` writes: the answers to the events of a script. What their lines show is this project's own rule.
 use Rattle.std.specs.Prelude.{ℕ, Bool, true, false, List, [], ◌∷◌, ◌++◌, ◌/◌, ◌%◌, if◌then◌else◌, codes, ◌+◌, Err}
-use Rattle.std.specs.Fmt.{decimal}
-use Rattle.std.specs.List.{list_any, flat_map}
+use Rattle.std.specs.{Fmt.decimal, List.list_any, List.flat_map}
 use Rattle.hex.specs.Hex.{encode_lower}
 use Rattle.dm_print_ledger.specs.Verdicts.{print_fault_name, give_fault_name, take_fault_name, open_fault_name}
 use Rattle.dm_print_ledger.specs.Ledger.{ticket_bytes}
 use Rattle.dm_assembly_desk.specs.Desk.{scan_fault_name, ask_fault_name, forget_fault_name, export_fault_name, import_fault_name, desk_fault_name, kind_name}
 use Rattle.dm_event_history.specs.declared.reply.Reply.{Reply}
 use Rattle.dm_event_history.specs.declared.reply.Reply.TheVariants.{Printed, PrintRefused, Scanned, ScanRefused, Document, AskRefused, Forgotten, ForgetRefused, Given, GiveRefused, Taken, TakeRefused, Exported, ExportRefused, Imported, ImportRefused, Restarted, PrinterRefused, DeskRefused, Stopped, Down, NoSuch, Memory}
-use Rattle.dm_event_world.specs.declared.answers.Answer.{Answer}
+use Rattle.dm_event_world.specs.declared.{answers.Answer.Answer, fault.WorldFault.WorldFault}
 use Rattle.dm_event_world.specs.declared.answers.Answer.TheVariants as answer_kinds
 use Rattle.relay_streams.specs.Streams.{refused_line, input_fault_name, InputView, OutputView, ReadsFirst}
 use Rattle.relay_shared.specs.Lines.{accepted_line, imported_line, id_text, word_text, hexadecimal}
 use Rattle.dm_event_world.specs.Shows.{IsWatched, HasWorldFault, world_fault_name}
-use Rattle.dm_event_world.specs.declared.fault.WorldFault.{WorldFault}
 use Rattle.relay_streams.specs.declared.fault.InputFault.{InputFault}
-use Rattle.relay_script.specs.Scripts.{IsScript}
-use Rattle.relay_script.specs.Words.{IsRead, script_fault_name}
-use Rattle.relay_script.specs.declared.words.ScriptFault.{ScriptFault}
-use Rattle.relay_script.specs.declared.script.Script.{Script}
-use Rattle.relay_script.specs.declared.script.TheConstants.{SCRIPT_BYTES}
+use Rattle.relay_script.specs.{Scripts.IsScript, Words.IsRead, Words.script_fault_name, declared.script.Script.Script}
+use Rattle.relay_script.specs.declared.{words.ScriptFault.ScriptFault, script.TheConstants.SCRIPT_BYTES}
 use Rattle.relay_shared.specs.Command.{HasInputFault, StreamsView, Tells, TellsRefusal}
 
 -- the number of the first label, how many they are, and the line's end
 abbrev pub label_numbers : ℕ → ℕ → List ℕ
 label_numbers first count = 32 ∷ (decimal first ++ (32 ∷ (decimal count ++ 10 ∷ [])))
 
--- `printed`, the two words of the identification in hexadecimal, and which labels they are
+-- `printed`, the two codewords of the ID in hexadecimal, and which labels they are
 abbrev pub labels_line : ℕ → ℕ → ℕ → List ℕ
 labels_line id first count = codes "printed " ++ (id_text id ++ label_numbers first count)
 
@@ -43,7 +38,7 @@ numbered_ticket_line index bytes = codes "ticket " ++ (decimal index ++ (32 ∷ 
 abbrev pub export_end : ℕ → ℕ → List ℕ
 export_end n mask = 32 ∷ (decimal n ++ (32 ∷ (word_text mask ++ 10 ∷ [])))
 
--- `export`, its number, the identification, and the end
+-- `export`, its number, the ID, and the end
 abbrev pub export_line : ℕ → ℕ → ℕ → ℕ → List ℕ
 export_line index id n mask = codes "export " ++ (decimal index ++ (32 ∷ (id_text id ++ export_end n mask)))
 

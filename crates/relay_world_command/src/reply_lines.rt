@@ -3,7 +3,7 @@
 ghost use Rattle.std.specs.Prelude.{◌≡◌, [], codes, if◌then◌else◌};
 ghost use Rattle.hex.specs.Hex.{encode_lower};
 ghost use Rattle.dm_print_ledger.specs.Ledger.{ticket_bytes};
-ghost use Rattle.relay_shared.specs.Command.{Puts};
+ghost use Rattle.relay_shared.specs.Command.{PutsText};
 ghost use Rattle.relay_world_command.specs.World.{answer_line, document_line, export_line, is_refusal, is_refused_answer, labels_line, numbered_ticket_line, reply_line};
 
 use dm_append_label::FileId;
@@ -17,7 +17,7 @@ use std::alloc::Allocator;
 use std::io::Write;
 
 fn put_hex<W: Write>(output: &mut Output<W>, bytes: &[u8]) -> Result<(), WriteFault>
-    ensures { Puts (encode_lower bytes.now) output.old result output.new }
+    ensures { PutsText (encode_lower bytes.now) output.old result output.new }
 {
     let mut digits = [0u8; 2];
     for byte in bytes {
@@ -30,7 +30,7 @@ fn put_hex<W: Write>(output: &mut Output<W>, bytes: &[u8]) -> Result<(), WriteFa
 }
 
 fn put_document<W: Write>(output: &mut Output<W>, bytes: &[u8]) -> Result<(), WriteFault>
-    ensures { Puts (document_line bytes.now) output.old result output.new }
+    ensures { PutsText (document_line bytes.now) output.old result output.new }
 {
     if bytes.is_empty() {
         return output.put(b"document -\n");
@@ -46,7 +46,7 @@ fn put_labels<W: Write>(
     first: usize,
     count: u8,
 ) -> Result<(), WriteFault>
-    ensures { Puts (labels_line id first count) output.old result output.new }
+    ensures { PutsText (labels_line id first count) output.old result output.new }
 {
     let id = id_digits(id);
     let (mut digits, mut counted) = (Buffer::new(), Buffer::new());
@@ -60,7 +60,7 @@ fn put_given<W: Write>(
     index: usize,
     ticket: Ticket,
 ) -> Result<(), WriteFault>
-    ensures { Puts (numbered_ticket_line index (ticket_bytes ticket)) output.old result output.new }
+    ensures { PutsText (numbered_ticket_line index (ticket_bytes ticket)) output.old result output.new }
 {
     let mut digits = Buffer::new();
     let mut bytes = [0u8; 20];
@@ -78,7 +78,7 @@ fn put_exported<W: Write>(
     n: u8,
     mask: u16,
 ) -> Result<(), WriteFault>
-    ensures { Puts (export_line index id n mask) output.old result output.new }
+    ensures { PutsText (export_line index id n mask) output.old result output.new }
 {
     let (id, mask) = (id_digits(id), word_digits(mask));
     let (mut digits, mut pages) = (Buffer::new(), Buffer::new());
@@ -91,7 +91,7 @@ fn put_reply<A: Allocator, W: Write>(
     output: &mut Output<W>,
     reply: &Reply<A>,
 ) -> Result<(), WriteFault>
-    ensures { Puts (reply_line reply.now) output.old result output.new }
+    ensures { PutsText (reply_line reply.now) output.old result output.new }
 {
     match reply {
         Reply::Printed { id, first, count } => put_labels(output, *id, *first, *count),
@@ -152,7 +152,7 @@ pub(crate) fn put_answer<A: Allocator, W: Write>(
     output: &mut Output<W>,
     answer: &Answer<A>,
 ) -> Result<(), WriteFault>
-    ensures { Puts (answer_line answer.now) output.old result output.new }
+    ensures { PutsText (answer_line answer.now) output.old result output.new }
 {
     let Answer::Given { is_honest, reply } = answer else {
         return output.put_refusal("Memory");

@@ -6,7 +6,7 @@ ghost use Rattle.relay_streams.specs.Streams.{TakesPart};
 ghost use Rattle.relay_streams.specs.declared.fault.WriteFault.{WriteFault};
 ghost use Rattle.dm_event_world.specs.Shows.{IsWatched, HasWorldFault};
 ghost use Rattle.dm_event_world.specs.declared.answers.Answer.{Answer};
-ghost use Rattle.relay_shared.specs.Command.{LeavesErrors, Puts};
+ghost use Rattle.relay_shared.specs.Command.{LeavesErrors, PutsText};
 ghost use Rattle.relay_world_command.specs.World.{answer_line, has_refusal, is_refused_answer, EndsWorld};
 
 use crate::reply_lines::{is_refused_answer, put_answer};
@@ -32,7 +32,7 @@ impl<A: Allocator + Copy, W: Write> Listener<A> for Lines<'_, W> {
     ghost hears = { λ before answer after. (after.output.ghost_name ≡ before.output.ghost_name)
         × (after.refused ≡ (before.refused || is_refused_answer answer))
         × (before.output.now.has_failed ≡ false → (put : Result (Unit {0}) WriteFault)
-        × Puts (answer_line answer) before.output.now put after.output.now)
+        × PutsText (answer_line answer) before.output.now put after.output.now)
         × (before.output.now.has_failed ≡ true → after.output.now ≡ before.output.now) };
 
     fn hear(&mut self, answer: &Answer<A>) {
@@ -53,7 +53,7 @@ fn play<A: Allocator + Copy, W: Write>(
     ensures played { IfOk result (λ refused. (answers : List (Answer A))
         × IsWatched script.now.ranges.items script.now.capacities.items script.now.events.items answers
         × (refused ≡ has_refusal answers) × (put : Result (Unit {0}) WriteFault)
-        × Puts (flat_map answer_line answers) output.old put output.new) }
+        × PutsText (flat_map answer_line answers) output.old put output.new) }
     ensures refused { IfErr result (HasWorldFault script.now.ranges.items script.now.capacities.items) }
     ensures silent { OnErr result (output.new ≡ output.old) }
 {
@@ -67,7 +67,7 @@ fn play<A: Allocator + Copy, W: Write>(
 }
 
 /// Reads a script, at most 1,048,577 bytes of it, begins its world, and prints a line for each of its events: what was
-/// answered, or `refused NAME`. The line begins with `! ` if the event is a scan in which more words of a block are
+/// answered, or `refused NAME`. The line begins with `! ` if the event is a scan in which more codewords of a block are
 /// wrong than can be corrected; if memory to find that out is refused, the line is `refused Memory` and the event does
 /// not come. If the text is no script, or its world can't begin, one line `refused NAME` is written. The exit status is
 /// 1 if a line is of a refusal.

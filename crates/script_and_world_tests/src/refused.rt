@@ -32,8 +32,8 @@ const FAILING: &str =
 
 const FAILED: &str = "save,failed,restarted,printed";
 
-// Printers that are stopped after their saves: the first identification is used by a label that left, the second by
-// none, so the third label that is there is the second of the third identification.
+// Printers that are stopped after their saves: the first ID is used by a label that left, the second by
+// none, so the third label that is there is the second of the third ID.
 const STOPPING_PRINTERS: &str =
     "range 0 9\nrange 10 19\ndesks 1 4\nprint 0 12 ascii 31323334 after:1\n\
     restart printer 0\nprint 0 12 ascii 35363738 in-new\nrestart printer 0\nprint 0 12 ascii 35363738 -\n\

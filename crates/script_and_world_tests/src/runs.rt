@@ -22,7 +22,7 @@ fn a_run_answers_each_event_and_leaves_what_left(rt: HostRuntime) -> Result<(), 
     for event in &script.events {
         assert!(rt; is_honest(&world, event)?);
     }
-    let id = FileId::of_words(1, 1).ok_or("no identification")?;
+    let id = FileId::of_words(1, 1).ok_or("no ID")?;
     assert!(rt; world.labels() == 2 && world.label(2).is_none());
     for (place, number) in [(0, 1), (1, 2)] {
         assert!(rt; world.label(place) == Some((id, number, 2)));

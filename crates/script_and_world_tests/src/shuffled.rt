@@ -1,4 +1,4 @@
-//! Scripts that a generator makes: whatever comes, no identification is printed twice, each document that is given was
+//! Scripts that a generator makes: whatever comes, no ID is printed twice, each document that is given was
 //! printed, and no event is refused for lack of memory, which is there.
 
 use relay_shared::Streams;
@@ -11,7 +11,7 @@ const SCRIPTS: u32 = 10_000;
 
 const EVENTS: u32 = 14;
 
-// Three printers with three identifications each, and three desks with room for two documents each.
+// Three printers with three IDs each, and three desks with room for two documents each.
 const BEGINNING: &str = "range 0 2\nrange 3 5\nrange 6 8\ndesks 3 2\n";
 
 const BEGINNING_LINES: usize = 4;
@@ -120,7 +120,7 @@ fn script_of(alloc: Global, numbers: &mut Numbers) -> Result<String, AllocError>
 // What the lines of a script have told so far.
 #[derive(Drop)]
 struct Told<'a> {
-    // The identification and the document of each print that told of itself.
+    // The ID and the document of each print that told of itself.
     printed: Vec<(&'a str, &'a str)>,
     // The documents of prints that were stopped.
     stopped: Vec<&'a str>,
@@ -133,7 +133,7 @@ fn word(line: &str, number: usize) -> &str {
 }
 
 impl<'a> Told<'a> {
-    // Whether a document that was given was printed under its identification, as far as the lines tell.
+    // Whether a document that was given was printed under its ID, as far as the lines tell.
     fn has(&self, id: &str, document: &str) -> bool {
         match self.printed.iter().find(|print| print.0 == id) {
             Some(print) => print.1 == document,

@@ -3,12 +3,9 @@
 use Rattle.std.proofs.Common.{◌≡◌, ◌≢◌, ◌<◌, ◌≤◌, ◌+◌, ◌-◌, ◌^◌, ℕ, suc, Bool, true, false, List, [], ◌∷◌, ◌++◌, None, drop, take, ◌∙◌, ⊎_elim, length, get_or, refl, sym, ap, arith, add-one, length-append}
 use Rattle.std.specs.Prelude.{codes, if◌then◌else◌}
 use Rattle.std.specs.Str.{bytes_eq}
-use Rattle.std.proofs.lemmas.List.{drop_at, take_all}
-use Rattle.std.proofs.lemmas.Slice.Eq.{bytes_eq-Decides}
-use Rattle.dm_store.specs.Disk.{Content, held_below, key_name, key_path, with_found}
-use Rattle.dm_store.specs.Saved.{Contents}
+use Rattle.std.proofs.lemmas.{List.drop_at, List.take_all, Slice.Eq.bytes_eq-Decides, Bool.cases_lt}
+use Rattle.dm_store.specs.{Disk.Content, Disk.held_below, Disk.key_name, Disk.key_path, Disk.with_found, Saved.Contents}
 use Rattle.dm_store.proofs.Held.{held_above, held_at, known}
-use Rattle.std.proofs.lemmas.Bool.{cases_lt}
 
 four : (key : ℕ) → length (key_name key) ≡ 4
 unfolding key_name

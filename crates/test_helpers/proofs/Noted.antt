@@ -1,16 +1,11 @@
 -- A sync of an entry, or of those of a folder, that is noted meets the contract of a disk.
 use Rattle.std.proofs.Common.{◌≡◌, ℕ, List, ◌∷◌, ◌++◌, Some, None, Result, Ok, Bool, true, false, refl, sym, ap, subst, String, Err}
-use Rattle.std.proofs.lemmas.Slice.Eq.{bytes_eq-Decides, starts_is}
-use Rattle.std.proofs.lemmas.Bool.Decides.{Decides-eqb}
-use Rattle.std.specs.List.{starts_with}
+use Rattle.std.proofs.lemmas.{Slice.Eq.bytes_eq-Decides, Slice.Eq.starts_is, Bool.Decides.Decides-eqb}
+use Rattle.std.specs.{List.starts_with, Str.bytes_eq, String.string_bytes, Option.option_eq}
 use Rattle.std.specs.Prelude.{IsOk, OnOk, OnErr, codes, if◌then◌else◌, nat_eq, ◌&&◌}
-use Rattle.std.specs.Str.{bytes_eq}
-use Rattle.std.specs.String.{string_bytes}
 use Rattle.dm_store.specs.declared.store.StoreFault.{StoreFault}
-use Rattle.test_helpers.specs.declared.mem_disk.DiskCall.{DiskCall}
-use Rattle.test_helpers.specs.declared.mem_disk.DiskCall.TheVariants.{SyncedEntry, SyncedFolder}
-use Rattle.dm_store.specs.Disk.{Content, IsSettled, Keeps, SettlesFolder, SyncsEntry, key_name}
-use Rattle.std.specs.Option.{option_eq}
+use Rattle.test_helpers.specs.declared.mem_disk.DiskCall.{DiskCall, TheVariants.SyncedEntry, TheVariants.SyncedFolder}
+use Rattle.dm_store.specs.Disk.{Content, IsSettled, KeepsFile, SettlesFolder, SyncsEntry, key_name}
 use Rattle.test_helpers.specs.DiskCalls.{seen_after, synced_after, leaves_after, disk_after}
 use Rattle.dm_store.proofs.Saving.{keeps_same}
 use Rattle.test_helpers.proofs.SeenIsLeft.{leaves_seen}
@@ -39,13 +34,13 @@ left_after true false calls name content is_it is_on is = cc
 left_after false on calls name content is_it is_on is = cc
 
 pub noted_kept : {A : Type 0} (calls later : List (DiskCall A)) (call : DiskCall A) (each : List ℕ)
-    (answer : Result (Unit {0}) StoreFault) → Keeps (disk_after calls) each (disk_after (call ∷ calls))
+    (answer : Result (Unit {0}) StoreFault) → KeepsFile (disk_after calls) each (disk_after (call ∷ calls))
     → OnOk answer (later ≡ call ∷ calls) → OnErr answer (later ≡ calls) →
-    Keeps (disk_after calls) each (disk_after later)
+    KeepsFile (disk_after calls) each (disk_after later)
 noted_kept {A} calls later call each (Ok done) kept ok err =
-    subst (λ (es : List (DiskCall A)). Keeps (disk_after calls) each (disk_after es)) (sym ok) kept
+    subst (λ (es : List (DiskCall A)). KeepsFile (disk_after calls) each (disk_after es)) (sym ok) kept
 noted_kept {A} calls later call each (Err fault) kept ok err =
-    subst (λ (es : List (DiskCall A)). Keeps (disk_after calls) each (disk_after es)) (sym err) keeps_same
+    subst (λ (es : List (DiskCall A)). KeepsFile (disk_after calls) each (disk_after es)) (sym err) keeps_same
 
 not_ok : (fault : StoreFault) → IsOk {T = Unit {0}} {E = StoreFault} (Err fault) → ⊥
 not_ok fault ok = cc

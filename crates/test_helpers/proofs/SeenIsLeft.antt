@@ -1,13 +1,10 @@
 -- On a disk in memory a stop may leave what a reader finds.
 use Rattle.std.specs.Prelude.{◌≡◌, refl, ℕ, Bool, true, false, ◌||◌, ◌&&◌, nat_eq, List, [], ◌∷◌, Some, None, is_none, if◌then◌else◌}
-use Rattle.std.specs.List.{starts_with}
-use Rattle.std.specs.Str.{bytes_eq}
-use Rattle.std.specs.String.{string_bytes}
+use Rattle.std.specs.{List.starts_with, Str.bytes_eq, String.string_bytes, Option.option_eq}
 use Rattle.std.proofs.lemmas.Slice.Eq.{bytes_eq-Decides}
 use Rattle.test_helpers.specs.declared.mem_disk.DiskCall.{DiskCall}
 use Rattle.test_helpers.specs.declared.mem_disk.DiskCall.TheVariants.{Wrote, Synced, Renamed, Removed, SyncedEntry, SyncedFolder}
 use Rattle.dm_store.specs.Disk.{Content}
-use Rattle.std.specs.Option.{option_eq}
 use Rattle.test_helpers.specs.DiskCalls.{seen_after, synced_after, leaves_after}
 
 content_eq-same : (content : Content) → option_eq bytes_eq content content ≡ true

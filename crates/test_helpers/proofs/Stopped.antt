@@ -2,13 +2,13 @@
 -- disk: what is said of a fault follows from what is said of Ok.
 use Rattle.std.proofs.Common.{inl, inr, ⊎_elim, List, ℕ, Result}
 use Rattle.std.specs.Prelude.{IsOk}
-use Rattle.dm_store.specs.Disk.{DiskState, Renames, Syncs, Writes}
+use Rattle.dm_store.specs.Disk.{DiskState, Renames, Syncs, WritesFile}
 use Rattle.dm_store.proofs.Saving.{by_end}
 use Rattle.dm_store.specs.declared.store.StoreFault.{StoreFault}
 
 module _ (old new : DiskState) (name : List ℕ) (made answer : Result (Unit {0}) StoreFault)
     (oks : IsOk answer → IsOk made) where
-  pub writes_told : (bytes : List ℕ) → Writes old name bytes made new → Writes old name bytes answer new
+  pub writes_told : (bytes : List ℕ) → WritesFile old name bytes made new → WritesFile old name bytes answer new
   writes_told bytes writes = record { others = writes.others; done = λ ok. writes.done (oks ok) }
 
   pub syncs_told : Syncs old name made new → Syncs old name answer new

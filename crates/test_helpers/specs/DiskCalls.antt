@@ -1,10 +1,7 @@
 -- A disk in memory as the list of its calls that were done, the newest first. A stop may leave there all that the
 -- contract of disks allows after these calls; a reader finds no more and no less than they left.
 use Rattle.std.specs.Prelude.{ℕ, Bool, true, false, ◌||◌, ◌&&◌, List, [], ◌∷◌, Some, None, is_none, IsTrue, if◌then◌else◌, nat_eq}
-use Rattle.std.specs.List.{starts_with}
-use Rattle.std.specs.Option.{option_eq}
-use Rattle.std.specs.Str.{bytes_eq}
-use Rattle.std.specs.String.{string_bytes}
+use Rattle.std.specs.{List.starts_with, Option.option_eq, Str.bytes_eq, String.string_bytes}
 use Rattle.test_helpers.specs.declared.mem_disk.DiskCall.{DiskCall}
 use Rattle.test_helpers.specs.declared.mem_disk.DiskCall.TheVariants.{Wrote, Synced, Renamed, Removed, SyncedEntry, SyncedFolder}
 use Rattle.dm_store.specs.Disk.{DiskState, Content}

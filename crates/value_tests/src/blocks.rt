@@ -1,11 +1,11 @@
-//! The sizes, the words of a symbol in their blocks, and blocks that are corrected.
+//! The sizes, the codewords of a symbol in their blocks, and blocks that are corrected.
 
 use dm_check_blocks::{block_word, complete};
 use dm_corrector::{BlockFault, correct_symbol};
 use dm_size::Size;
 use std::test::Fail;
 
-// The standard's table: the side, a region's side, the regions, data words, check words, blocks.
+// The standard's table: the side, a region's side, the regions, data codewords, error correction codewords, blocks.
 #[rattlefmt::skip]
 const SIZES: [[usize; 6]; 23] = [
     [ 10,  8,  1,    3,   5, 1],
@@ -62,8 +62,8 @@ fn the_sizes_are_those_of_the_standard(rt: HostRuntime) {
     assert!(rt; size.all_words() == 288 && block_word(size, 1, 102) == 205);
 }
 
-// The standard's worked example, and a symbol of two blocks: its last data word belongs to block 1, so the check words
-// of block 0 stay 0, and none of block 1's is.
+// The standard's worked example, and a symbol of two blocks: its last data codeword belongs to block 1, so the error
+// correction codewords of block 0 stay 0, and none of block 1's is.
 #[test]
 #[tactic(auto, unfolding(dm_size::specs::Sizes::row))]
 fn messages_are_completed(rt: HostRuntime) -> Result<(), Fail> {
@@ -79,8 +79,8 @@ fn messages_are_completed(rt: HostRuntime) -> Result<(), Fail> {
     Ok(())
 }
 
-// In side 52, whose blocks take the words in turn, there are 21 wrong words in each of two blocks, and then 22 in the
-// second.
+// In side 52, whose blocks take the codewords in turn, there are 21 wrong codewords in each of two blocks, and then 22
+// in the second.
 #[test]
 #[tactic(auto, unfolding(dm_size::specs::Sizes::row))]
 fn blocks_are_corrected(rt: HostRuntime) {

@@ -1,7 +1,7 @@
 //! Desks over sets in memory: labels that are scanned, pages that come and go, and what is held. Sets on which a desk is
 //! opened, and on which none is. Joint files of the first version, whose documents are moved to files of their own.
 
-use crate::labels::page_of;
+use crate::labels::page_of_bytes;
 use dm_append_label::{FileId, seal};
 use dm_assembly_desk::{
     Accepted, AskFault, Desk, ForgetFault, ImportFault, Imported, Kind, MoveFault, ScanFault,
@@ -24,7 +24,7 @@ const SECOND: &[u8] = b"DMPG\x02\x01\x01\x02\x00\x02\x00\x0234";
 const WHOLE: &[u8] = b"DMPG\x02\x01\x01\x02\x00\x03\x00\x0212\x00\x0234";
 
 fn id_of(rt: &impl Abort, number: u16) -> FileId {
-    FileId::of_number(number).expect(rt, "an identification")
+    FileId::of_number(number).expect(rt, "an ID")
 }
 
 // A page, by its document, its number, the number of pages and its bytes.
@@ -32,7 +32,7 @@ type Scan = (u16, u8, u8, &'static [u8]);
 
 // The label of a page, of side 12 in ASCII.
 fn label(alloc: Global, (number, m, n, bytes): Scan) -> Option<Grid> {
-    let page = page_of(alloc, number, m, n, bytes)?;
+    let page = page_of_bytes(alloc, number, m, n, bytes)?;
     seal(alloc, &page, Size::Side12, Scheme::Ascii).ok()
 }
 
@@ -216,7 +216,7 @@ const SETS: [(&[(u16, &[u8])], u16, &str); 29] = [
     (&[(0, b"DMPG\x03\x01\x01\x02\x00\x02\x00\x0234")], 4, "Version"),
     (&[(0, b"DMPG")], 4, "Damaged"),
     (&[(0, b"DMPG\x02")], 4, "Damaged"),
-    // No page, a page 3 of 2, 17 pages, 1 page, an identification with a word 0 or 255.
+    // No page, a page 3 of 2, 17 pages, 1 page, an ID with a codeword 0 or 255.
     (&[(0, b"DMPG\x02\x01\x01\x02\x00\x00")], 4, "Damaged"),
     (&[(0, b"DMPG\x02\x01\x01\x02\x00\x04\x00\x00")], 4, "Damaged"),
     (&[(0, b"DMPG\x02\x01\x01\x11\x00\x01\x00\x00")], 4, "Damaged"),
@@ -246,7 +246,7 @@ const JOINT_FILES: [(&[u8], Result<u16, MoveFault>); 10] = [
     (b"DMPG\x01\x00", Err(MoveFault::Damaged)),
     (b"DMPG\x01\x00\x00\x00", Err(MoveFault::Damaged)),
     (b"DMPG\x01\x00\x02\x01\x01\x02\x00\x02\x00\x0234", Err(MoveFault::Damaged)),
-    // One document twice, and falling identifications.
+    // One document twice, and falling IDs.
     (b"DMPG\x01\x00\x02\x01\x01\x02\x00\x02\x00\x0234\x01\x01\x02\x00\x02\x00\x0234", Err(MoveFault::Damaged)),
     (b"DMPG\x01\x00\x02\x01\x02\x02\x00\x02\x00\x0234\x01\x01\x02\x00\x02\x00\x0234", Err(MoveFault::Damaged)),
     (b"DMPG\x01\x00\x02\x01\x01\x02\x00\x02\x00\x0234\x01\x03\x02\x00\x03\x00\x025\x06\x00\x00", Ok(2)),

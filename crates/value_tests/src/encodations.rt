@@ -1,10 +1,10 @@
-//! Texts as data words, and back.
+//! Texts as data codewords, and back.
 
 use dm_encodation::{DecodeFault, Scheme, decode, encode, fit, need};
 use dm_size::Size;
 use std::alloc::Global;
 
-// An encodation, a text, the words before it, a size, and the data words of the symbol, or the first of them.
+// An encodation, a text, the codewords before it, a size, and the data codewords of the symbol, or the first of them.
 type Text = (Scheme, &'static [u8], &'static [u8], Size, &'static [u8]);
 
 #[rattlefmt::skip]
@@ -21,11 +21,11 @@ const TEXTS: [Text; 13] = [
     (Scheme::Text, b"aim", &[], Size::Side10, &[239, 91, 11]),
     (Scheme::Base256, &[1], &[233, 15, 1, 1], Size::Side14, &[233, 15, 1, 1, 231, 131, 25, 129]),
     (Scheme::Base256, b"", &[233, 31, 1, 1], Size::Side14, &[233, 31, 1, 1, 129, 11, 161, 56]),
-    // From 250 bytes on the length has two words.
+    // From 250 bytes on the length has two codewords.
     (Scheme::Base256, &[0; 250], &[], Size::Side64, &[231, 38, 193]),
 ];
 
-// Data words, and the text that they read as, or the fault at which they are stuck.
+// Data codewords, and the text that they read as, or the fault at which they are stuck.
 type Reading = (&'static [u8], &'static [u8], Option<DecodeFault>);
 
 #[rattlefmt::skip]
@@ -67,7 +67,7 @@ fn texts_are_written_and_read(rt: HostRuntime) {
     }
 }
 
-// How many times a byte fits a room of that many words, and how many words it then needs.
+// How many times a byte fits a room of that many codewords, and how many codewords it then needs.
 const ROOMS: [(Scheme, u8, usize, usize, usize); 12] = [
     (Scheme::Ascii, b'7', 1304, 2608, 1304),
     (Scheme::Ascii, b'A', 1304, 1304, 1304),
@@ -83,7 +83,7 @@ const ROOMS: [(Scheme, u8, usize, usize, usize); 12] = [
     (Scheme::Base256, 0, 1559, 1556, 1559),
 ];
 
-// A longer text may need fewer words: five characters need six words, and six of them five.
+// A longer text may need fewer codewords: five characters need six codewords, and six of them five.
 #[test]
 fn a_longer_text_may_need_fewer_words(rt: HostRuntime) {
     assert!(rt; need(Scheme::C40, b"AIMAI") == 6 && need(Scheme::C40, b"AIMAIM") == 5);

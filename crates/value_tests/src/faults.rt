@@ -9,15 +9,15 @@ use dm_symbol::SymbolFault;
 use std::test::Fail;
 
 const OF_SYMBOLS: &str = "\
-no block word is near enough to the block, block 3 has too many wrong words
-the text needs more words than the symbol has left, out of memory
-word 232 at position 2 is a feature of the standard that is not read
-word 254 at position 7 has no meaning there
+no sound block is near enough to the block, block 3 has too many wrong codewords
+the text needs more codewords than the symbol has left, out of memory
+codeword 232 at position 2 is a feature of the standard that is not read
+codeword 254 at position 7 has no meaning there
 what begins at position 1 is cut off, out of memory
 27 modules of the finder patterns are wrong, out of memory
 the modules do not fill a symbol of that side, out of memory
 27 modules of the finder patterns are wrong
-block 7 has more wrong words than can be corrected";
+block 7 has more wrong codewords than can be corrected";
 
 #[rattlefmt::skip]
 #[test]
@@ -36,8 +36,8 @@ fn faults_of_symbols_say_what_is_wrong(rt: HostRuntime) -> Result<(), Fail> {
 
 const OF_LABELS: &str = "\
 6 modules of the finder patterns are wrong
-block 7 has more wrong words than can be corrected
-the symbol is not a label, the sequence indicator 32 is invalid, the file identification is invalid
+block 7 has more wrong codewords than can be corrected
+the symbol is not a label, the sequence indicator 32 is invalid, the ID is invalid
 what begins at position 3 is cut off, out of memory
 the page does not fit a label of this size, out of memory
 the document does not fit sixteen labels of this size";

@@ -11,9 +11,9 @@ fn worked_values(rt: HostRuntime) {
     assert!(rt; Gf::alpha(255) == Gf(1));
 }
 
-// The generator polynomial for five check words, which the standard prints, has 2^1 to 2^5 as roots.
+// The generator polynomial for five error correction codewords, which the standard prints, has 2^1 to 2^5 as roots.
 #[test]
-fn the_generator_of_five_check_words(rt: HostRuntime) {
+fn the_generator_of_five_error_correction_codewords(rt: HostRuntime) {
     let generator = [Gf(1), Gf(62), Gf(111), Gf(15), Gf(48), Gf(228)];
     for k in 1..6u8 {
         assert!(rt; Gf::eval(&generator, Gf::alpha(k)) == Gf(0), "at 2^{k}");

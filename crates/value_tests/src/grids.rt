@@ -1,4 +1,4 @@
-//! Where each bit of a word stands, and the finder patterns around and between the regions.
+//! Where each bit of a codeword stands, and the finder patterns around and between the regions.
 #![tactic(auto, unfolding(dm_size::specs::Sizes::row))]
 
 use crate::worked::{WORDS, is_worked_example, worked_modules};
@@ -7,7 +7,7 @@ use dm_placement::{Layout, lift, lift_with, place, place_with};
 use dm_size::{Matrix, Size};
 use std::test::Fail;
 
-// A word in a corner's shape, and the cells of its bits.
+// A codeword in a corner's shape, and the cells of its bits.
 #[rattlefmt::skip]
 const SHAPES: [(Size, usize, [(u16, u16); 8]); 3] = [
     (Size::Side14, 7, [(11, 0), (11, 1), (11, 2), (0, 10), (0, 11), (1, 11), (2, 11), (3, 11)]),
@@ -43,7 +43,7 @@ fn cells_are_free_or_on_no_finder_pattern(rt: HostRuntime) -> Result<(), Fail> {
     Ok(())
 }
 
-// The words of the standard's example are placed as it draws them, with a layout made before and without.
+// The codewords of the standard's example are placed as it draws them, with a layout made before and without.
 #[test]
 fn the_words_give_the_drawn_modules(rt: HostRuntime) -> Result<(), Fail> {
     let alloc = rt.alloc();
@@ -70,7 +70,7 @@ fn the_drawn_modules_hold_the_words(rt: HostRuntime) -> Result<(), Fail> {
     Ok(())
 }
 
-// A matrix with all modules light holds words 0, and one dark module is one bit.
+// A matrix with all modules light holds codewords 0, and one dark module is one bit.
 #[test]
 fn a_light_matrix_holds_zeros(rt: HostRuntime) -> Result<(), Fail> {
     let mut matrix = Matrix::light(rt.alloc(), Size::Side12.mapping())?;

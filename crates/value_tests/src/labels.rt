@@ -12,23 +12,29 @@ use dm_symbol::{correct_grid, draw_symbol};
 use std::alloc::{AllocError, Global};
 use std::test::Fail;
 
-// A label of the identification 0: the page m of n, its bytes, an encodation and a size.
+// A label of the ID 0: the page m of n, its bytes, an encodation and a size.
 type Label = (u8, u8, &'static [u8], Scheme, Size);
 
 // The first label of `1234` in side 12.
 const ONE: Label = (1, 2, b"12", Scheme::Ascii, Size::Side12);
 
 // The page m of n of the document of a number.
-pub(crate) fn page_of(alloc: Global, number: u16, m: u8, n: u8, bytes: &[u8]) -> Option<Page> {
+pub(crate) fn page_of_bytes(
+    alloc: Global,
+    number: u16,
+    m: u8,
+    n: u8,
+    bytes: &[u8],
+) -> Option<Page> {
     Page::new(FileId::of_number(number)?, m, n, bytes.to_vec(alloc).ok()?)
 }
 
 fn sealed(alloc: Global, (m, n, bytes, scheme, size): Label) -> Result<Grid, SealFault> {
-    let page = page_of(alloc, 0, m, n, bytes).ok_or(SealFault::TooLong)?;
+    let page = page_of_bytes(alloc, 0, m, n, bytes).ok_or(SealFault::TooLong)?;
     seal(alloc, &page, size, scheme)
 }
 
-// Labels, and their first data words.
+// Labels, and their first data codewords.
 #[rattlefmt::skip]
 const LABELS: [(Label, &[u8]); 8] = [
     ((1, 2, &[1], Scheme::Base256, Size::Side14), &[233, 15, 1, 1, 231, 131, 25, 129]),
@@ -92,7 +98,7 @@ fn documents_are_cut(rt: HostRuntime) {
     }
 }
 
-// The grid of a symbol with these data words.
+// The grid of a symbol with these data codewords.
 fn drawn_of_data(alloc: Global, size: Size, data: &[u8]) -> Result<Grid, AllocError> {
     if data.len() != size.data_words() {
         return Err(AllocError);
@@ -100,7 +106,7 @@ fn drawn_of_data(alloc: Global, size: Size, data: &[u8]) -> Result<Grid, AllocEr
     draw_symbol(alloc, &Layout::of_size(alloc, size)?, data)
 }
 
-// Data words, a size, and why such a symbol is no label.
+// Data codewords, a size, and why such a symbol is no label.
 #[rattlefmt::skip]
 const NO_LABELS: [(&[u8], Size, LabelFault); 8] = [
     (&[233, 32, 1, 1, 129], Size::Side12, LabelFault::Sequence { word: 32 }),
@@ -126,7 +132,7 @@ fn heads_are_told_apart(rt: HostRuntime) -> Result<(), Fail> {
     Ok(())
 }
 
-// Of the first label of `1234` in side 12 one module of each of three words is turned over, then of a fourth.
+// Of the first label of `1234` in side 12 one module of each of three codewords is turned over, then of a fourth.
 #[test]
 #[tactic(auto, unfolding(dm_size::specs::Sizes::row))]
 fn three_words_are_near_and_four_are_not(rt: HostRuntime) -> Result<(), Fail> {
@@ -142,7 +148,7 @@ fn three_words_are_near_and_four_are_not(rt: HostRuntime) -> Result<(), Fail> {
 fn labels_are_sealed_by_a_layout(rt: HostRuntime) -> Result<(), Fail> {
     let alloc = rt.alloc();
     let layout = Layout::of_size(alloc, Size::Side12)?;
-    let page = page_of(alloc, 0, 1, 2, b"12").expect(&rt, "a page");
+    let page = page_of_bytes(alloc, 0, 1, 2, b"12").expect(&rt, "a page");
     let one = seal(alloc, &page, Size::Side12, Scheme::Ascii)?;
     let other = seal_with(alloc, &page, &layout, Scheme::Ascii)?;
     assert!(rt; one.side() == 12 && other.side() == 12);
@@ -152,13 +158,14 @@ fn labels_are_sealed_by_a_layout(rt: HostRuntime) -> Result<(), Fail> {
     Ok(())
 }
 
-// How many words of a label were corrected, and how many modules on its frame are wrong.
+// How many codewords of a label were corrected, and how many modules on its frame are wrong.
 fn wear(alloc: Global, label: &Grid) -> Result<(u16, u16), LabelFault> {
     let opened = open_label(alloc, label)?;
     Ok((opened.corrected, opened.wrong))
 }
 
-// Of side 12 an eighth of the 44 modules on the frame are 5, and a block with 7 check words has at most 3 wrong words.
+// Of side 12 an eighth of the 44 modules on the frame are 5, and a block with 7 error correction codewords has at most
+// 3 wrong codewords.
 #[test]
 fn labels_are_worn(rt: HostRuntime) -> Result<(), Fail> {
     let mut label = sealed(rt.alloc(), ONE)?;

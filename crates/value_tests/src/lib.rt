@@ -1,6 +1,6 @@
-//! Tests with values from outside. Of symbols and labels, layer by layer: the field, sizes and check words,
-//! corrections, encodations, the cells of the mapping matrix and finder patterns, whole symbols, and labels. Of
-//! printers and desks over stores in memory: each public call, over ample memory. And the texts of faults.
+//! Tests with values from outside. Of symbols and labels, layer by layer: the field, sizes and error correction
+//! codewords, corrections, encodations, the cells of the mapping matrix and finder patterns, whole symbols, and labels.
+//! Of printers and desks over stores in memory: each public call, over ample memory. And the texts of faults.
 #![tactic(auto)]
 
 #[cfg(test)]

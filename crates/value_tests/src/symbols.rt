@@ -8,7 +8,7 @@ use dm_size::Size;
 use dm_symbol::{SymbolFault, correct_grid, draw_symbol, draw_words, still_near};
 use std::test::Fail;
 
-// Two words of eight are wrong: modules (2, 2) and (6, 6) stand in two words, (0, 1) and (9, 3) on the frame.
+// Two codewords of eight are wrong: modules (2, 2) and (6, 6) stand in two codewords, (0, 1) and (9, 3) on the frame.
 #[test]
 fn symbols_are_drawn_and_read(rt: HostRuntime) -> Result<(), Fail> {
     let layout = Layout::of_size(rt.alloc(), Size::Side10)?;
@@ -21,8 +21,8 @@ fn symbols_are_drawn_and_read(rt: HostRuntime) -> Result<(), Fail> {
     Ok(())
 }
 
-// Flips in two words and on the frame, and in four words. Where all modules are light, 27 of the 36 on the frame are
-// wrong, and where all are dark the other 9.
+// Flips in two codewords and on the frame, and in four codewords. Where all modules are light, 27 of the 36 on the
+// frame are wrong, and where all are dark the other 9.
 #[test]
 fn grids_are_near_or_refused(rt: HostRuntime) -> Result<(), Fail> {
     let layout = Layout::of_size(rt.alloc(), Size::Side10)?;

@@ -2,7 +2,7 @@
 
 use dm_finder_frame::Grid;
 
-/// Its three data words, and its five check words.
+/// Its three data codewords, and its five error correction codewords.
 pub(crate) const WORDS: [u8; 8] = [142, 164, 186, 114, 25, 5, 88, 102];
 
 // The modules of the whole symbol, row by row.

@@ -1,13 +1,9 @@
--- A head as the code has it, what reading one answers, and the data words of a page's label.
+-- A head as the code has it, what reading one answers, and the data codewords of a page's label.
 use Rattle.std.specs.Prelude.{◌≡◌, Result, Ok, Err, ℕ, List, length, take, drop}
 use Rattle.dm_append_label.specs.Labels.{HeadView, IsHead, head_of, head_words, PageView}
-use Rattle.dm_append_label.specs.declared.fault.LabelFault.{LabelFault}
-use Rattle.dm_append_label.specs.declared.head.Head.{Head}
-use Rattle.dm_size.specs.declared.size.Size.{Size}
-use Rattle.dm_size.specs.Sizes.{data_words}
-use Rattle.dm_encodation.specs.declared.scheme.Scheme.{Scheme}
-use Rattle.dm_encodation.specs.Written.{filled}
-use Rattle.dm_encodation.specs.Grammar.{ReadsOnly}
+use Rattle.dm_append_label.specs.declared.{fault.LabelFault.LabelFault, head.Head.Head}
+use Rattle.dm_size.specs.{declared.size.Size.Size, Sizes.data_words}
+use Rattle.dm_encodation.specs.{declared.scheme.Scheme.Scheme, Written.filled, Grammar.ReadsOnly}
 
 -- what a head says
 abbrev pub view_of : Head → HeadView

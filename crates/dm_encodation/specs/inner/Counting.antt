@@ -1,23 +1,16 @@
--- What a counter of words knows of the bytes so far, and the pieces that an encoder takes from a text.
+-- What a counter of codewords knows of the bytes so far, and the pieces that an encoder takes from a text.
 use Rattle.std.specs.Prelude.{◌≡◌, ℕ, ◌+◌, ◌*◌, ◌/◌, ◌<◌, ◌^◌, List, [], ◌∷◌, length, take, drop, Bool, false, ◌&&◌, ◌==◌, nat_le, if◌then◌else◌, ◌++◌, ◌-◌, ◌≤◌}
-use Rattle.std.specs.Char.{is_ascii_digit}
-use Rattle.std.specs.List.{flat_map, AllByRecursion}
-use Rattle.dm_encodation.specs.Grammar.{values_of}
-use Rattle.dm_encodation.specs.Written.{ascii, run_length, pairs}
-use Rattle.dm_encodation.specs.declared.letters.Letters.{Letters}
-use Rattle.dm_encodation.specs.declared.letters.Letters.TheVariants.{Capital, Small}
-use Rattle.dm_encodation.specs.declared.counter.RunCounter.{RunCounter}
-use Rattle.dm_encodation.specs.declared.counter.AsciiCounter.{AsciiCounter}
-use Rattle.dm_encodation.specs.declared.counter.Counter.{Counter}
-use Rattle.dm_encodation.specs.declared.scheme.Scheme.{Scheme}
+use Rattle.std.specs.{Char.is_ascii_digit, List.flat_map, List.AllByRecursion}
+use Rattle.dm_encodation.specs.{Grammar.values_of, Written.ascii, Written.run_length, Written.pairs}
+use Rattle.dm_encodation.specs.declared.letters.Letters.{Letters, TheVariants.Capital, TheVariants.Small}
+use Rattle.dm_encodation.specs.declared.counter.{RunCounter.RunCounter, AsciiCounter.AsciiCounter, Counter.Counter}
+use Rattle.dm_encodation.specs.declared.{scheme.Scheme.Scheme, run.Held.Held, ascii.Piece.Piece}
 use Rattle.dm_encodation.specs.declared.scheme.Scheme.TheVariants.{Ascii, C40, Text, Base256}
-use Rattle.dm_encodation.specs.declared.run.Held.{Held}
 use Rattle.dm_encodation.specs.declared.run.Held.TheVariants.{Nothing, One, Two}
-use Rattle.dm_encodation.specs.declared.ascii.Piece.{Piece}
 use Rattle.dm_encodation.specs.declared.ascii.Piece.TheVariants.{Digits, Character, Upper}
 use Rattle.dm_encodation.specs.declared.counter.Counter.TheVariants as counters
 
--- whether a text in ASCII ends in a digit that has a word of its own
+-- whether a text in ASCII ends in a digit that has a codeword of its own
 unfoldable pub has_lone_digit : List ℕ → Bool
 has_lone_digit [] = false
 has_lone_digit (b ∷ []) = is_ascii_digit b
@@ -29,11 +22,11 @@ pub record CountsAscii (bytes : List ℕ) (c : AsciiCounter) : Type 0 where
   pub words : c.words ≡ length (ascii bytes)
   pub lone : c.lone_digit ≡ has_lone_digit bytes
 
--- how many words n bytes need in Base 256
+-- how many codewords n bytes need in Base 256
 abbrev pub base_256_need : ℕ → ℕ
 base_256_need n = if n == 0 then 0 else if nat_le n 249 then n + 2 else n + 3
 
--- how many words a run of this many values needs, with this many words in ASCII after it
+-- how many codewords a run of this many values needs, with this many codewords in ASCII after it
 abbrev pub run_need : ℕ → ℕ → ℕ
 run_need run after =
     if run == 0 then after else
@@ -75,12 +68,12 @@ held_values (Two a b) = a ∷ b ∷ []
 abbrev pub AreValues : Held → Type 0
 AreValues h = AllByRecursion (λ v. v < 40) (held_values h)
 
--- These values were taken: whatever values follow, the words written and the pairs still to come are the same list.
-abbrev pub Writes : List ℕ → Held → List ℕ → List ℕ → Held → Type 0
-Writes old before values new after = (rest : List ℕ)
+-- These values were taken: whatever values follow, the codewords written and the pairs still to come are the same list.
+abbrev pub WritesValues : List ℕ → Held → List ℕ → List ℕ → Held → Type 0
+WritesValues old before values new after = (rest : List ℕ)
     → new ++ pairs (held_values after ++ rest) ≡ old ++ pairs (held_values before ++ (values ++ rest))
 
--- the words of a piece
+-- the codewords of a piece
 abbrev pub piece_words : Piece → List ℕ
 piece_words (Digits n) = (130 + n) ∷ []
 piece_words (Character b) = (b + 1) ∷ []

@@ -1,17 +1,12 @@
--- Reading word by word, with a mode, as the code does. Grammar.antt says what is read; lemmas join the two.
+-- Reading codeword by codeword, with a mode, as the code does. Grammar.antt says what is read; lemmas join the two.
 use Rattle.std.specs.Prelude.{ℕ, zero, suc, ◌+◌, ◌-◌, ◌*◌, ◌/◌, ◌%◌, List, [], ◌∷◌, ◌++◌, Bool, true, false, ◌&&◌, not, Option, Some, None, Result, Ok, Err, ◌==◌, nat_lt, nat_le, if◌then◌else◌, ◌≡◌, ◌<◌, ◌≤◌}
-use Rattle.dm_encodation.specs.declared.letters.Letters.{Letters}
-use Rattle.dm_encodation.specs.declared.letters.Letters.TheVariants.{Capital, Small}
-use Rattle.dm_encodation.specs.declared.mode.Set.{Set}
+use Rattle.dm_encodation.specs.declared.letters.Letters.{Letters, TheVariants.Capital, TheVariants.Small}
+use Rattle.dm_encodation.specs.declared.mode.{Set.Set, Pending.Pending, Mode.Mode, ValueFault.ValueFault}
 use Rattle.dm_encodation.specs.declared.mode.Set.TheVariants.{Basic, First, Second, Third}
-use Rattle.dm_encodation.specs.declared.mode.Pending.{Pending}
-use Rattle.dm_encodation.specs.declared.mode.Mode.{Mode}
 use Rattle.dm_encodation.specs.declared.mode.Mode.TheVariants.{Ascii, Upper, Run, Half, Length, LongLength, Bytes, Rest, Padded}
-use Rattle.dm_encodation.specs.declared.mode.ValueFault.{ValueFault}
 use Rattle.dm_encodation.specs.declared.mode.ValueFault.TheVariants.{Fnc1, Missing}
-use Rattle.dm_encodation.specs.declared.fault.DecodeFault.{DecodeFault}
+use Rattle.dm_encodation.specs.declared.{fault.DecodeFault.DecodeFault, reader.Decoded.Decoded}
 use Rattle.dm_encodation.specs.declared.fault.DecodeFault.TheVariants.{Unsupported, Reserved, Cut}
-use Rattle.dm_encodation.specs.declared.reader.Decoded.{Decoded}
 use Rattle.dm_encodation.specs.declared.reader.Decoded.TheVariants.{Nothing, One, Two, Three}
 
 infixl 10 ◌>>=◌
@@ -24,7 +19,7 @@ abbrev pub ◌>>=◌ : {A B E : Type 0} → Result A E → (A → Result B E) �
 abbrev pub prepend : List ℕ → Result (List ℕ) DecodeFault → Result (List ℕ) DecodeFault
 prepend front read = read >>= λ more. Ok (front ++ more)
 
--- what a word does: the next mode, and the bytes that it gives
+-- what a codeword does: the next mode, and the bytes that it gives
 abbrev pub Stepped : Type 0
 Stepped = Result (Mode × List ℕ) DecodeFault
 
@@ -32,7 +27,7 @@ Stepped = Result (Mode × List ℕ) DecodeFault
 abbrev pub no_pending : Pending
 no_pending = record { upper = false; set = Basic }
 
--- a word in ASCII
+-- a codeword in ASCII
 unfoldable pub ascii_step : ℕ → ℕ → Stepped
 ascii_step p w =
     if w == 0 then Err (Reserved p w) else
@@ -45,7 +40,7 @@ ascii_step p w =
     if w == 239 then Ok (Run Small no_pending, []) else
     if nat_le w 241 then Err (Unsupported p w) else Err (Reserved p w)
 
--- the word after Upper Shift
+-- the codeword after Upper Shift
 unfoldable pub upper_step : ℕ → ℕ → Stepped
 upper_step p w =
     if w == 0 then Err (Reserved p w) else
@@ -104,13 +99,13 @@ abbrev pub values_step : Letters → Pending → List ℕ → Valued
 values_step t s [] = Ok (s, [])
 values_step t s (v ∷ vs) = value_step t s v >>= λ a. values_step t a.0 vs >>= λ b. Ok (b.0, a.1 ++ b.1)
 
--- a fault of a pair is at its first word
+-- a fault of a pair is at its first codeword
 abbrev pub at_pair : Letters → ℕ → ℕ → Valued → Stepped
 at_pair t p w (Ok a) = Ok (Run t a.0, a.1)
 at_pair t p w (Err Fnc1) = Err (Unsupported p w)
 at_pair t p w (Err Missing) = Err (Reserved p w)
 
--- a pair of words
+-- a pair of codewords
 unfoldable pub pair_step : Letters → Pending → ℕ → ℕ → ℕ → Stepped
 pair_step t s p w x =
     let v = 256 * w + x in
@@ -127,7 +122,7 @@ abbrev pub bytes_left : ℕ → ℕ → Mode
 bytes_left zero at = Ascii
 bytes_left (suc n) at = Bytes (suc n) at
 
--- the word at position p
+-- the codeword at position p
 unfoldable pub step : Mode → ℕ → ℕ → Stepped
 step Ascii p w = ascii_step p w
 step Upper p w = upper_step p w
@@ -141,7 +136,7 @@ step (Bytes n at) p w = Ok (bytes_left (n - 1) at, value_255 p w ∷ [])
 step Rest p w = Ok (Rest, value_255 p w ∷ [])
 step Padded p w = Ok (Padded, [])
 
--- what the end means where the mode isn't Half; p is the position after the last word
+-- what the end means where the mode isn't Half; p is the position after the last codeword
 abbrev pub ended : Mode → ℕ → Result (List ℕ) DecodeFault
 ended Upper p = Err (Cut (p - 1))
 ended Length p = Err (Cut (p - 1))
@@ -149,12 +144,12 @@ ended (LongLength v) p = Err (Cut (p - 2))
 ended (Bytes n at) p = Err (Cut at)
 ended _ p = Ok []
 
--- What the end means: a word that a run left over is read in ASCII.
+-- What the end means: a codeword that a run left over is read in ASCII.
 unfoldable pub finish : Mode → ℕ → Result (List ℕ) DecodeFault
 finish (Half t s a) p = ascii_step (p - 1) a >>= λ n. prepend n.1 (ended n.0 p)
 finish m p = ended m p
 
--- the bytes of the words from position p on, or the fault at which reading stops
+-- the bytes of the codewords from position p on, or the fault at which reading stops
 unfoldable pub reading : Mode → ℕ → List ℕ → Result (List ℕ) DecodeFault
 reading m p [] = finish m p
 reading m p (w ∷ ws) = step m p w >>= λ n. prepend n.1 (reading n.0 (p + 1) ws)
@@ -163,7 +158,7 @@ reading m p (w ∷ ws) = step m p w >>= λ n. prepend n.1 (reading n.0 (p + 1) w
 
 -- The results of the reader's functions with their bytes as lists, as they stand above.
 
--- the bytes that one word gives
+-- the bytes that one codeword gives
 abbrev pub bytes_of : Decoded → List ℕ
 bytes_of Nothing = []
 bytes_of (One a) = a ∷ []
@@ -175,7 +170,7 @@ abbrev pub option_bytes : Option ℕ → List ℕ
 option_bytes None = []
 option_bytes (Some b) = b ∷ []
 
--- the result of a step, of the end of the words, of a value, of three values, and of an end without bytes
+-- the result of a step, of the end of the codewords, of a value, of three values, and of an end without bytes
 abbrev pub seen : Result (Mode × Decoded) DecodeFault → Stepped
 seen (Ok x) = Ok (x.0, bytes_of x.1)
 seen (Err f) = Err f
@@ -205,7 +200,7 @@ IsMode (LongLength v) p = (2 < p) × (250 ≤ v)
 IsMode (Bytes n at) p = 0 < n
 IsMode _ p = Unit {0}
 
--- the fault of a pair at position p whose first word is w
+-- the fault of a pair at position p whose first codeword is w
 abbrev pub fault_of : ValueFault → ℕ → ℕ → DecodeFault
 fault_of Fnc1 p w = Unsupported p w
 fault_of Missing p w = Reserved p w

@@ -1,27 +1,19 @@
 -- What a stop asks of a call, how an event at a printer or a desk ends, and the calls of printers.
 use Rattle.std.specs.Prelude.{◌≡◌, ℕ, Bool, true, false, ◌++◌, Some, List, map, slice_get, if◌then◌else◌, ◌+◌, [], ◌∷◌, Result, Ok, Err, length, take}
-use Rattle.dm_store.specs.declared.fuse.Kept.TheVariants.{Old, New}
-use Rattle.dm_store.specs.declared.mem_store.NextSave.{NextSave}
+use Rattle.dm_store.specs.declared.{fuse.Kept.TheVariants.Old, fuse.Kept.TheVariants.New, mem_store.NextSave.NextSave}
 use Rattle.dm_store.specs.declared.mem_store.NextSave.TheVariants.{Fine, FaultOld, FaultNew}
-use Rattle.dm_event_history.specs.declared.stop.Stop.{Stop}
+use Rattle.dm_event_history.specs.{declared.stop.Stop.Stop, declared.reply.Reply.Reply, Steps.Ending, Steps.Restarts}
 use Rattle.dm_event_history.specs.declared.stop.Stop.TheVariants.{BeforeSave, InSave, SaveFault, AfterLabels}
 use Rattle.dm_print_ledger.specs.Ledger.{TicketView, JobView, LedgerView, PrinterView}
 use Rattle.dm_assembly_desk.specs.Documents.{IsEntry}
-use Rattle.dm_event_history.specs.declared.reply.Reply.{Reply}
 use Rattle.dm_event_history.specs.declared.reply.Reply.TheVariants.{Memory, Stopped, PrintRefused, GiveRefused, TakeRefused, ScanRefused, ForgetRefused, ImportRefused, Printed, Given, Taken, PrinterRefused}
 use Rattle.dm_event_history.specs.Relay.{Actor, stored_of, Goods, Export}
-use Rattle.dm_event_history.specs.Steps.{Ending, Restarts}
-use Rattle.dm_event_world.specs.declared.actor.LeftLabel.{LeftLabel}
-use Rattle.dm_event_world.specs.declared.actor.LeftExport.{LeftExport}
+use Rattle.dm_event_world.specs.declared.actor.{LeftLabel.LeftLabel, LeftExport.LeftExport, PrinterActor.PrinterActor}
 use Rattle.dm_event_world.specs.Shows.{left_label, left_export, ShowsPrinter}
 use Rattle.dm_finder_frame.specs.Frame.{GridView}
 use Rattle.dm_store.specs.Saved.{Saved, save_plan_of}
-use Rattle.dm_print_ledger.specs.declared.fault.PrintFault.{PrintFault}
-use Rattle.dm_print_ledger.specs.declared.fault.GiveFault.{GiveFault}
-use Rattle.dm_print_ledger.specs.declared.fault.TakeFault.{TakeFault}
-use Rattle.dm_print_ledger.specs.declared.range.Range.{Range}
-use Rattle.dm_print_ledger.specs.Verdicts.{opening}
-use Rattle.dm_event_world.specs.declared.actor.PrinterActor.{PrinterActor}
+use Rattle.dm_print_ledger.specs.declared.fault.{PrintFault.PrintFault, GiveFault.GiveFault, TakeFault.TakeFault}
+use Rattle.dm_print_ledger.specs.{declared.range.Range.Range, Verdicts.opening}
 use Rattle.dm_event_world.specs.declared.actor.PrinterActor.TheVariants.{Running, Down}
 use Rattle.dm_print_ledger.specs.declared.fault.PrintFault.TheVariants as print_fault
 use Rattle.dm_print_ledger.specs.declared.fault.GiveFault.TheVariants as give_fault
@@ -80,8 +72,8 @@ abbrev pub ended_reply : {A : Type 0} → Stop → Reply A → Reply A
 ended_reply stop reply =
     if ends_early stop then (if lacks_memory reply then Memory else Stopped) else reply
 
-abbrev pub ended : {A S : Type 0} → (S → S) → Stop → Reply A → S → S
-ended down stop reply state =
+abbrev pub state_after : {A S : Type 0} → (S → S) → Stop → Reply A → S → S
+state_after down stop reply state =
     if ends_early stop then (if lacks_memory reply then state else down state) else state
 
 -- what left a world, and then these goods

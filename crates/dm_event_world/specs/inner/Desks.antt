@@ -2,21 +2,17 @@
 use Rattle.std.specs.Prelude.{◌≡◌, ℕ, true, false, List, Some, Result, Err, length, slice_get}
 use Rattle.std.specs.FinMap as map
 use Rattle.dm_finder_frame.specs.Frame.{GridView}
-use Rattle.dm_store.specs.Saved.{SavedSet, save_plan_of}
-use Rattle.dm_store.specs.declared.mem_store.NextSave.{NextSave}
-use Rattle.dm_assembly_desk.specs.declared.reply.Accepted.{Accepted}
+use Rattle.dm_store.specs.{Saved.SavedSet, Saved.save_plan_of, declared.mem_store.NextSave.NextSave}
+use Rattle.dm_assembly_desk.specs.declared.{reply.Accepted.Accepted, fault.ScanFault.ScanFault}
 use Rattle.dm_assembly_desk.specs.declared.reply.Imported as imported_type
-use Rattle.dm_assembly_desk.specs.declared.fault.ScanFault.{ScanFault}
 use Rattle.dm_assembly_desk.specs.declared.fault.ScanFault.TheVariants as scan_fault
-use Rattle.dm_assembly_desk.specs.declared.fault.ForgetFault.{ForgetFault}
+use Rattle.dm_assembly_desk.specs.declared.fault.{ForgetFault.ForgetFault, ImportFault.ImportFault}
 use Rattle.dm_assembly_desk.specs.declared.fault.ForgetFault.TheVariants as forget_fault
-use Rattle.dm_assembly_desk.specs.declared.fault.ImportFault.{ImportFault}
 use Rattle.dm_assembly_desk.specs.declared.fault.ImportFault.TheVariants as import_fault
 use Rattle.dm_assembly_desk.specs.Desk.{AcceptsGrid, Forgets, ImportsBytes}
-use Rattle.dm_assembly_desk.specs.Documents.{DeskView, IsInOrder}
+use Rattle.dm_assembly_desk.specs.Documents.{DeskView, DeskIsInOrder}
 use Rattle.dm_event_history.specs.Relay as actor_states
-use Rattle.dm_event_world.specs.declared.actor.DeskActor.{DeskActor}
-use Rattle.dm_event_world.specs.declared.actor.DeskState.{DeskState}
+use Rattle.dm_event_world.specs.declared.actor.{DeskActor.DeskActor, DeskState.DeskState}
 use Rattle.dm_event_world.specs.Shows.{ShowsDesk}
 use Rattle.dm_event_world.specs.declared.actor.DeskState.TheVariants.{Running, Down}
 
@@ -37,11 +33,11 @@ pub record Calling {X : Type 0} (failed_answer : X) (Call : DeskView → X → D
     (old : DeskView) (answer : X) (new : DeskView) : Type 0 where
   pub failed : old.is_failed ≡ true → (answer ≡ failed_answer) × (new ≡ old)
   pub done : old.is_failed ≡ false → Call old answer new
-  pub before : IsInOrder old
-  pub after : IsInOrder new
+  pub before : DeskIsInOrder old
+  pub after : DeskIsInOrder new
 
-abbrev pub Accepts : Type 0 → GridView → DeskView → Result Accepted ScanFault → DeskView → Type 0
-Accepts A grid = Calling (Err scan_fault.Failed) (AcceptsGrid A grid)
+abbrev pub AcceptsOne : Type 0 → GridView → DeskView → Result Accepted ScanFault → DeskView → Type 0
+AcceptsOne A grid = Calling (Err scan_fault.Failed) (AcceptsGrid A grid)
 
 abbrev pub ForgetsOne : ℕ → DeskView → Result (Unit {0}) ForgetFault → DeskView → Type 0
 ForgetsOne id = Calling (Err forget_fault.Failed) (Forgets id)

@@ -1,16 +1,11 @@
 -- Events of a world; and how what a set and a desk hold is coded, which a model asks of its value.
-use Rattle.std.specs.Ordering.{nat_cmp}
-use Rattle.std.specs.Coded.{Coded, coded_ℕ, coded_list}
+use Rattle.std.specs.{Ordering.nat_cmp, Coded.Coded, Coded.coded_ℕ, Coded.coded_list}
 use Rattle.std.specs.Prelude.{◌≡◌, ◌↔◌, true, List, [], ◌∷◌}
 use Rattle.std.specs.FinMap as map
 use Rattle.dm_store.specs.Saved.{Contents}
-use Rattle.dm_event_history.specs.declared.event.Event.{Event}
-use Rattle.dm_event_history.specs.declared.reply.Reply.{Reply}
-use Rattle.dm_event_history.specs.Headline.{IsInOrder}
-use Rattle.dm_event_history.specs.Relay.{Relay}
-use Rattle.dm_event_history.specs.Steps.{Step}
-use Rattle.dm_event_world.specs.declared.answers.Answer.{Answer}
-use Rattle.dm_event_world.specs.declared.answers.Answer.TheVariants.{Given, NotGiven}
+use Rattle.dm_event_history.specs.{declared.event.Event.Event, declared.reply.Reply.Reply, Headline.RelayIsInOrder}
+use Rattle.dm_event_history.specs.{Relay.Relay, Steps.Step}
+use Rattle.dm_event_world.specs.declared.answers.Answer.{Answer, TheVariants.Given, TheVariants.NotGiven}
 use Rattle.dm_event_world.specs.Shows.{Shows, GoesOn, IsFairIn, IsLookedAt, WorldView}
 
 abbrev pub contents_code : Coded Contents
@@ -23,8 +18,8 @@ pub record TakesOn {A : Type 0} (relay : Relay) (event : Event A) (reply : Reply
   pub shows : Shows new next
 
 -- so does each relay that the world showed
-abbrev pub Steps : {A : Type 0} → WorldView A → Event A → Reply A → WorldView A → Type 0
-Steps old event reply new = (relay : Relay) → IsInOrder relay → Shows old relay → TakesOn relay event reply new
+abbrev pub StepsEach : {A : Type 0} → WorldView A → Event A → Reply A → WorldView A → Type 0
+StepsEach old event reply new = (relay : Relay) → RelayIsInOrder relay → Shows old relay → TakesOn relay event reply new
 
 -- An event that is looked at first: it is given to the world, and found honest exactly where it is fair, or names what
 -- is not there. Only a scan of what is there can go without being given, if memory for the look is refused; it changes

@@ -3,12 +3,9 @@ use Rattle.std.specs.Prelude.{◌≡◌, ℕ, ◌+◌, ◌*◌, ◌<◌, Bool, f
 use Rattle.std.specs.Io.KnownBytes.{Appends, Consumes, IsAtEnd, Keeps}
 use Rattle.std.specs.Char.{is_ascii_digit}
 use Rattle.dm_size.specs.Squares.{Square}
-use Rattle.dm_pbm_io.specs.Image.{pixel_with_quiet_zone}
-use Rattle.dm_pbm_io.specs.declared.fault.PbmFault.{PbmFault}
+use Rattle.dm_pbm_io.specs.{Image.pixel_with_quiet_zone, declared.fault.PbmFault.PbmFault, Header.is_white}
 use Rattle.relay_streams.specs.Streams.{Fills, InputView, OutputView}
-use Rattle.dm_pbm_io.specs.declared.fault.PbmFault.TheVariants.{Read}
-use Rattle.dm_pbm_io.specs.Header.{is_white}
-use Rattle.dm_pbm_io.specs.declared.header.HeaderState.{HeaderState}
+use Rattle.dm_pbm_io.specs.declared.{fault.PbmFault.TheVariants.Read, header.HeaderState.HeaderState}
 use Rattle.dm_pbm_io.specs.declared.header.HeaderState.TheVariants.{AfterMagic, BeforeWidth, InWidth, BeforeHeight, InHeight, Done}
 
 -- the pixels of the image of a square, w wide: that many rows of the square are drawn, and all other pixels are light
@@ -18,7 +15,7 @@ pub record IsDrawnTo (s : Square) (w rows : ℕ) (pixels : List Bool) : Type 0 w
       → get_or pixels (r * w + c) false ≡ (if nat_lt r (rows + 1) then pixel_with_quiet_zone s r c else false)
 
 -- these bytes were taken, and no read has failed
-pub record Takes (old new : InputView) (bytes : List ℕ) : Type 0 where
+pub record TakesBytes (old new : InputView) (bytes : List ℕ) : Type 0 where
   pub consumed : Consumes old.remaining new.remaining bytes
   pub kept : new.has_failed ≡ old.has_failed
 
@@ -30,7 +27,7 @@ pub record FindsEnd (old new : InputView) : Type 0 where
 
 -- the next byte or the end
 abbrev pub TakesNext : InputView → InputView → Option ℕ → Type 0
-TakesNext old new found = MatchOption found (FindsEnd old new) (λ byte. Takes old new (byte ∷ []))
+TakesNext old new found = MatchOption found (FindsEnd old new) (λ byte. TakesBytes old new (byte ∷ []))
 
 -- the first `count` bytes of the buffer were taken, and whether a read has failed stays as it was
 pub record TakesFront (old new : InputView) (buffer : List ℕ) (count : ℕ) : Type 0 where
@@ -48,7 +45,7 @@ pub record TakesUntil (old new : InputView) (bytes : List ℕ) (fault : PbmFault
   pub remembers : Remembers old new fault
 
 -- this text was appended, and no write has failed
-pub record Adds (old new : OutputView) (text : List ℕ) : Type 0 where
+pub record AppendsText (old new : OutputView) (text : List ℕ) : Type 0 where
   pub appended : Appends old.contents new.contents text
   pub kept : new.has_failed ≡ old.has_failed
 

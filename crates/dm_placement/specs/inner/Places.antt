@@ -1,18 +1,13 @@
--- Words by the places of their bits' modules, the shapes that may stand there, and the walk over the matrix.
+-- Codewords by the places of their bits' modules, the shapes that may stand there, and the walk over the matrix.
 use Rattle.std.specs.Prelude.{ℕ, ◌+◌, false, List, get_or, map, ◌≡◌, ◌≤◌, ◌<◌, ◌-◌, ◌*◌, ◌%◌, [], ◌∷◌, zero, suc, Bool, true, ◌==◌, nat_lt, nat_le, ◌&&◌, ◌||◌, not, if◌then◌else◌, ◌++◌, Option, Some, None}
-use Rattle.std.specs.List.{range_with_len, flat_map}
-use Rattle.std.specs.Option.{option_map, option_to_list}
+use Rattle.std.specs.{List.range_with_len, List.flat_map, Option.option_map, Option.option_to_list}
 use Rattle.dm_placement.specs.Placement.{number_of, place_of, cell_at, is_left_out, shape_cells, shapes}
-use Rattle.dm_placement.specs.declared.shape.Cell.{Cell}
-use Rattle.dm_placement.specs.declared.shape.Shape.{Shape}
+use Rattle.dm_placement.specs.declared.{shape.Cell.Cell, shape.Shape.Shape, walk.Sweep.Sweep, walk.Walk.Walk}
 use Rattle.dm_placement.specs.declared.shape.Shape.TheVariants.{Plain, CornerOne, CornerTwo}
-use Rattle.dm_size.specs.declared.size.Size.{Size}
-use Rattle.dm_size.specs.Sizes.{mapping}
-use Rattle.dm_placement.specs.declared.walk.Sweep.{Sweep}
+use Rattle.dm_size.specs.{declared.size.Size.Size, Sizes.mapping}
 use Rattle.dm_placement.specs.declared.walk.Sweep.TheVariants.{Start, Up, Down}
-use Rattle.dm_placement.specs.declared.walk.Walk.{Walk}
 
--- the word whose bits stand at eight places of a list, from index `from` on, among these modules
+-- the codeword whose bits stand at eight places of a list, from index `from` on, among these modules
 abbrev pub word_from_places : List Bool → List ℕ → ℕ → ℕ
 word_from_places modules places from =
     number_of (map (λ i. get_or modules (get_or places (from + i) 0) false) (range_with_len 0 8))
@@ -41,7 +36,7 @@ IsPlaceable n CornerTwo = Unit {0}
 -- the matrix, and over the two cells that are left out for the second corner shape. It counts rows and columns from 2
 -- above and left of the matrix, since it never goes further out on those sides.
 
--- the word at a position, if any
+-- the codeword at a position, if any
 unfoldable pub word_at : ℕ → ℕ → ℕ → List Shape
 word_at n r c =
     if ((nat_le 2 r && nat_lt r (n + 2)) && (nat_le 2 c && nat_lt c (n + 2))) && not (is_left_out n
@@ -79,13 +74,13 @@ pub record IsAhead (w : Walk) (shapes : List Shape) : Type 0 where
   pub walked : shapes_ahead steps w.side w.sweep w.row w.column ≡ Some shapes
 
 -- whether the walk has ended: it is to begin a sweep, and neither its row nor its column is inside of the matrix
-abbrev pub ends : Sweep → Bool → Bool
-ends Start inside = not inside
-ends Up inside = false
-ends Down inside = false
+abbrev pub walk_has_ended : Sweep → Bool → Bool
+walk_has_ended Start inside = not inside
+walk_has_ended Up inside = false
+walk_has_ended Down inside = false
 
 abbrev pub is_over : Walk → Bool
-is_over w = ends w.sweep (nat_lt w.row (w.side + 2) || nat_lt w.column (w.side + 2))
+is_over w = walk_has_ended w.sweep (nat_lt w.row (w.side + 2) || nat_lt w.column (w.side + 2))
 
 -- how far outside of the matrix the walk may be
 abbrev pub MayStand : ℕ → Sweep → ℕ → ℕ → Type 0
@@ -108,19 +103,19 @@ abbrev pub steps_left : Walk → ℕ
 steps_left w = 400 * (300 - (w.row + w.column)) + left_in w.sweep w.row w.column
 
 -- one step of the walk, with the shape that it places, if any
-pub record Steps (w w' : Walk) (shape : Option Shape) : Type 0 where
+pub record WalkSteps (w w' : Walk) (shape : Option Shape) : Type 0 where
   pub same_side : w'.side ≡ w.side
   pub stays : IsNearby w'
   pub nearer : steps_left w' < steps_left w
   pub ahead : (shapes : List Shape) → IsAhead w shapes
       → (later : List Shape) × (shapes ≡ option_to_list shape ++ later) × IsAhead w' later
 
--- the places of a word that was found, or none
+-- the places of a codeword that was found, or none
 abbrev pub places_found : Option (List ℕ) → List ℕ
 places_found (Some places) = places
 places_found None = []
 
--- these are the places of the words that the walk has come to, and the others are ahead
+-- these are the places of the codewords that the walk has come to, and the others are ahead
 pub record HasWalked (s : Size) (w : Walk) (places : List ℕ) : Type 0 where
   pub side : w.side ≡ mapping s
   pub nearby : IsNearby w

@@ -1,6 +1,6 @@
 // Files of pages of which one byte is changed or added, or the end is cut off: each is refused by the name that the
 // table of the format says, with nothing changed, or is another sound file, and then a desk holds exactly that one.
-use super::table::{answer, identification, length_of, page};
+use super::table::{answer, id_at, length_of, page};
 use super::{JOINT, JOINT_OF_NONE};
 use crate::printers::number;
 use dm_append_label::FileId;
@@ -37,7 +37,7 @@ fn sound_if(is_right: bool) -> &'static str {
 // Whether a desk holds the document of a sound file, each page of it, and no other.
 fn holds(desk: &Desk<MemSet>, file: &[u8]) -> bool {
     let document = after_version(file);
-    let id = u16::try_from(identification(document)).ok();
+    let id = u16::try_from(id_at(document)).ok();
     let Some(id) = id.and_then(FileId::of_number) else {
         return false;
     };
@@ -73,7 +73,7 @@ fn opened(alloc: Global, file: &[u8]) -> &'static str {
 fn is_answer(imported: Imported, file: &[u8]) -> bool {
     let document = after_version(file);
     let is_whole = (1..=imported.n).all(|m| page(document, m).is_some());
-    imported.id.number() as u32 == identification(document)
+    imported.id.number() as u32 == id_at(document)
         && document.get(2) == Some(&imported.n)
         && imported.added as u32 == number(document, 3)
         && imported.kind == if is_whole { Kind::Complete } else { Kind::New }
@@ -96,7 +96,7 @@ fn imported(alloc: Global, file: &[u8]) -> &'static str {
 fn has_all(set: MemSet, file: &[u8]) -> bool {
     let mut rest = file.get(7..).unwrap_or(b"");
     for _ in 0..number(file, 5) {
-        let key = u16::try_from(identification(rest)).unwrap_or(0);
+        let key = u16::try_from(id_at(rest)).unwrap_or(0);
         let length = length_of(rest).unwrap_or(0);
         let saved = set.content(key).unwrap_or(b"");
         if !saved.starts_with(b"DMPG\x02") || saved.get(5..) != rest.get(..length) {
@@ -141,7 +141,7 @@ fn answered(alloc: Global, how: How, file: &[u8]) -> Result<&'static str, AllocE
 
 // What is to be answered by the tables.
 fn wanted(how: How, file: &[u8]) -> &'static str {
-    let is_other = identification(after_version(file)) != u32::from(KEY);
+    let is_other = id_at(after_version(file)) != u32::from(KEY);
     let name = answer(file, if how == How::Move { 1 } else { 2 });
     if name == "sound" && how == How::Open && is_other {
         "Damaged"

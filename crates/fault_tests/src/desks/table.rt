@@ -3,7 +3,7 @@
 //
 //   4 bytes   the letters DMPG
 //   1         the version, 2
-//   2         the words of the document's identification, each 1 to 254
+//   2         the codewords of the document's ID, each 1 to 254
 //   1         how many pages the document has, 2 to 16
 //   2         which of them are held: bit m - 1 is set for page m
 //   2         for each page that is held its length, at most 2,600
@@ -12,14 +12,14 @@
 // and nothing after that. A file of version 1 has, after its version, 1:
 //
 //   2         how many documents there are
-//   ..        for each of them, by rising identification, what a file of version 2 has after its version
+//   ..        for each of them, by rising ID, what a file of version 2 has after its version
 //
 // and nothing after that.
 
 use crate::printers::number;
 
-// The number of the identification with which a document begins, or one above all numbers.
-pub fn identification(document: &[u8]) -> u32 {
+// The number of the ID with which a document begins, or one above all numbers.
+pub fn id_at(document: &[u8]) -> u32 {
     match document {
         [one @ 1..=254, other @ 1..=254, ..] => {
             254 * (*one as u32).saturating_sub(1) + (*other as u32).saturating_sub(1)
@@ -49,7 +49,7 @@ pub fn page(document: &[u8], m: u8) -> Option<&[u8]> {
 pub fn length_of(bytes: &[u8]) -> Option<usize> {
     let count = *bytes.get(2)?;
     let mut mask = number(bytes, 3);
-    if identification(bytes) > 65_535 || count < 2 || count > 16 || mask == 0 {
+    if id_at(bytes) > 65_535 || count < 2 || count > 16 || mask == 0 {
         return None;
     }
     let mut at = 5usize;
@@ -71,7 +71,7 @@ fn are_joint(bytes: &[u8]) -> Option<bool> {
     let mut rest = bytes.get(2..)?;
     let mut least = 0u32;
     for _ in 0..number(bytes, 0) {
-        let number = identification(rest);
+        let number = id_at(rest);
         if number < least {
             return None;
         }

@@ -1,7 +1,7 @@
 // A printer whose store stops at each of the device calls, under both ends of a stopped save, and a printer to which
 // each growth of memory is refused in turn. A call that was refused for lack of memory has changed nothing, and is done
 // when it is made again, by the same printer or by one that is opened on what is saved. After a save that failed the
-// printer is opened again, and goes on: no identification is given twice.
+// printer is opened again, and goes on: no ID is given twice.
 use dm_encodation::Scheme;
 use dm_print_ledger::{CreateFault, Printer, Range, Ticket};
 use dm_size::Size;

@@ -8,7 +8,7 @@
 //   2 and 2   for each of them its first and its last number; they rise, do not touch, and end at 64,515 or below
 //   1         from how many printers tickets were taken, at most 64
 //   2 and 2   for each of them its number and the serial of the last ticket; their numbers rise
-//   2         65,535 less the number of free identifications
+//   2         65,535 less the number of free IDs
 //
 // and nothing after that. A ledger of version 1 is any printer's, and has after its version, 1:
 //

@@ -2,8 +2,7 @@ use Rattle.std.proofs.Common.{◌∙◌, List, ℕ, ap, drop, subst, sym, rules}
 use Rattle.std.proofs.lemmas.Result.{err_from_is_err_and}
 use Rattle.dm_encodation.specs.Grammar.{ReadsOnly, StuckOnly}
 use Rattle.dm_symbol.specs.Correction.{data_of}
-use Rattle.dm_append_label.specs.Labels.{head_at}
-use Rattle.dm_append_label.specs.inner.ReadHeads.{view_of}
+use Rattle.dm_append_label.specs.{Labels.head_at, inner.ReadHeads.view_of}
 use Rattle.dm_append_label.proofs.Near.{bad_head}
 use Rattle.dm_append_label.proofs.opening.page_of.Goals as goal
 

@@ -1,5 +1,4 @@
-use Rattle.dm_assembly_desk.proofs.Masks.{names_missing}
-use Rattle.dm_assembly_desk.proofs.AddFacts.{names_added, page_merged, agreed}
+use Rattle.dm_assembly_desk.proofs.{Masks.names_missing, AddFacts.names_added, AddFacts.page_merged, AddFacts.agreed}
 use Rattle.dm_assembly_desk.proofs.LonePages.{lone_here, lone_else}
 use Rattle.dm_assembly_desk.proofs.laws.pages_by_number.Goals as goal
 

@@ -1,10 +1,8 @@
 use Rattle.std.proofs.Common.{arith, ◌≡◌, ◌∙◌, ◌+◌, List, ℕ, take, Some, Result, Ok, Err, ap, sym, subst, refl}
-use Rattle.std.specs.Prelude.{IsTrue, option_map}
-use Rattle.std.specs.FinMap.{keys as map_keys, entries as map_entries}
+use Rattle.std.specs.{Prelude.IsTrue, Prelude.option_map, FinMap.keys as map_keys, FinMap.entries as map_entries}
 use Rattle.std.proofs.lemmas.Result.{err_from_is_err_and}
 use Rattle.dm_store.specs.Saved.{Saved, Replaces, SavedSet, MayLackMemory}
-use Rattle.dm_assembly_desk.specs.Desk.{Moves, early}
-use Rattle.dm_assembly_desk.specs.inner.Reading.{lacking, WritesAll}
+use Rattle.dm_assembly_desk.specs.{Desk.Moves, Desk.early, inner.Reading.lacking, inner.Reading.WritesAll}
 use Rattle.dm_assembly_desk.specs.declared.fault.MoveFault.{MoveFault}
 use Rattle.dm_assembly_desk.proofs.JointContents.{all_of_them}
 use Rattle.dm_assembly_desk.proofs.MoveEnds.{no_documents, not_loaded, nothing_there, not_joint, none_there, no_keys, not_saved, ended}

@@ -1,5 +1,4 @@
-use Rattle.std.proofs.Common.{length, arith}
-use Rattle.std.proofs.lemmas.List.Elements.{recursion_from_All}
+use Rattle.std.proofs.{Common.length, Common.arith, lemmas.List.Elements.recursion_from_All}
 use Rattle.dm_gf256.proofs.OneBlockWord.{bytes_from_places}
 use Rattle.dm_check_blocks.proofs.OneCompletion.{one_list_of_checks}
 use Rattle.dm_check_blocks.proofs.checks.checks_of.Goals as goal

@@ -2,8 +2,7 @@ use Rattle.std.proofs.Common.{◌≡◌, ◌+◌, ◌-◌, ◌<◌, ◌≤◌, r
 use Rattle.std.proofs.lemmas.Bool.{cases_lt}
 use Rattle.std.specs.Int.Bits.{bit_xor, xor_self}
 use Rattle.dm_gf256.specs.Field.{product, power, value}
-use Rattle.dm_gf256.proofs.Ring.{product-zero_l, product-zero_r}
-use Rattle.dm_gf256.proofs.Divide.{length-add_scaled}
+use Rattle.dm_gf256.proofs.{Ring.product-zero_l, Ring.product-zero_r, Divide.length-add_scaled}
 use Rattle.dm_check_blocks.proofs.Generators.{first_zeros, next_size, next_first, next_generator, next_zeros}
 use Rattle.dm_check_blocks.proofs.generator.coefficients_of.Goals as goal
 

@@ -3,8 +3,7 @@ use Rattle.std.specs.Prelude.{slice_range}
 use Rattle.std.proofs.lemmas.List.{get_or-take, get_or-drop}
 use Rattle.dm_gf256.specs.Field.{power, value}
 use Rattle.dm_size.specs.Sizes.{blocks, block_data, block_checks}
-use Rattle.dm_check_blocks.specs.Blocks.{position, block_of}
-use Rattle.dm_check_blocks.specs.inner.Remainders.{row_at, IsDivided}
+use Rattle.dm_check_blocks.specs.{Blocks.position, Blocks.block_of, inner.Remainders.row_at, inner.Remainders.IsDivided}
 use Rattle.dm_size.proofs.Sound.{sound}
 use Rattle.dm_check_blocks.proofs.DivisionSteps.{divided_message}
 use Rattle.dm_check_blocks.proofs.Interleaving.{block_of-parts, position_in_data}

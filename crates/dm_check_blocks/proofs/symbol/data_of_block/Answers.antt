@@ -1,6 +1,5 @@
 use Rattle.std.proofs.Common.{arith, get_or-set_other, length-set, refl}
-use Rattle.dm_check_blocks.proofs.DivisionSteps.{zeros_at}
-use Rattle.dm_check_blocks.proofs.Interleaving.{gathered_more}
+use Rattle.dm_check_blocks.proofs.{DivisionSteps.zeros_at, Interleaving.gathered_more}
 use Rattle.dm_check_blocks.proofs.symbol.data_of_block.Goals as goal
 
 pub loop-i-init : goal.loop-i-init

@@ -1,10 +1,8 @@
 use Rattle.std.proofs.Common.{refl, sym, ap, ◌∙◌, ◌≡◌, ◌<◌, ◌≤◌, ◌*◌, ◌/◌, arith, length, ℕ, List}
 use Rattle.std.proofs.lemmas.List.{length-map}
 use Rattle.std.proofs.lemmas.Bool.{false≢true}
-use Rattle.dm_gf256.specs.declared.element.Gf.{Gf}
-use Rattle.dm_gf256.specs.Field.{numbers, differ, sum_word, IsBlockWord}
-use Rattle.dm_corrector.specs.inner.Polynomials.{AreSyndromes}
-use Rattle.dm_corrector.specs.Symbols.{Corrects, IsLocator}
+use Rattle.dm_gf256.specs.{declared.element.Gf.Gf, Field.numbers, Field.differ, Field.sum_word, Field.IsSoundBlock}
+use Rattle.dm_corrector.specs.{inner.Polynomials.AreSyndromes, Symbols.Corrects, Symbols.IsLocator}
 use Rattle.dm_corrector.proofs.Corrected.{recovered, block_syndromes, one_correction}
 use Rattle.dm_corrector.proofs.block.correct_wrong.Goals as goal
 
@@ -27,7 +25,7 @@ roots_of-roots-requires-clause-locator g c =
 few_roots : (t n : ℕ) (s : List ℕ) (p : List Gf) → n < length p → IsLocator t s (numbers p) → n ≤ t
 few_roots t n s p h i = grind (arith, length-map)
 
--- there are at most as many roots as wrong words may be put right
+-- there are at most as many roots as wrong codewords may be put right
 pub take_out-requires-clause-given : goal.take_out-requires-clause-given
 take_out-requires-clause-given g c =
     let t = c.args.checks / 2 in
@@ -65,7 +63,7 @@ returns-else-is_block_word g c = record {
       (λ f h z. rw c.as_slice-2.ensures.value (c.roots_of-roots.ensures.all f h z))
       (λ e l b s d. c.take_out.ensures.taken e (l ∙ sym (ap length copied)) b (λ k h. s k (omega arith)) d ∙
       ap (λ v. sum_word v e) copied) in
-      let word : IsBlockWord checks c.take_out.new.block = rw same r.block_word in
+      let word : IsSoundBlock checks c.take_out.new.block = rw same r.block_word in
       false≢true (c.if-is_block_word.ensures.1 word);
   unchanged = refl;
 }

@@ -1,8 +1,6 @@
 use Rattle.std.proofs.Common.{◌≡◌, ◌<◌, ◌-◌, ◌++◌, List, ℕ, refl, sym, ◌∙◌, ap, subst, arith, length, length-take, length-drop, take}
 use Rattle.std.specs.List.{All}
-use Rattle.std.proofs.lemmas.Bool.Decides.{Decides-eqb}
-use Rattle.std.proofs.lemmas.List.{take-append-drop}
-use Rattle.std.proofs.lemmas.List.Elements.{All-drop}
+use Rattle.std.proofs.lemmas.{Bool.Decides.Decides-eqb, List.take-append-drop, List.Elements.All-drop}
 use Rattle.std.proofs.lemmas.Slice.Eq.{slice_eq-Decides}
 use Rattle.dm_gf256.specs.Field.{power, value}
 use Rattle.dm_corrector.proofs.WordsByPlace.{all_bytes}

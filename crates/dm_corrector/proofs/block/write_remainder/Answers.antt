@@ -1,7 +1,6 @@
 use Rattle.std.proofs.Common.{◌≡◌, ◌-◌, refl, ap, ◌∙◌, arith, length, drop}
 use Rattle.dm_gf256.specs.Field.{add_scaled}
-use Rattle.dm_corrector.proofs.BlockRemainders.{is_remainder}
-use Rattle.dm_corrector.proofs.WordsByPlace.{all_bytes}
+use Rattle.dm_corrector.proofs.{BlockRemainders.is_remainder, WordsByPlace.all_bytes}
 use Rattle.dm_corrector.proofs.block.write_remainder.Goals as goal
 
 pub returns-clause-remainder : goal.returns-clause-remainder

@@ -1,21 +1,20 @@
 use Rattle.std.proofs.Common.{◌≡◌, ◌<◌, ℕ, List, sym, ◌∙◌, subst, arith, length, rules}
 use Rattle.std.specs.List.{All}
-use Rattle.dm_size.specs.declared.size.Size.{Size}
-use Rattle.dm_size.specs.Sizes.{all_words, blocks, block_checks}
+use Rattle.dm_size.specs.{declared.size.Size.Size, Sizes.all_words, Sizes.blocks, Sizes.block_checks}
 use Rattle.dm_check_blocks.specs.Blocks.{block_of}
 use Rattle.dm_corrector.specs.Symbols.{Corrects, CorrectsSymbol}
-use Rattle.dm_gf256.specs.Field.{IsBlockWord}
+use Rattle.dm_gf256.specs.Field.{IsSoundBlock}
 use Rattle.dm_gf256.proofs.OneBlockWord.{differ-self}
 use Rattle.dm_corrector.proofs.SymbolBlocks.{one_symbol, same_data, sound_symbol}
 use Rattle.dm_corrector.proofs.symbol.correct_symbol.Goals as goal
 
 -- words that were completed to themselves are clean
 clean : (s : Size) (words completed : List ℕ) → completed ≡ words → length words ≡ all_words s
-    → ((b : ℕ) → b < blocks s → IsBlockWord (block_checks s) (block_of s b completed))
+    → ((b : ℕ) → b < blocks s → IsSoundBlock (block_checks s) (block_of s b completed))
     → All (λ word. word < 256) completed → CorrectsSymbol s words words
 clean s words completed same count sound bytes =
     sound_symbol s words count
-    (subst (λ (v : List ℕ). (b : ℕ) → b < blocks s → IsBlockWord (block_checks s) (block_of s b v)) same sound)
+    (subst (λ (v : List ℕ). (b : ℕ) → b < blocks s → IsSoundBlock (block_checks s) (block_of s b v)) same sound)
     (subst (λ (v : List ℕ). All (λ word. word < 256) v) same bytes)
 
 pub returns-in-Err-clause-first : goal.returns-in-Err-clause-first

@@ -1,9 +1,7 @@
-use Rattle.std.proofs.lemmas.Grind.{common_steps}
+use Rattle.std.proofs.lemmas.{Grind.common_steps, Bool.cases_lt}
 use Rattle.std.proofs.Common.{◌≡◌, ◌%◌, ◌<◌, ℕ, arith}
-use Rattle.std.proofs.lemmas.Bool.{cases_lt}
 use Rattle.dm_gf256.specs.Field.{power}
-use Rattle.dm_gf256.proofs.Ring.{one-product, power-add, power_byte}
-use Rattle.dm_gf256.proofs.Tables.{whole_turn}
+use Rattle.dm_gf256.proofs.{Ring.one-product, Ring.power-add, Ring.power_byte, Tables.whole_turn}
 use Rattle.dm_corrector.proofs.values.write_powers.Goals as goal
 
 -- the powers of 2 repeat after 255 of them

@@ -1,6 +1,4 @@
-use Rattle.std.proofs.lemmas.Grind.{common_steps}
-use Rattle.std.proofs.Common.{arith, sym}
-use Rattle.std.proofs.lemmas.Bool.{eqb-false}
+use Rattle.std.proofs.{lemmas.Grind.common_steps, Common.arith, Common.sym, lemmas.Bool.eqb-false}
 use Rattle.std.proofs.lemmas.List.{take_rest}
 use Rattle.dm_encodation.proofs.AsciiWords.{ascii-digits, ascii-character, ascii-upper}
 use Rattle.dm_encodation.proofs.ascii.first_piece.Goals as goal

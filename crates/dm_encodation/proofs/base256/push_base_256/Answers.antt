@@ -1,6 +1,4 @@
-use Rattle.std.proofs.Common.{arith, vec_len}
-use Rattle.std.proofs.lemmas.List.{append-nil}
-use Rattle.std.proofs.lemmas.Bool.{eqb-false}
+use Rattle.std.proofs.{Common.arith, Common.vec_len, lemmas.List.append-nil, lemmas.Bool.eqb-false}
 use Rattle.std.proofs.lemmas.Result.{on_ok_weaker}
 use Rattle.dm_encodation.proofs.Base256Words.{base_256_nil, base_256_parts, empty_is}
 use Rattle.dm_encodation.proofs.base256.push_base_256.Goals as goal

@@ -1,7 +1,5 @@
-use Rattle.std.proofs.Common.{arith}
-use Rattle.std.proofs.lemmas.List.{length-take, take_more}
-use Rattle.dm_encodation.proofs.Counters.{small}
-use Rattle.dm_encodation.proofs.Prefixes.{fits_none}
+use Rattle.std.proofs.{Common.arith, lemmas.List.length-take, lemmas.List.take_more}
+use Rattle.dm_encodation.proofs.{Counters.small, Prefixes.fits_none}
 use Rattle.dm_encodation.proofs.counting.greatest_prefix.Goals as goal
 
 pub loop-index-init : goal.loop-index-init

@@ -1,5 +1,4 @@
-use Rattle.std.proofs.Common.{arith}
-use Rattle.std.proofs.lemmas.List.{length-take}
+use Rattle.std.proofs.{Common.arith, lemmas.List.length-take}
 use Rattle.dm_encodation.proofs.Counters.{small}
 use Rattle.dm_encodation.proofs.counting.word_count.Goals as goal
 

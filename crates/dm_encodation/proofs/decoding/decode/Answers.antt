@@ -1,7 +1,6 @@
 use Rattle.std.proofs.Common.{ℕ, ◌+◌, List, ◌++◌, drop, ap, ◌∙◌, arith}
-use Rattle.std.proofs.lemmas.List.{length-drop}
+use Rattle.std.proofs.lemmas.{List.length-drop, Result.err_from_is_err_and}
 use Rattle.dm_encodation.proofs.Lengths.{reads_short}
-use Rattle.std.proofs.lemmas.Result.{err_from_is_err_and}
 use Rattle.dm_encodation.proofs.Reread.{decided, decided_fault, bytes_from, never_memory}
 use Rattle.dm_encodation.proofs.decoding.decode.Goals as goal
 

@@ -1,8 +1,6 @@
 use Rattle.std.proofs.Common.{◌++◌, List, [], ℕ, drop, ◌+◌, ap, sym, ◌∙◌, append_assoc, arith}
-use Rattle.std.proofs.lemmas.List.{append-nil}
-use Rattle.std.proofs.lemmas.Result.{err_from_is_err_and}
-use Rattle.dm_encodation.specs.inner.Reading.{bytes_of, reading}
-use Rattle.dm_encodation.specs.declared.mode.Mode.TheVariants.{Ascii}
+use Rattle.std.proofs.lemmas.{List.append-nil, Result.err_from_is_err_and}
+use Rattle.dm_encodation.specs.{inner.Reading.bytes_of, inner.Reading.reading, declared.mode.Mode.TheVariants.Ascii}
 use Rattle.dm_encodation.proofs.ReadsToReading.{prepend-nil}
 use Rattle.dm_encodation.proofs.DecodeLoopSteps.{goes_on, fails_at, finishes, fails_last, padded_so}
 use Rattle.dm_encodation.proofs.decoding.read_words.Goals as goal

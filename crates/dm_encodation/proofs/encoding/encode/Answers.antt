@@ -1,8 +1,7 @@
 use Rattle.std.proofs.Common.{rules, ◌≡◌, ◌≤◌, arith}
 use Rattle.dm_size.specs.Sizes.{data_words}
 use Rattle.dm_encodation.specs.Written.{filled, need_of}
-use Rattle.dm_encodation.proofs.Filled.{length-filled, take-filled, filled_read}
-use Rattle.dm_encodation.proofs.Reread.{below_256}
+use Rattle.dm_encodation.proofs.{Filled.length-filled, Filled.take-filled, Filled.filled_read, Reread.below_256}
 use Rattle.dm_encodation.proofs.encoding.encode.Goals as goal
 
 pub returns-clause-whole : goal.returns-clause-whole

@@ -1,5 +1,4 @@
-use Rattle.std.proofs.Common.{refl, sym, arith}
-use Rattle.std.proofs.lemmas.List.{length-take}
+use Rattle.std.proofs.{Common.refl, Common.sym, Common.arith, lemmas.List.length-take}
 use Rattle.dm_encodation.proofs.RunWords.{run_length-nil, run_within, over_more, whole_more, whole_same}
 use Rattle.dm_encodation.proofs.run.run_bytes.Goals as goal
 

@@ -1,7 +1,6 @@
 use Rattle.std.proofs.Common.{◌≡◌, ◌%◌, length, take}
 use Rattle.std.specs.List.{flat_map}
-use Rattle.dm_encodation.specs.Grammar.{values_of}
-use Rattle.dm_encodation.specs.Written.{run_length}
+use Rattle.dm_encodation.specs.{Grammar.values_of, Written.run_length}
 use Rattle.dm_encodation.proofs.run.run_bytes.Given as goal
 
 abbrev pub invariant-loop-index : goal.invariant-loop-index

@@ -1,5 +1,4 @@
-use Rattle.dm_event_history.proofs.AsTold.{each_run_is_as_told}
-use Rattle.dm_event_history.proofs.FailedBefore.{each_failed_failed}
+use Rattle.dm_event_history.proofs.{AsTold.each_run_is_as_told, FailedBefore.each_failed_failed}
 use Rattle.dm_event_history.proofs.Legal.{each_step_is_legal}
 use Rattle.dm_event_history.proofs.laws.as_told.Goals as goal
 

@@ -1,6 +1,4 @@
-use Rattle.dm_event_history.proofs.Printed.{each_step_prints}
-use Rattle.dm_event_history.proofs.Stays.{each_step_keeps_clean}
-use Rattle.dm_event_history.proofs.Gives.{each_clean_desk_gives}
+use Rattle.dm_event_history.proofs.{Printed.each_step_prints, Stays.each_step_keeps_clean, Gives.each_clean_desk_gives}
 use Rattle.dm_event_history.proofs.laws.clean_desks.Goals as goal
 
 pub returns-clause-printed : goal.returns-clause-printed

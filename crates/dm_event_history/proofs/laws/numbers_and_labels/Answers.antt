@@ -1,5 +1,4 @@
-use Rattle.dm_event_history.proofs.KeepsNumbers.{each_step_keeps_numbers}
-use Rattle.dm_event_history.proofs.Once.{each_step_is_sound}
+use Rattle.dm_event_history.proofs.{KeepsNumbers.each_step_keeps_numbers, Once.each_step_is_sound}
 use Rattle.dm_event_history.proofs.Headline.{each_run_keeps_numbers}
 use Rattle.dm_event_history.proofs.laws.numbers_and_labels.Goals as goal
 

@@ -1,5 +1,4 @@
-use Rattle.dm_event_history.proofs.Counting.{each_exhausted_is_so}
-use Rattle.dm_event_history.proofs.Reasons.{each_step_is_refused_so}
+use Rattle.dm_event_history.proofs.{Counting.each_exhausted_is_so, Reasons.each_step_is_refused_so}
 use Rattle.dm_event_history.proofs.laws.reasons.Goals as goal
 
 pub returns-clause-refused : goal.returns-clause-refused

@@ -1,5 +1,4 @@
-use Rattle.dm_event_history.proofs.Between.{run_between}
-use Rattle.dm_event_history.proofs.SafeReplies.{each_fair_reply_is_safe}
+use Rattle.dm_event_history.proofs.{Between.run_between, SafeReplies.each_fair_reply_is_safe}
 use Rattle.dm_event_history.proofs.laws.safe_replies.Goals as goal
 
 pub returns-clause-held : goal.returns-clause-held

@@ -1,5 +1,4 @@
-use Rattle.dm_event_history.proofs.WorkedRuns.{are_runs}
-use Rattle.dm_event_history.proofs.NoRuns.{are_none}
+use Rattle.dm_event_history.proofs.{WorkedRuns.are_runs, NoRuns.are_none}
 use Rattle.dm_event_history.proofs.laws.worked_runs.Goals as goal
 
 pub returns-clause-runs : goal.returns-clause-runs

@@ -1,6 +1,5 @@
 use Rattle.std.proofs.Common.{◌≡◌, ◌++◌, ◌∷◌, [], Ok, Option, Vec, ℕ, length, refl, sym, subst, ◌∙◌, arith}
-use Rattle.dm_assembly_desk.specs.Desk.{Exports}
-use Rattle.dm_assembly_desk.specs.Documents.{Pages}
+use Rattle.dm_assembly_desk.specs.{Desk.Exports, Documents.Pages}
 use Rattle.dm_event_history.specs.Steps.{Looks, MayLackFirst, ExportTells}
 use Rattle.dm_event_world.proofs.DeskLooks.{down_answers, exported, lacks_its, no_bytes, not_held}
 use Rattle.dm_event_world.proofs.desk_act.export.Goals as goal

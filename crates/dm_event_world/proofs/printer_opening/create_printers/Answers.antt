@@ -1,7 +1,6 @@
 use Rattle.std.proofs.Common.{◌≡◌, ◌≤◌, length, arith, rules}
 use Rattle.std.proofs.lemmas.Option.{slice_get-get_or}
-use Rattle.dm_event_world.proofs.FewRanges.{few_ranges}
-use Rattle.dm_event_world.proofs.FreshPrinters.{one_more, created_fresh}
+use Rattle.dm_event_world.proofs.{FewRanges.few_ranges, FreshPrinters.one_more, FreshPrinters.created_fresh}
 use Rattle.dm_event_world.proofs.printer_opening.create_printers.Goals as goal
 
 pub overflow_cast-number : goal.overflow_cast-number

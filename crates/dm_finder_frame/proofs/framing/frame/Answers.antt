@@ -1,5 +1,4 @@
-use Rattle.std.proofs.Common.{arith}
-use Rattle.std.proofs.lemmas.List.FromFn.{length-map-range_with_len}
+use Rattle.std.proofs.{Common.arith, lemmas.List.FromFn.length-map-range_with_len}
 use Rattle.dm_finder_frame.specs.Frame.{grid_modules}
 use Rattle.dm_finder_frame.proofs.framing.frame.Goals as goal
 

@@ -1,7 +1,6 @@
 use Rattle.std.proofs.Common.{◌≡◌, ◌*◌}
 use Rattle.dm_size.specs.Sizes.{side}
-use Rattle.dm_finder_frame.specs.Frame.{grid_module}
-use Rattle.dm_finder_frame.specs.inner.Filled.{first_modules}
+use Rattle.dm_finder_frame.specs.{Frame.grid_module, inner.Filled.first_modules}
 use Rattle.dm_finder_frame.proofs.framing.frame.Given as goal
 
 abbrev pub invariant-loop-row : goal.invariant-loop-row

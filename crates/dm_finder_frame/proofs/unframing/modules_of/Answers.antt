@@ -1,6 +1,5 @@
 use Rattle.std.proofs.Common.{◌≡◌, ◌*◌, ℕ, ap, ◌∙◌, arith}
-use Rattle.dm_size.specs.declared.size.Size.{Size}
-use Rattle.dm_size.specs.Sizes.{mapping}
+use Rattle.dm_size.specs.{declared.size.Size.Size, Sizes.mapping}
 use Rattle.dm_finder_frame.specs.Frame.{matrix_modules}
 use Rattle.dm_finder_frame.proofs.unframing.modules_of.Goals as goal
 

@@ -1,7 +1,6 @@
 use Rattle.std.proofs.Common.{◌≡◌, ◌+◌, ◌*◌}
 use Rattle.dm_size.specs.Sizes.{mapping, region}
-use Rattle.dm_finder_frame.specs.Frame.{matrix_module}
-use Rattle.dm_finder_frame.specs.inner.Filled.{first_modules}
+use Rattle.dm_finder_frame.specs.{Frame.matrix_module, inner.Filled.first_modules}
 use Rattle.dm_finder_frame.proofs.unframing.push_row.Given as goal
 
 abbrev pub invariant-loop-b : goal.invariant-loop-b

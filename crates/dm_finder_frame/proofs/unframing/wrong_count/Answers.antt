@@ -1,5 +1,4 @@
-use Rattle.std.proofs.lemmas.Grind.{common_steps}
-use Rattle.std.proofs.Common.{arith}
+use Rattle.std.proofs.{lemmas.Grind.common_steps, Common.arith}
 use Rattle.dm_finder_frame.specs.Frame.{wrong_frame_modules}
 use Rattle.dm_finder_frame.proofs.WrongCounts.{joined, turned, passed}
 use Rattle.dm_finder_frame.proofs.unframing.wrong_count.Goals.{then-place-framed, else-place-framed}

@@ -1,8 +1,7 @@
 use Rattle.std.specs.Prelude.{◌%◌}
 use Rattle.std.proofs.Common.{◌≡◌, ℕ, ◌+◌, ◌*◌, ◌<◌, ◌||◌, Bool, cond, eqb, false, get_or, ap, sym, ◌∙◌, arith}
 use Rattle.dm_size.specs.Sizes.{side, region}
-use Rattle.dm_finder_frame.specs.Frame.{is_wrong, GridView, grid_module_at}
-use Rattle.dm_finder_frame.specs.inner.Filled.{wrong_among}
+use Rattle.dm_finder_frame.specs.{Frame.is_wrong, Frame.GridView, Frame.grid_module_at, inner.Filled.wrong_among}
 use Rattle.dm_finder_frame.proofs.GridPlaces.{even_columns}
 use Rattle.dm_finder_frame.proofs.WrongCounts.{line_module, one_more, is_test, differs_is, wrong_is, on_ends, ends_value, test_number, at_most_one}
 use Rattle.dm_finder_frame.proofs.unframing.wrong_in_row.Goals as goal

@@ -1,6 +1,5 @@
 use Rattle.std.proofs.Common.{◌≡◌, ◌+◌, ◌*◌, arith, ℕ, rules}
-use Rattle.dm_size.specs.declared.size.Size.{Size}
-use Rattle.dm_size.specs.Sizes.{region, regions}
+use Rattle.dm_size.specs.{declared.size.Size.Size, Sizes.region, Sizes.regions}
 use Rattle.dm_finder_frame.specs.Frame.{frame_module_count}
 use Rattle.dm_finder_frame.proofs.unframing.wrong_modules.Goals as goal
 

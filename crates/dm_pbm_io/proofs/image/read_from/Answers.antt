@@ -1,8 +1,7 @@
 use Rattle.std.proofs.Common.{◌++◌, ap, sym, refl}
 use Rattle.std.proofs.lemmas.Result.{err_from_is_err_and}
 use Rattle.dm_pbm_io.proofs.Streaming.{takes-trans, until-trans}
-use Rattle.dm_pbm_io.specs.Header.{magic}
-use Rattle.dm_pbm_io.specs.Image.Refuses.{after_magic}
+use Rattle.dm_pbm_io.specs.{Header.magic, Image.Refuses.after_magic}
 use Rattle.dm_pbm_io.proofs.image.read_from.Goals as goal
 
 pub returns-in_err-image : goal.returns-in_err-image

@@ -1,7 +1,6 @@
 use Rattle.std.proofs.Common.{arith}
 use Rattle.dm_pbm_io.specs.Image.{picture}
-use Rattle.dm_pbm_io.proofs.Insides.{length-inside}
-use Rattle.dm_pbm_io.proofs.Shapes.{wide_enough, as_many}
+use Rattle.dm_pbm_io.proofs.{Insides.length-inside, Shapes.wide_enough, Shapes.as_many}
 use Rattle.dm_pbm_io.proofs.symbol_image.grid_of.Goals as goal
 
 pub modules_of-requires-clause-zone : goal.modules_of-requires-clause-zone

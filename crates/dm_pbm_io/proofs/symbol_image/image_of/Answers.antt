@@ -1,8 +1,7 @@
 use Rattle.std.proofs.Common.{◌≡◌, ◌+◌, ap, refl, ◌∙◌, arith}
 use Rattle.dm_size.specs.Sizes.{side}
 use Rattle.dm_finder_frame.specs.Frame.{square_of}
-use Rattle.dm_pbm_io.proofs.OneImage.{same_picture}
-use Rattle.dm_pbm_io.proofs.QuietZone.{drawn_pixels}
+use Rattle.dm_pbm_io.proofs.{OneImage.same_picture, QuietZone.drawn_pixels}
 use Rattle.dm_pbm_io.proofs.symbol_image.image_of.Goals as goal
 
 pub returns-clause-image : goal.returns-clause-image

@@ -1,7 +1,6 @@
 use Rattle.std.proofs.Common.{◌≡◌, ◌<◌, ℕ, ◌+◌, ◌-◌, ◌*◌, ◌++◌, ◌∷◌, [], List, Bool, length, drop, ap, ◌∙◌, append_assoc, append-nil, drop-drop, take_all, arith}
 use Rattle.std.proofs.lemmas.List.{take_rest, take_more_set}
-use Rattle.dm_pbm_io.specs.Header.{stride}
-use Rattle.dm_pbm_io.specs.Image.{number_of_first, packed}
+use Rattle.dm_pbm_io.specs.{Header.stride, Image.number_of_first, Image.packed}
 use Rattle.dm_pbm_io.proofs.Written.{packed_step}
 use Rattle.dm_pbm_io.proofs.write.pack.Goals as goal
 

@@ -1,6 +1,5 @@
 use Rattle.std.proofs.Common.{◌≡◌, ◌-◌, ◌*◌, ◌++◌, drop, length, take}
-use Rattle.dm_pbm_io.specs.Header.{stride}
-use Rattle.dm_pbm_io.specs.Image.{packed}
+use Rattle.dm_pbm_io.specs.{Header.stride, Image.packed}
 use Rattle.dm_pbm_io.proofs.write.pack.Given as goal
 
 abbrev pub invariant-loop-at : goal.invariant-loop-at

@@ -1,7 +1,6 @@
 use Rattle.std.proofs.Common.{arith, ◌≡◌, ℕ, List, [], ◌∷◌, ◌++◌, sym, subst, append_assoc}
 use Rattle.std.specs.Fmt.{decimal}
-use Rattle.dm_pbm_io.specs.Header.{magic}
-use Rattle.dm_pbm_io.specs.Image.{Picture, picture, rows_text, written}
+use Rattle.dm_pbm_io.specs.{Header.magic, Image.Picture, Image.picture, Image.rows_text, Image.written}
 use Rattle.dm_pbm_io.proofs.Streaming.{adds_rest}
 use Rattle.relay_streams.proofs.Parts.{part_more, part_after}
 use Rattle.relay_streams.specs.Streams.{AppendsPart}

@@ -1,9 +1,7 @@
 use Rattle.std.proofs.Common.{arith, ℕ, Some, ap, append-nil, map, subst, sym, ◌∙◌, ◌++◌}
 use Rattle.dm_size.specs.Sizes.{mapping}
-use Rattle.dm_placement.specs.Placement.{shape_cells, place_of}
-use Rattle.dm_placement.specs.inner.Places.{IsPlaceable}
-use Rattle.dm_placement.proofs.EachSize.{side_is_sound}
-use Rattle.dm_placement.proofs.WalkedWords.{fits_here, walked_more}
+use Rattle.dm_placement.specs.{Placement.shape_cells, Placement.place_of, inner.Places.IsPlaceable}
+use Rattle.dm_placement.proofs.{EachSize.side_is_sound, WalkedWords.fits_here, WalkedWords.walked_more}
 use Rattle.dm_placement.proofs.layout.places_of_step.Goals as goal
 
 pub step-requires-clause-side : goal.step-requires-clause-side

@@ -1,12 +1,10 @@
-use Rattle.std.proofs.lemmas.Grind.{common_steps}
+use Rattle.std.proofs.lemmas.{Grind.common_steps, List.length-map}
 use Rattle.std.specs.List.{range_with_len}
 use Rattle.std.proofs.Common.{◌≡◌, ◌*◌, ◌++◌, ◌∷◌, [], arith, ap, sym, ◌∙◌, ℕ, map, List, zero-add}
-use Rattle.std.proofs.lemmas.List.{length-map}
 use Rattle.std.proofs.lemmas.List.FromFn.{map-range_with_len_more, length-map-range_with_len}
 use Rattle.dm_size.specs.Sizes.{mapping}
 use Rattle.dm_placement.specs.Placement.{bit_cells, word_from, lifted}
-use Rattle.dm_placement.proofs.LiftedWords.{same_word}
-use Rattle.dm_placement.proofs.Places.{all_places_in}
+use Rattle.dm_placement.proofs.{LiftedWords.same_word, Places.all_places_in}
 use Rattle.dm_placement.proofs.ShapesSound.{all_in_bits, bit_count}
 use Rattle.dm_placement.proofs.lifting.lift_with.Goals as goal
 

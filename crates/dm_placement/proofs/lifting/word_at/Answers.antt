@@ -1,5 +1,4 @@
-use Rattle.std.proofs.lemmas.Grind.{common_steps}
-use Rattle.std.proofs.Common.{arith}
+use Rattle.std.proofs.{lemmas.Grind.common_steps, Common.arith}
 use Rattle.dm_placement.proofs.BinaryDigits.{byte_number, more_below, number_more}
 use Rattle.dm_placement.proofs.lifting.word_at.Goals as goal
 

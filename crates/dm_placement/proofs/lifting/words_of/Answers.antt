@@ -1,21 +1,17 @@
 use Rattle.std.specs.List.{range_with_len}
 use Rattle.std.proofs.Common.{◌≡◌, ◌+◌, ◌*◌, ◌≤◌, ◌++◌, ◌∷◌, [], arith, ap, sym, ◌∙◌, ℕ, Bool, true, false, get_or, length, map, List, zero-add, append-nil, length-append, refl, rules}
-use Rattle.std.proofs.Math.ListN.{get_or-append}
+use Rattle.std.proofs.{Math.ListN.get_or-append, lemmas.List.FromFn.map-range_with_len_more}
 use Rattle.std.proofs.lemmas.List.{get_or-append-add, get_or_default, length-map}
-use Rattle.std.proofs.lemmas.List.FromFn.{map-range_with_len_more}
-use Rattle.dm_size.specs.Sizes.{all_words, mapping}
+use Rattle.dm_size.specs.{Sizes.all_words, Sizes.mapping, declared.size.Size.Size, Squares.Square}
 use Rattle.dm_placement.specs.Placement.{bit_cells, lifted, number_of, place_of, word_from}
 use Rattle.dm_placement.specs.declared.walk.Walk.{Walk}
-use Rattle.dm_size.specs.declared.size.Size.{Size}
-use Rattle.dm_size.specs.Squares.{Square}
 use Rattle.dm_placement.specs.inner.Places.{HasWalked, is_over, word_from_places}
-use Rattle.dm_placement.proofs.EachSize.{few_words, side_is_sound}
+use Rattle.dm_placement.proofs.{EachSize.few_words, EachSize.side_is_sound, ShapesSound.bit_count}
 use Rattle.dm_placement.proofs.LiftedWords.{same_made, same_word}
-use Rattle.dm_placement.proofs.ShapesSound.{bit_count}
 use Rattle.dm_placement.proofs.WalkedWords.{all_walked, walked_few, walked_in}
 use Rattle.dm_placement.proofs.lifting.words_of.Goals as goal
 
--- a word is read at the places alone that it stands at
+-- a codeword is read at the places alone that it stands at
 front_word : (modules : List Bool) (places new : List ℕ) (from : ℕ) → from + 8 ≤ length places
     → word_from_places modules places from ≡ word_from_places modules (places ++ new) from
 front_word modules places new from long =
@@ -29,7 +25,7 @@ last_word modules places new from long = rw (← long)
     (λ i h. ap (λ place. get_or modules place false)
     (ap (λ k. get_or new k 0) (zero-add i) ∙ sym (get_or-append-add places new i 0)))))
 
--- one word more is read
+-- one codeword more is read
 more_read : (modules : List Bool) (places new words words' : List ℕ) → length places ≡ 8 * length words
     → words ≡ map (λ word. word_from_places modules places (8 * word)) (range_with_len 0 (length words))
     → words' ≡ words ++ word_from_places modules new 0 ∷ []
@@ -82,7 +78,7 @@ loop-size-preserved c =
     let i = c.loop-size.invariant in
     (i.0, grind (arith, append-nil, c.places_of_step.ensures.walked i.0 i.1), i.2, i.3)
 
--- all words are read
+-- all codewords are read
 all_read : (s : Size) (w : Walk) (modules : List Bool) (places words : List ℕ) → HasWalked s w places → is_over w ≡ true
     → length places ≡ 8 * length words
     → words ≡ map (λ word. word_from_places modules places (8 * word)) (range_with_len 0 (length words))

@@ -1,17 +1,12 @@
 use Rattle.std.specs.Int.{bit_at}
 use Rattle.std.proofs.Common.{zero-add, false, ◌≡◌, ◌<◌, ◌+◌, ◌-◌, ◌*◌, ◌/◌, ◌%◌, arith, ap, refl, sym, ◌∙◌, get_or, set, subst, length, eqb, Bool, List, ℕ, map}
-use Rattle.std.proofs.lemmas.List.{length-map}
-use Rattle.std.proofs.lemmas.List.FromFn.{get_or-map-range_with_len}
-use Rattle.dm_size.specs.declared.size.Size.{Size}
-use Rattle.dm_size.specs.Sizes.{all_words, mapping}
+use Rattle.std.proofs.lemmas.List.{length-map, FromFn.get_or-map-range_with_len}
+use Rattle.dm_size.specs.{declared.size.Size.Size, Sizes.all_words, Sizes.mapping}
 use Rattle.dm_size.specs.Squares.{Square, with_module, light_square}
 use Rattle.dm_placement.specs.Placement.{byte_bits, bit_cells, cell_at, dark_cells, bit_of, place_of, with_dark}
-use Rattle.dm_placement.proofs.EachSize.{side_is_sound}
-use Rattle.dm_placement.proofs.Places.{place_at, places_in}
+use Rattle.dm_placement.proofs.{EachSize.side_is_sound, Places.place_at, Places.places_in, PlacedMatrix.placed_only}
 use Rattle.dm_placement.proofs.PlacedBits.{Placing, placing_start, placing_step, placing_end}
-use Rattle.dm_placement.proofs.PlacedMatrix.{placed_only}
-use Rattle.dm_placement.proofs.ShapesSound.{all_in_bits, bit_count}
-use Rattle.dm_placement.proofs.Tiled.{tiled_size}
+use Rattle.dm_placement.proofs.{ShapesSound.all_in_bits, ShapesSound.bit_count, Tiled.tiled_size}
 use Rattle.dm_placement.proofs.placing.place_with.Goals as goal
 
 pub loop-k-init : goal.loop-k-init
@@ -22,7 +17,7 @@ loop-k-init g c =
     subst (λ (m : Square). Placing n c.args.words.now m 0) (sym blank)
     (placing_start n c.args.words.now (side_is_sound c.args.layout.now).eight)
 
--- there are eight places for each word
+-- there are eight places for each codeword
 all_places : (s : Size) (places : List ℕ) → places ≡ map (place_of (mapping s)) (bit_cells (mapping s))
     → length places ≡ 8 * all_words s
 all_places s places e = grind (arith, length-map, bit_count)

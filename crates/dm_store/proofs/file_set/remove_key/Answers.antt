@@ -1,7 +1,6 @@
 use Rattle.std.proofs.Common.{Result, Err, ap, refl, ◌∙◌}
 use Rattle.dm_store.proofs.Saving.{not_both, saves_told}
-use Rattle.dm_store.specs.Disk.{draft_of}
-use Rattle.dm_store.specs.declared.store.StoreFault.{StoreFault}
+use Rattle.dm_store.specs.{Disk.draft_of, declared.store.StoreFault.StoreFault}
 use Rattle.dm_store.specs.declared.store.StoreFault.TheVariants.{Device}
 use Rattle.dm_store.proofs.file_set.remove_key.Goals as goal
 

@@ -1,8 +1,7 @@
 use Rattle.std.proofs.Common.{◌∙◌, ap, subst, sym}
 use Rattle.std.specs.Prelude.{IsTrue}
 use Rattle.dm_store.specs.Disk.{draft_of}
-use Rattle.dm_store.proofs.Names.{draft_apart}
-use Rattle.dm_store.proofs.Saving.{ends_early, keeps_on, saves_on}
+use Rattle.dm_store.proofs.{Names.draft_apart, Saving.ends_early, Saving.keeps_on, Saving.saves_on}
 use Rattle.dm_store.proofs.file_set.replace_key.Goals as goal
 
 pub returns-in_err-make_once-clause-saves : goal.returns-in_err-make_once-clause-saves

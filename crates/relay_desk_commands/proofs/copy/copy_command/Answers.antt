@@ -1,10 +1,8 @@
 use Rattle.std.proofs.Common.{Ok, Err, refl}
 use Rattle.dm_pbm_io.specs.Image.{picture, written}
-use Rattle.relay_shared.proofs.Writing.{puts}
-use Rattle.relay_shared.proofs.Telling.{told_bytes}
-use Rattle.relay_desk_commands.specs.Desks.EndsCopyOf.{no_side, of_side}
+use Rattle.relay_shared.proofs.{Writing.puts, Telling.told_bytes}
+use Rattle.relay_desk_commands.specs.Desks.{EndsCopyOf.no_side, EndsCopyOf.of_side, EndsOnId.no_id, EndsOnId.of_id}
 use Rattle.relay_desk_commands.specs.Desks.EndsAtDesk.{no_desk, opened}
-use Rattle.relay_desk_commands.specs.Desks.EndsOnId.{no_id, of_id}
 use Rattle.relay_desk_commands.proofs.copy.copy_command.Goals.{in-Ok-copy_of, in-Err-copy_of}
 use Rattle.relay_desk_commands.proofs.copy.copy_command.Goals as goal
 

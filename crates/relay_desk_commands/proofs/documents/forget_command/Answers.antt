@@ -1,7 +1,6 @@
 use Rattle.std.proofs.Common.{Ok, Err, refl}
 use Rattle.relay_shared.proofs.Telling.{told}
-use Rattle.relay_desk_commands.specs.Desks.EndsAtDesk.{no_desk, opened}
-use Rattle.relay_desk_commands.specs.Desks.EndsOnId.{no_id, of_id}
+use Rattle.relay_desk_commands.specs.Desks.{EndsAtDesk.no_desk, EndsAtDesk.opened, EndsOnId.no_id, EndsOnId.of_id}
 use Rattle.relay_desk_commands.proofs.documents.forget_command.Goals.{in-Ok-forget, in-Err-forget}
 use Rattle.relay_desk_commands.proofs.documents.forget_command.Goals as goal
 

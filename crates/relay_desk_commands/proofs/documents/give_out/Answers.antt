@@ -1,8 +1,6 @@
 use Rattle.std.proofs.Common.{Ok, Err, refl}
-use Rattle.relay_shared.proofs.Writing.{puts}
-use Rattle.relay_shared.proofs.Telling.{told_bytes}
-use Rattle.relay_desk_commands.specs.Desks.EndsAtDesk.{no_desk, opened}
-use Rattle.relay_desk_commands.specs.Desks.EndsOnId.{no_id, of_id}
+use Rattle.relay_shared.proofs.{Writing.puts, Telling.told_bytes}
+use Rattle.relay_desk_commands.specs.Desks.{EndsAtDesk.no_desk, EndsAtDesk.opened, EndsOnId.no_id, EndsOnId.of_id}
 use Rattle.relay_desk_commands.proofs.documents.give_out.Goals.{in-Ok-bytes_of, in-Err-bytes_of}
 use Rattle.relay_desk_commands.proofs.documents.give_out.Goals as goal
 

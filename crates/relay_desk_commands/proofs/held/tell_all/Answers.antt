@@ -1,14 +1,11 @@
 use mir.Val.{bool_byte}
 use Rattle.std.proofs.Common.{◌≡◌, ◌++◌, ◌∙◌, ℕ, List, Result, Ok, Err, true, ap, arith, refl, sym}
 use Rattle.std.specs.Prelude.{MatchResult, is_err}
-use Rattle.relay_desk_commands.specs.Desks.{joint_line, seen_line}
-use Rattle.relay_desk_commands.specs.Desks.Lists.{begun, further}
+use Rattle.relay_desk_commands.specs.Desks.{joint_line, seen_line, Lists.begun, Lists.further, Says.all, Says.no_keys}
 use Rattle.relay_shared.proofs.Telling.{told, told_else}
-use Rattle.relay_shared.specs.Command.{Puts}
-use Rattle.relay_streams.specs.Streams.{AppendsPart, OutputView}
-use Rattle.relay_streams.specs.declared.fault.WriteFault.{WriteFault}
+use Rattle.relay_shared.specs.Command.{PutsText}
+use Rattle.relay_streams.specs.{Streams.AppendsPart, Streams.OutputView, declared.fault.WriteFault.WriteFault}
 use Rattle.relay_desk_commands.proofs.held.tell_all.Goals.{then-unsound, else-unsound}
-use Rattle.relay_desk_commands.specs.Desks.Says.{all, no_keys}
 use Rattle.relay_desk_commands.specs.Desks.TellsHeld.{cut_off, whole}
 use Rattle.relay_desk_commands.proofs.held.tell_all.Goals as goal
 
@@ -44,7 +41,7 @@ returns-in-Err-clause-tells g c =
 
 -- the output has refused a line
 cut_by : {text : List ℕ} {old new : OutputView} (put : Result (Unit {0}) WriteFault) → is_err put ≡ true
-    → Puts text old put new → (new.has_failed ≡ true) × AppendsPart old.contents new.contents text
+    → PutsText text old put new → (new.has_failed ≡ true) × AppendsPart old.contents new.contents text
 cut_by (Ok x) is puts = cc
 cut_by (Err e) is puts = (puts.failed, puts.part)
 

@@ -1,7 +1,6 @@
 use Rattle.std.proofs.Common.{Ok, Err, ap, refl}
 use Rattle.relay_shared.proofs.Telling.{told}
-use Rattle.relay_desk_commands.specs.Desks.EndsAtDesk.{no_desk, opened}
-use Rattle.relay_desk_commands.specs.Desks.EndsImport.{not_read, read}
+use Rattle.relay_desk_commands.specs.Desks.{EndsAtDesk.no_desk, EndsAtDesk.opened, EndsImport.not_read, EndsImport.read}
 use Rattle.relay_desk_commands.proofs.import.import_command.Goals.{in-Ok-import, in-Err-import}
 use Rattle.relay_desk_commands.proofs.import.import_command.Goals as goal
 

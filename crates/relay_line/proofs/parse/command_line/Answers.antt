@@ -1,8 +1,7 @@
 use Rattle.std.proofs.Common.{ℕ, List, Option, Some, None, IsSomeAnd, inr}
 use Rattle.std.proofs.lemmas.Result.{IfOk-weaker}
 use Rattle.clap.specs.Words.{Row}
-use Rattle.relay_line.specs.declared.line.CommandLine.{CommandLine}
-use Rattle.relay_line.specs.Line.{IsFoundIn}
+use Rattle.relay_line.specs.{declared.line.CommandLine.CommandLine, Line.IsFoundIn}
 use Rattle.relay_line.proofs.parse.command_line.Goals as goal
 
 met_line : (met : Option (List ℕ × List Row)) (line : CommandLine)

@@ -1,8 +1,6 @@
 use Rattle.std.proofs.Common.{◌≡◌, ◌+◌, ◌++◌, ◌∷◌, [], arith, length, map, subst}
-use Rattle.std.proofs.lemmas.Grind.{common_steps}
-use Rattle.std.proofs.lemmas.List.{length-map}
-use Rattle.relay_printer_commands.specs.Printers.{ShowsFile}
-use Rattle.relay_printer_commands.specs.Printers.Gathers.{begun}
+use Rattle.std.proofs.lemmas.{Grind.common_steps, List.length-map}
+use Rattle.relay_printer_commands.specs.Printers.{ShowsFile, Gathers.begun}
 use Rattle.relay_printer_commands.proofs.AuditSteps.{file_gathered}
 use Rattle.relay_printer_commands.proofs.audit.gather_files.Goals as goal
 

@@ -1,7 +1,6 @@
 use Rattle.std.proofs.Common.{◌≡◌, ◌++◌, ◌∷◌, [], arith, length}
-use Rattle.std.proofs.lemmas.Grind.{common_steps}
-use Rattle.std.proofs.lemmas.List.{length-map}
-use Rattle.relay_printer_commands.specs.Printers.{texts}
+use Rattle.std.proofs.lemmas.{Grind.common_steps, List.length-map}
+use Rattle.relay_printer_commands.specs.Printers.{line_texts}
 use Rattle.relay_printer_commands.proofs.AuditSteps.{line_gathered}
 use Rattle.relay_printer_commands.proofs.audit.gather_lines.Goals as goal
 
@@ -13,5 +12,6 @@ loop-i-preserved g c = λ files n begun.
 
 pub returns : goal.returns
 returns g c = λ files n begun.
-    let all : c.loop-i.i ≡ length (texts c.args.lines.now) = omega (arith, length-map c.args.lines.now (λ line. line.now)) in
+    let all : c.loop-i.i
+    ≡ length (line_texts c.args.lines.now) = omega (arith, length-map c.args.lines.now (λ line. line.now)) in
     rw all at (c.loop-i.invariant files n begun)

@@ -1,6 +1,5 @@
 use Rattle.std.proofs.Common.{take}
-use Rattle.std.specs.List.{flat_map}
-use Rattle.std.specs.Io.KnownBytes.{Appends}
+use Rattle.std.specs.{List.flat_map, Io.KnownBytes.Appends}
 use Rattle.relay_printer_commands.specs.Printers.{took_line}
 use Rattle.relay_printer_commands.proofs.left.put_givers.Given as goal
 

@@ -1,6 +1,5 @@
 use Rattle.std.proofs.Common.{◌<◌}
-use Rattle.dm_size.specs.declared.size.Size.{Size}
-use Rattle.dm_size.specs.Sizes.{side}
+use Rattle.dm_size.specs.{declared.size.Size.Size, Sizes.side}
 use Rattle.relay_printer_commands.specs.Printers.{Suits}
 use Rattle.relay_printer_commands.proofs.print.chosen.Given as goal
 

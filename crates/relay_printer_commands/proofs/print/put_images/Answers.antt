@@ -1,17 +1,13 @@
 use Rattle.std.proofs.Common.{◌≡◌, ◌∙◌, List, [], ◌∷◌, ◌++◌, ap, sym, subst, append_assoc}
-use Rattle.std.proofs.KnownBytes.{Appends-trans}
-use Rattle.std.proofs.lemmas.Grind.{flat_map-append}
-use Rattle.std.proofs.lemmas.List.{flat_map_more}
-use Rattle.std.proofs.lemmas.List.Concat.{flat_map-cons}
-use Rattle.std.proofs.lemmas.Result.{err_from_is_err_and}
+use Rattle.std.proofs.{KnownBytes.Appends-trans, lemmas.Grind.flat_map-append, lemmas.List.flat_map_more}
+use Rattle.std.proofs.lemmas.{List.Concat.flat_map-cons, Result.err_from_is_err_and}
 use Rattle.dm_finder_frame.specs.Frame.{GridView}
 use Rattle.std.specs.Io.KnownBytes.{Appends}
 use Rattle.dm_pbm_io.specs.Image.{p4, written}
 use Rattle.dm_print_ledger.specs.Ledger.{JobView}
 use Rattle.relay_streams.specs.Streams.{AppendsPart}
 use Rattle.relay_streams.proofs.Parts.{part_after, part_more}
-use Rattle.relay_printer_commands.specs.Printers.{images_of}
-use Rattle.relay_printer_commands.specs.Printers.LosesImages.{memory, write}
+use Rattle.relay_printer_commands.specs.Printers.{images_of, LosesImages.memory, LosesImages.write}
 use Rattle.relay_printer_commands.proofs.print.put_images.Goals as goal
 
 -- the labels that were taken, the next one, and the others

@@ -1,6 +1,5 @@
 use Rattle.std.proofs.Common.{◌≡◌, ◌⊎◌, inl, inr, ℕ, List, ◌∷◌, [], None, Option, Some, refl, subst, sym}
-use Rattle.std.specs.List.{AllByRecursion}
-use Rattle.std.specs.Prelude.{IfSome, IsSomeAnd}
+use Rattle.std.specs.{List.AllByRecursion, Prelude.IfSome, Prelude.IsSomeAnd}
 use Rattle.dm_finder_frame.specs.Frame.{GridView}
 use Rattle.dm_symbol.specs.Correction.{IsNear}
 use Rattle.dm_print_ledger.specs.Ledger.{JobView}
@@ -8,7 +7,7 @@ use Rattle.relay_streams.specs.Streams.{AppendsPart, InputView}
 use Rattle.relay_shared.specs.Command.{ReadsDocument}
 use Rattle.relay_desk_commands.specs.Desks.{IsTextOfId}
 use Rattle.relay.specs.Program.{path_of}
-use Rattle.relay_program_runs.specs.Law.{IsFirstOfItsId, LetsOut, Prints, Ran, SomeRan, TakesPrinted, WritesPrinted, passed, writes, writes_nothing}
+use Rattle.relay_program_runs.specs.Law.{IsFirstOfItsId, LetsOut, PrintsUnder, Ran, SomeRan, TakesPrinted, WritesPrinted, passed, writes, writes_nothing}
 use Rattle.relay_program_runs.proofs.laws.at_least.Goals as goal
 
 as_one : {X : Type 0} (P : X → Type 0) (o : Option X) (x : X) → o ≡ Some x → IfSome o P → P x
@@ -33,13 +32,13 @@ no_other : (A : Type 0) (earlier : List (Ran A)) (ran : Ran A) (job : JobView) �
 no_other A earlier ran job first is = as_one (λ (j : JobView).
     ¬ SomeRan {A = A} (λ other. IsSomeAnd (passed other).printed (λ its. its.id ≡ j.id)) earlier) _ job is first
 
-was_read : (A : Type 0) (id : ℕ) (document : List ℕ) (ran : Ran A) → Prints id document ran →
+was_read : (A : Type 0) (id : ℕ) (document : List ℕ) (ran : Ran A) → PrintsUnder id document ran →
     (rest : InputView) × ReadsDocument ran.before.streams.input rest document
 was_read A id document ran p = (p.rest, p.read)
 
 was_printed : (A : Type 0) (earlier : List (Ran A)) (text : List ℕ) (ran : Ran A) → WritesPrinted earlier text ran →
     (ran.after.streams.output ≡ ran.before.streams.output)
-    ⊎ ((id : ℕ) × (document : List ℕ) × IsTextOfId text id × SomeRan (Prints id document) earlier
+    ⊎ ((id : ℕ) × (document : List ℕ) × IsTextOfId text id × SomeRan (PrintsUnder id document) earlier
     × AppendsPart ran.before.streams.output.contents ran.after.streams.output.contents document)
 was_printed A earlier text ran (writes_nothing same status) = inl same
 was_printed A earlier text ran (writes id document is printed part all) = inr (id, document, is, printed, part)

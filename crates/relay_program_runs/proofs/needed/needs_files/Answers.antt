@@ -1,6 +1,5 @@
 use Rattle.std.proofs.Common.{refl, arith}
-use Rattle.relay_program_runs.proofs.Steps.{done_so}
-use Rattle.relay_program_runs.proofs.ShortLists.{files_needed}
+use Rattle.relay_program_runs.proofs.{Steps.done_so, ShortLists.files_needed}
 use Rattle.relay_program_runs.proofs.needed.needs_files.Goals as goal
 
 pub returns : goal.returns

@@ -1,8 +1,7 @@
 use Rattle.std.proofs.Common.{refl, sym, ◌∙◌}
 use Rattle.std.specs.Prelude.{IsTrue}
 use Rattle.relay_program_runs.specs.Worked.{NeedsExports, NeedsLabels}
-use Rattle.relay_program_runs.proofs.Steps.{done_so}
-use Rattle.relay_program_runs.proofs.ShortLists.{taken_in_needed}
+use Rattle.relay_program_runs.proofs.{Steps.done_so, ShortLists.taken_in_needed}
 use Rattle.relay_program_runs.proofs.needed.needs_labels_and_exports.Goals as goal
 
 pub returns : goal.returns

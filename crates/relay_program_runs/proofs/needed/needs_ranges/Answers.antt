@@ -1,6 +1,5 @@
 use Rattle.std.proofs.Common.{refl, arith}
-use Rattle.relay_program_runs.proofs.Steps.{done_so}
-use Rattle.relay_program_runs.proofs.ShortLists.{ranges_needed}
+use Rattle.relay_program_runs.proofs.{Steps.done_so, ShortLists.ranges_needed}
 use Rattle.relay_program_runs.proofs.needed.needs_ranges.Goals as goal
 
 pub returns : goal.returns

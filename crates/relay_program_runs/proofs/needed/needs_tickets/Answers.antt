@@ -1,7 +1,6 @@
 use Rattle.std.proofs.Common.{refl, arith}
 use Rattle.relay_runs.proofs.TicketTexts.{ten_text}
-use Rattle.relay_program_runs.proofs.Steps.{done_so}
-use Rattle.relay_program_runs.proofs.ShortLists.{tickets_needed}
+use Rattle.relay_program_runs.proofs.{Steps.done_so, ShortLists.tickets_needed}
 use Rattle.relay_program_runs.proofs.needed.needs_tickets.Goals as goal
 
 pub returns : goal.returns

@@ -3,7 +3,7 @@ use Rattle.relay_streams.specs.Streams.{OutputView}
 use Rattle.relay_shared.specs.Command.{StreamsView}
 use Rattle.relay_desk_commands.specs.Desks.{desk_at}
 use Rattle.relay.specs.Program.{Does}
-use Rattle.relay_program_runs.specs.Worked.{reading}
+use Rattle.relay_program_runs.specs.Worked.{streams_of_input}
 use Rattle.relay_program_runs.proofs.worked.done_within.Goals as goal
 
 pub returns : goal.returns
@@ -11,7 +11,7 @@ returns g c =
     let empty : (items : List ℕ) → items ≡ [] → (view : OutputView) → view ≡ record { contents = Some items; has_failed = false } →
     view ≡ record { contents = Some []; has_failed = false } =
     λ items none view is. is ∙ ap (λ (xs : List ℕ). record { contents = Some xs; has_failed = false }) none in
-    let streams : c.new-streams.result ≡ reading c.args.input.now = λ i. record {
+    let streams : c.new-streams.result ≡ streams_of_input c.args.input.now = λ i. record {
       input = c.new-streams.ensures.input i;
       output = empty c.new.result.items c.new.ensures.items c.new-streams.result.output c.new-streams.ensures.output i;
       errors = empty c.new-2.result.items c.new-2.ensures.items c.new-streams.result.errors c.new-streams.ensures.errors i;

@@ -1,8 +1,7 @@
 use Rattle.std.proofs.Common.{◌≤◌, ◌<◌, refl, sym, subst, ◌∙◌, ℕ, List, length, arith}
 use Rattle.relay_program_runs.specs.Worked.{EndWell}
 use Rattle.relay_runs.proofs.TicketTexts.{ten_text}
-use Rattle.relay_program_runs.proofs.Steps.{done_so, store_so}
-use Rattle.relay_program_runs.proofs.WorkedCommands.{worked}
+use Rattle.relay_program_runs.proofs.{Steps.done_so, Steps.store_so, WorkedCommands.worked}
 use Rattle.relay_program_runs.proofs.worked.worked_commands.Goals as goal
 
 pub returns-then-end_well : goal.returns-then-end_well

@@ -1,7 +1,5 @@
-use Rattle.std.proofs.Common.{rules, tests}
-use Rattle.std.proofs.lemmas.Iterator.{YieldsList-from_slice}
-use Rattle.std.proofs.lemmas.Iterator.Search.{position_from_yields_List}
-use Rattle.std.proofs.lemmas.Str.Pattern.{starts_text}
+use Rattle.std.proofs.{Common.rules, Common.tests, lemmas.Iterator.YieldsList-from_slice}
+use Rattle.std.proofs.lemmas.{Iterator.Search.position_from_yields_List, Str.Pattern.starts_text}
 use Rattle.relay_script.specs.Scripts.{begins_desks}
 use Rattle.relay_script.proofs.Lines.{place_found}
 use Rattle.relay_script.proofs.script.desks_line.Goals as goal

@@ -1,7 +1,5 @@
-use Rattle.std.proofs.Common.{ap, Err, arith}
-use Rattle.std.proofs.lemmas.Grind.{common_steps}
-use Rattle.relay_script.proofs.Lines.{parts_of}
-use Rattle.relay_script.proofs.Refused.{refused_as}
+use Rattle.std.proofs.{Common.ap, Common.Err, Common.arith, lemmas.Grind.common_steps}
+use Rattle.relay_script.proofs.{Lines.parts_of, Refused.refused_as}
 use Rattle.relay_script.proofs.script.read_lines.Goals as goal
 
 pub returns-in_err-read_all : goal.returns-in_err-read_all

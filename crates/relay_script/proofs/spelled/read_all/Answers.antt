@@ -1,7 +1,5 @@
 use Rattle.std.proofs.Common.{◌≡◌, ◌∷◌, ◌++◌, [], arith}
-use Rattle.std.proofs.lemmas.Grind.{common_steps}
-use Rattle.std.proofs.lemmas.List.{take_all}
-use Rattle.std.proofs.lemmas.Result.{err_from_is_err_and}
+use Rattle.std.proofs.lemmas.{Grind.common_steps, List.take_all, Result.err_from_is_err_and}
 use Rattle.relay_script.proofs.Lines.{none_at, one_more_read}
 use Rattle.relay_script.specs.declared.words.ScriptFault.TheVariants.{Script}
 use Rattle.relay_script.proofs.spelled.read_all.Goals as goal

@@ -1,7 +1,5 @@
 use Rattle.std.proofs.Common.{◌≡◌, ◌*◌, ◌∙◌, ap, sym, arith, false, get_or, map}
-use Rattle.std.specs.List.{range_with_len}
-use Rattle.std.specs.Bool.{xor}
-use Rattle.std.specs.Option.{unwrap_or}
+use Rattle.std.specs.{List.range_with_len, Bool.xor, Option.unwrap_or}
 use Rattle.std.proofs.lemmas.List.FromFn.{length-map-range_with_len}
 use Rattle.dm_pbm_io.specs.Image.{picture}
 use Rattle.relay_shared.specs.Command.{module_after}

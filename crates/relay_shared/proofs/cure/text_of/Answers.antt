@@ -1,6 +1,5 @@
 use Rattle.std.proofs.Common.{arith, string_bytes, ◌≡◌, ◌++◌, [], cond, refl}
-use Rattle.std.specs.Prelude.{codes}
-use Rattle.std.specs.Fmt.{decimal}
+use Rattle.std.specs.{Prelude.codes, Fmt.decimal}
 use Rattle.std.proofs.lemmas.Result.{IfOk-weaker}
 use Rattle.relay_shared.proofs.ChangedImages.{reads_text, text_at, text_is}
 use Rattle.relay_shared.proofs.cure.text_of.Goals as goal

@@ -1,6 +1,5 @@
 use Rattle.std.proofs.Common.{◌∙◌, ◌<◌, arith, length, sym}
-use Rattle.std.proofs.Math.Nat.{zero-max}
-use Rattle.std.proofs.lemmas.Bool.{or_parts}
+use Rattle.std.proofs.{Math.Nat.zero-max, lemmas.Bool.or_parts}
 use Rattle.relay_shared.proofs.Files.{at_last_file, at_no_file, one_more_file}
 use Rattle.relay_shared.proofs.images.each_file.Goals as goal
 

@@ -1,8 +1,6 @@
 use Rattle.std.proofs.Common.{◌≡◌, inr, true, false, arith, refl}
 use Rattle.std.proofs.Math.Bool.{or-false}
-use Rattle.relay_shared.specs.Command.AnswersImages.{none}
-use Rattle.relay_shared.specs.Command.Comes.{too_many}
-use Rattle.relay_shared.specs.Command.{refusal_name}
+use Rattle.relay_shared.specs.Command.{AnswersImages.none, ImageComes.too_many, refusal_name}
 use Rattle.relay_shared.specs.declared.command.Refusal.TheVariants.{TooMany}
 use Rattle.relay_shared.proofs.ImageLoop.{at_end, at_failure, at_last, one_more, refused_last}
 use Rattle.relay_shared.proofs.images.each_image.Goals as goal

@@ -1,6 +1,5 @@
 use Rattle.std.proofs.Common.{◌∙◌, refl}
-use Rattle.relay_shared.specs.Command.{progress_at}
-use Rattle.relay_shared.specs.Command.TellsFile.{not_opened}
+use Rattle.relay_shared.specs.Command.{progress_at, TellsFile.not_opened}
 use Rattle.relay_shared.proofs.Files.{was_opened}
 use Rattle.relay_shared.proofs.images.each_of_file.Goals as goal
 

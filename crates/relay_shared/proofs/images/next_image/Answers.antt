@@ -1,12 +1,9 @@
 use Rattle.std.proofs.Common.{◌≡◌, ◌⊎◌, ◌||◌, inl, inr, Bool, Ok, Err, ap, arith, refl, true}
 use Rattle.std.specs.Prelude.{IsErrOf}
 use Rattle.std.proofs.lemmas.Result.{err_from_is_err_and}
-use Rattle.dm_pbm_io.specs.Image.{picture}
-use Rattle.dm_pbm_io.specs.FaultNames.{pbm_fault_name}
-use Rattle.dm_pbm_io.specs.declared.fault.PbmFault.{PbmFault}
+use Rattle.dm_pbm_io.specs.{Image.picture, FaultNames.pbm_fault_name, declared.fault.PbmFault.PbmFault}
 use Rattle.dm_pbm_io.specs.declared.fault.PbmFault.TheVariants as image_faults
-use Rattle.relay_shared.specs.Command.{IsOfFailedRead, refusal_of}
-use Rattle.relay_shared.specs.Command.Comes.{image, unread}
+use Rattle.relay_shared.specs.Command.{IsOfFailedRead, refusal_of, ImageComes.image, ImageComes.unread}
 use Rattle.relay_shared.proofs.ImageLoop.{at_end, took}
 use Rattle.relay_shared.proofs.images.next_image.Goals as goal
 

@@ -1,7 +1,5 @@
-use Rattle.std.proofs.Common.{append-nil, length-append, rules, arith}
-use Rattle.std.proofs.lemmas.List.{length-take}
-use Rattle.std.proofs.lemmas.Result.{err_from_is_err_and}
-use Rattle.std.proofs.KnownBytes.{Consumes-trans, Consumes-kept}
+use Rattle.std.proofs.{Common.append-nil, Common.length-append, Common.rules, Common.arith, lemmas.List.length-take}
+use Rattle.std.proofs.{lemmas.Result.err_from_is_err_and, KnownBytes.Consumes-trans, KnownBytes.Consumes-kept}
 use Rattle.relay_streams.proofs.Taken.{limit_reached, end_reached}
 use Rattle.relay_streams.proofs.input.read_first.Goals as goal
 

@@ -1,8 +1,7 @@
 use Rattle.std.proofs.Common.{refl, subst}
 use Rattle.dm_pbm_io.specs.Image.{Picture, picture, written}
-use Rattle.relay_shared.specs.Command.{Puts}
-use Rattle.relay_shared.proofs.Writing.{puts}
-use Rattle.relay_shared.proofs.Telling.{told_bytes}
+use Rattle.relay_shared.specs.Command.{PutsText}
+use Rattle.relay_shared.proofs.{Writing.puts, Telling.told_bytes}
 use Rattle.relay_symbol_commands.specs.Symbols.EndsDraw.{drawn, refused}
 use Rattle.relay_symbol_commands.specs.declared.refusal.SymbolRefusal.TheVariants.{Memory}
 use Rattle.relay_symbol_commands.proofs.document_symbol.draw_command.Goals as goal
@@ -29,5 +28,5 @@ returns-clause-ends g c =
     put.ensures.written put.ensures.part put.ensures.failed in
     rw (← c.streams.view_is) (drawn c.in-Ok.symbol.size c.in-Ok.symbol.words.items c.read_symbol.new.input
     c.in-Ok.ensures.symbol (told_bytes put.result
-    (subst (λ (p : Picture). Puts (written p) c.streams.inside.output put.result put.new.output)
+    (subst (λ (p : Picture). PutsText (written p) c.streams.inside.output put.result put.new.output)
     c.in-Ok-image_of_symbol.ensures.image image) c.status_after_bytes.ensures))

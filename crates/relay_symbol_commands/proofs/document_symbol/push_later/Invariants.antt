@@ -1,6 +1,5 @@
 use Rattle.std.proofs.Common.{◌≡◌, ◌∷◌, ◌++◌, take, string_bytes}
-use Rattle.std.specs.List.{flat_map}
-use Rattle.std.specs.Fmt.{decimal}
+use Rattle.std.specs.{List.flat_map, Fmt.decimal}
 use Rattle.relay_symbol_commands.proofs.document_symbol.push_later.Given as goal
 
 abbrev pub invariant-loop-word : goal.invariant-loop-word

@@ -1,5 +1,4 @@
-use Rattle.std.proofs.Common.{inl, inr, arith}
-use Rattle.std.proofs.lemmas.Bool.{cases_lt}
+use Rattle.std.proofs.{Common.inl, Common.inr, Common.arith, lemmas.Bool.cases_lt}
 use Rattle.dm_size.specs.Sizes.{data_words}
 use Rattle.dm_encodation.specs.Written.{need_of}
 use Rattle.relay_symbol_commands.proofs.document_symbol.read_symbol.Goals as goal

@@ -1,8 +1,6 @@
 use Rattle.std.proofs.Common.{refl}
-use Rattle.relay_shared.proofs.Writing.{puts}
-use Rattle.relay_shared.proofs.Telling.{told}
-use Rattle.relay_symbol_commands.specs.Symbols.{EndsWords as ends}
-use Rattle.relay_symbol_commands.specs.declared.refusal.SymbolRefusal.TheVariants.{Memory}
+use Rattle.relay_shared.proofs.{Writing.puts, Telling.told}
+use Rattle.relay_symbol_commands.specs.{Symbols.EndsWords as ends, declared.refusal.SymbolRefusal.TheVariants.Memory}
 use Rattle.relay_symbol_commands.proofs.document_symbol.words_command.Goals as goal
 
 pub returns-in-Err-clause-ends : goal.returns-in-Err-clause-ends

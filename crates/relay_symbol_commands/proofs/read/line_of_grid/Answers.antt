@@ -1,10 +1,8 @@
-use Rattle.std.proofs.Common.{Err, rules, subst}
-use Rattle.std.proofs.lemmas.Result.{err_from_is_err_and}
+use Rattle.std.proofs.{Common.Err, Common.rules, Common.subst, lemmas.Result.err_from_is_err_and}
 use Rattle.dm_size.specs.declared.size.Size.{Size}
 use Rattle.dm_symbol.specs.Correction.{data_of}
 use Rattle.dm_append_label.specs.Opening.{ReadsPage}
-use Rattle.relay_symbol_commands.specs.Symbols.HasLine.{label}
-use Rattle.relay_symbol_commands.specs.Symbols.RefusesGrid.{memory, page, symbol}
+use Rattle.relay_symbol_commands.specs.Symbols.{HasLine.label, RefusesGrid.memory, RefusesGrid.page, RefusesGrid.symbol}
 use Rattle.relay_symbol_commands.proofs.read.line_of_grid.Goals as goal
 
 pub returns-in-Err : goal.returns-in-Err

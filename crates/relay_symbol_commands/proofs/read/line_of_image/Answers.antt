@@ -1,5 +1,4 @@
-use Rattle.std.proofs.Common.{refl}
-use Rattle.std.proofs.lemmas.Result.{MatchResult-weaker}
+use Rattle.std.proofs.{Common.refl, lemmas.Result.MatchResult-weaker}
 use Rattle.relay_symbol_commands.specs.Symbols.RefusesPicture.{shape, memory, grid}
 use Rattle.relay_symbol_commands.proofs.read.line_of_image.Goals as goal
 

@@ -1,9 +1,7 @@
 use Rattle.std.proofs.Common.{◌≡◌, rules, string_bytes}
 use Rattle.std.proofs.lemmas.Result.{err_from_is_err_and}
 use Rattle.dm_size.specs.Sizes.{side}
-use Rattle.relay_symbol_commands.specs.Symbols.{symbol_line}
-use Rattle.relay_symbol_commands.specs.Symbols.HasLine.{symbol}
-use Rattle.relay_symbol_commands.specs.Symbols.RefusesGrid.{memory, text}
+use Rattle.relay_symbol_commands.specs.Symbols.{symbol_line, HasLine.symbol, RefusesGrid.memory, RefusesGrid.text}
 use Rattle.relay_symbol_commands.proofs.read.line_of_no_label.Goals as goal
 
 pub returns-in-Err : goal.returns-in-Err

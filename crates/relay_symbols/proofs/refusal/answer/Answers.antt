@@ -1,7 +1,7 @@
 use Rattle.std.proofs.Common.{rules, refl, arith, ◌∙◌}
 use Rattle.std.proofs.lemmas.Int.{ints, to_z-of_z}
 use mir.Syntax.{w64}
-use Rattle.relay_symbols.specs.Symbols.Answers.{found, no_room, refused}
+use Rattle.relay_symbols.specs.Symbols.AnswersCode.{found, no_room, refused}
 use Rattle.relay_symbols.proofs.refusal.answer.Goals as goal
 
 pub returns-in-Err : goal.returns-in-Err

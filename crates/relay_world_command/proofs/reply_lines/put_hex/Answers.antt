@@ -1,6 +1,5 @@
 use Rattle.std.proofs.Common.{◌<◌, length, take, arith}
-use Rattle.std.proofs.KnownBytes.{Appends-nil, Appends-trans}
-use Rattle.std.proofs.lemmas.List.{take_more}
+use Rattle.std.proofs.{KnownBytes.Appends-nil, KnownBytes.Appends-trans, lemmas.List.take_more}
 use Rattle.relay_shared.proofs.Writing.{puts_part}
 use Rattle.relay_world_command.proofs.Hexadecimal.{hex_append, hex_none, part_of_hex}
 use Rattle.relay_world_command.proofs.reply_lines.put_hex.Goals as goal

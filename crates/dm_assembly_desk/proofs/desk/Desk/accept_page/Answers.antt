@@ -2,12 +2,8 @@ use Rattle.std.proofs.Common.{rules, ◌≡◌, ◌∙◌, ℕ, ◌-◌, ◌<◌
 use Rattle.std.specs.Prelude.{Result, slice_set}
 use Rattle.dm_append_label.specs.Labels.{PageView}
 use Rattle.dm_assembly_desk.specs.Documents.{Pages, lent_bytes, IsEntry, DeskView}
-use Rattle.dm_assembly_desk.specs.Desk.{Adds, lone}
-use Rattle.dm_assembly_desk.specs.declared.adding.AddFault.{AddFault}
-use Rattle.dm_assembly_desk.specs.declared.reply.Kind.{Kind}
-use Rattle.dm_assembly_desk.specs.declared.reply.Accepted.{Accepted}
-use Rattle.dm_assembly_desk.specs.declared.reply.Imported.{Imported}
-use Rattle.dm_assembly_desk.specs.declared.fault.ScanFault.{ScanFault}
+use Rattle.dm_assembly_desk.specs.{Desk.Adds, Desk.lone, declared.adding.AddFault.AddFault, declared.reply.Kind.Kind}
+use Rattle.dm_assembly_desk.specs.declared.{reply.Accepted.Accepted, reply.Imported.Imported, fault.ScanFault.ScanFault}
 use Rattle.dm_assembly_desk.proofs.LonePages.{lone_lent, lone_entry}
 use Rattle.dm_assembly_desk.proofs.desk.Desk.accept_page.Goals as goal
 

@@ -1,18 +1,14 @@
 use Rattle.std.proofs.Common.{arith, ◌≡◌, ◌≢◌, ◌∙◌, ℕ, false, length, map, Result, Ok, Err, refl, ap, sym, subst, rules}
 use Rattle.std.specs.FinMap.{insert}
 use Rattle.std.proofs.lemmas.List.{length-map}
-use Rattle.dm_store.specs.Saved.{Refused, outcome_of}
-use Rattle.dm_store.specs.declared.store.StoreFault.{StoreFault}
+use Rattle.dm_store.specs.{Saved.Refused, Saved.outcome_of, declared.store.StoreFault.StoreFault}
 use Rattle.dm_store.specs.declared.store.StoreFault.TheVariants as replacing
 use Rattle.dm_assembly_desk.specs.Documents.{Pages, lent_bytes, IsEntry, file, Documents, DeskView}
 use Rattle.dm_assembly_desk.specs.Desk.{keep_fault, JudgedAs, answer_by, added_to, kind_of, pages_with, reply_of, Adds}
-use Rattle.dm_assembly_desk.specs.declared.reply.Kind.{Kind}
-use Rattle.dm_assembly_desk.specs.declared.reply.Imported.{Imported}
-use Rattle.dm_assembly_desk.specs.declared.adding.AddFault.{AddFault}
+use Rattle.dm_assembly_desk.specs.declared.{reply.Kind.Kind, reply.Imported.Imported, adding.AddFault.AddFault}
 use Rattle.dm_assembly_desk.specs.declared.adding.AddFault.TheVariants as adds
 use Rattle.dm_assembly_desk.proofs.AddLaws.{room, merged_entry, adds_nothing, adds_some, judged_again, judged_some, never_again}
-use Rattle.dm_assembly_desk.proofs.DeskViews.{desk_of}
-use Rattle.dm_assembly_desk.proofs.Saving.{held_ends, not_begun}
+use Rattle.dm_assembly_desk.proofs.{DeskViews.desk_of, Saving.held_ends, Saving.not_begun}
 use Rattle.dm_assembly_desk.proofs.desk.Desk.add.Goals as goal
 
 abbrev imported : ℕ → ℕ → ℕ → Kind → Imported

@@ -1,22 +1,19 @@
 use Rattle.std.proofs.Common.{arith, ◌≡◌, ℕ, true, Result, Ok, Err, refl, sym, subst, rules}
-use Rattle.std.specs.Prelude.{IsSome}
-use Rattle.std.specs.FinMap.{get, remove}
+use Rattle.std.specs.{Prelude.IsSome, FinMap.get, FinMap.remove}
 use Rattle.dm_store.specs.Saved.{Refused, SavedSet, RemovesKey, outcome_of}
 use Rattle.dm_store.specs.declared.store.StoreFault.{StoreFault}
 use Rattle.dm_store.specs.declared.store.StoreFault.TheVariants as removing
-use Rattle.dm_assembly_desk.specs.Documents.{Documents, DeskView, IsInOrder}
-use Rattle.dm_assembly_desk.specs.Desk.{answer_by, Ends, Forgets}
-use Rattle.dm_assembly_desk.specs.declared.fault.ForgetFault.{ForgetFault}
+use Rattle.dm_assembly_desk.specs.Documents.{Documents, DeskView, DeskIsInOrder}
+use Rattle.dm_assembly_desk.specs.{Desk.answer_by, Desk.SaveEnds, Desk.Forgets, declared.fault.ForgetFault.ForgetFault}
 use Rattle.dm_assembly_desk.specs.declared.fault.ForgetFault.TheVariants as forgets
-use Rattle.dm_assembly_desk.proofs.DeskViews.{desk_of}
-use Rattle.dm_assembly_desk.proofs.Saving.{gone_ends, gone_order, refused_same}
+use Rattle.dm_assembly_desk.proofs.{DeskViews.desk_of, Saving.gone_ends, Saving.gone_order, Saving.refused_same}
 use Rattle.dm_assembly_desk.proofs.desk.Desk.forget.Goals as goal
 
 -- a document that is held is let go, and the remove has ended so
 lets_go : (old : DeskView) (id : ℕ) (answer : Result (Unit {0}) StoreFault) (result : Result (Unit {0}) ForgetFault)
     (new : DeskView) → IsSome (get old.held id) →
     result ≡ answer_by (Ok tt) (Err forgets.Memory) (Err forgets.Save) (outcome_of answer) →
-    Ends id (remove old.held id) (outcome_of answer) old new → Forgets id old result new
+    SaveEnds id (remove old.held id) (outcome_of answer) old new → Forgets id old result new
 lets_go old id answer result new some is ends = search rules
 
 pub invariant_of-self : goal.invariant_of-self
@@ -25,7 +22,8 @@ invariant_of-self g c =
     c.self.inside.capacity c.self.inside.is_failed in
     let set : SavedSet = g.S.StoreSet.state c.remove.new.self in
     let some : IsSome (get old.held c.number-id.result) = search rules in
-    subst (λ (d : Documents). IsInOrder (desk_of set d old.capacity old.is_failed)) (sym c.remove-in-Ok.ensures.after)
+    subst (λ (d : Documents). DeskIsInOrder (desk_of set d old.capacity old.is_failed))
+    (sym c.remove-in-Ok.ensures.after)
     (gone_order old c.number-id.result set c.self.invariant c.if-self.false some (Ok tt) c.in-Ok.ensures.removes)
 
 pub returns-in-Ok-clause-after : goal.returns-in-Ok-clause-after
@@ -34,7 +32,8 @@ returns-in-Ok-clause-after g c =
     c.self.inside.capacity c.self.inside.is_failed in
     let set : SavedSet = g.S.StoreSet.state c.remove.new.self in
     let some : IsSome (get old.held c.number-id.result) = search rules in
-    subst (λ (d : Documents). IsInOrder (desk_of set d old.capacity old.is_failed)) (sym c.remove-in-Ok.ensures.after)
+    subst (λ (d : Documents). DeskIsInOrder (desk_of set d old.capacity old.is_failed))
+    (sym c.remove-in-Ok.ensures.after)
     (gone_order old c.number-id.result set c.self.invariant c.if-self.false some (Ok tt) c.in-Ok.ensures.removes)
 
 pub returns-in-Ok-clause-forgotten : goal.returns-in-Ok-clause-forgotten
@@ -47,7 +46,7 @@ returns-in-Ok-clause-forgotten g c = λ _.
     subst (λ (i : ℕ). Forgets i c.args.self.now (Ok tt) new) c.number-id.ensures.same
     (subst (λ (before : DeskView). Forgets c.number-id.result before (Ok tt) new) c.self.view_is
     (lets_go old c.number-id.result (Ok tt) (Ok tt) new some refl
-    (subst (λ (d : Documents). Ends c.number-id.result (remove old.held c.number-id.result) (outcome_of (Ok tt))
+    (subst (λ (d : Documents). SaveEnds c.number-id.result (remove old.held c.number-id.result) (outcome_of (Ok tt))
     old (desk_of set d old.capacity old.is_failed)) (sym c.remove-in-Ok.ensures.after)
     (gone_ends old c.number-id.result set c.self.invariant c.if-self.false some (Ok tt) c.in-Ok.ensures.removes))))
 
@@ -79,6 +78,6 @@ returns-in-Err-Memory-clause-forgotten g c = λ _.
     subst (λ (i : ℕ). Forgets i c.args.self.now (Err forgets.Memory) new) c.number-id.ensures.same
     (subst (λ (before : DeskView). Forgets c.number-id.result before (Err forgets.Memory) new) c.self.view_is
     (lets_go old c.number-id.result (Err removing.Memory) (Err forgets.Memory) new some refl
-    (subst (λ (s : SavedSet). Ends c.number-id.result (remove old.held c.number-id.result) Refused old
+    (subst (λ (s : SavedSet). SaveEnds c.number-id.result (remove old.held c.number-id.result) Refused old
     (desk_of s old.held old.capacity old.is_failed)) (sym (refused_same old.saved c.number-id.result set removes))
     (gone_ends old c.number-id.result set c.self.invariant c.if-self.false some (Err removing.Memory) removes))))

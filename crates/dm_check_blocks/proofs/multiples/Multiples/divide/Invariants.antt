@@ -1,6 +1,5 @@
 use Rattle.std.proofs.Common.{◌≡◌, ◌+◌, ◌<◌, ◌≤◌, ℕ, length}
-use Rattle.std.specs.Prelude.{slice_range}
-use Rattle.std.specs.List.{All}
+use Rattle.std.specs.{Prelude.slice_range, List.All}
 use Rattle.dm_gf256.specs.Field.{power, value}
 use Rattle.dm_check_blocks.specs.inner.Remainders.{row_at}
 use Rattle.dm_check_blocks.proofs.multiples.Multiples.divide.Given as goal

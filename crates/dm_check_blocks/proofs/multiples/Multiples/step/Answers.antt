@@ -1,8 +1,6 @@
 use Rattle.std.proofs.Common.{◌≡◌, ◌+◌, ◌-◌, ◌/◌, ◌%◌, ◌<◌, ℕ, List, ◌∙◌, ap, arith, length, length-append, length-take, length-drop, get_or, take, drop}
-use Rattle.std.proofs.lemmas.List.{get_or-take}
-use Rattle.std.proofs.lemmas.List.Elements.{All-from_get_or, All-drop}
-use Rattle.std.specs.List.{All}
-use Rattle.std.specs.Int.Bits.{bit_xor}
+use Rattle.std.proofs.lemmas.List.{get_or-take, Elements.All-from_get_or, Elements.All-drop}
+use Rattle.std.specs.{List.All, Int.Bits.bit_xor}
 use Rattle.dm_gf256.specs.Field.{product, power}
 use Rattle.dm_gf256.proofs.Ring.{power_byte}
 use Rattle.dm_check_blocks.specs.inner.Remainders.{row_at}

@@ -1,5 +1,4 @@
-use Rattle.std.proofs.Common.{rules}
-use Rattle.std.proofs.Common.{add-one, slice_index_or}
+use Rattle.std.proofs.Common.{rules, add-one, slice_index_or}
 use Rattle.dm_finder_frame.proofs.Flips.{next_flip}
 use Rattle.dm_finder_frame.proofs.grid.Grid.with_flips.Goals as goal
 

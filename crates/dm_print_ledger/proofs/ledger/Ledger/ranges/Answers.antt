@@ -1,6 +1,5 @@
 use Rattle.std.proofs.Common.{◌≡◌, rules}
-use Rattle.dm_print_ledger.proofs.FormatLaws.{view_of}
-use Rattle.dm_print_ledger.proofs.Rising.{each_is_range, rise_fact, sound_ranges}
+use Rattle.dm_print_ledger.proofs.{FormatLaws.view_of, Rising.each_is_range, Rising.rise_fact, Rising.sound_ranges}
 use Rattle.dm_print_ledger.proofs.ledger.Ledger.ranges.Goals as goal
 
 pub returns-clause-each : goal.returns-clause-each

@@ -1,7 +1,6 @@
 use Rattle.std.proofs.Common.{◌≤◌, ◌∙◌, arith, sym}
 use Rattle.std.proofs.lemmas.Option.{MatchOption-at_none, MatchOption-at_some}
-use Rattle.dm_print_ledger.proofs.LastLaws.{last_is_found}
-use Rattle.dm_print_ledger.proofs.Rising.{sound_ranges}
+use Rattle.dm_print_ledger.proofs.{LastLaws.last_is_found, Rising.sound_ranges}
 use Rattle.dm_print_ledger.proofs.printer.Printer.last_free.Goals as goal
 
 pub returns-then-count-eq0 : goal.returns-then-count-eq0

@@ -1,7 +1,7 @@
 use Rattle.std.proofs.Common.{arith, ◌≡◌, subst, rules, Some, true, false, length}
 use Rattle.std.proofs.lemmas.Result.{err_from_is_err_and}
 use Rattle.dm_print_ledger.specs.declared.fault.PrintFault.TheVariants as printing
-use Rattle.dm_print_ledger.specs.Verdicts.{IsInOrder, print_verdict}
+use Rattle.dm_print_ledger.specs.Verdicts.{PrinterIsInOrder, print_verdict}
 use Rattle.dm_print_ledger.proofs.CarryLaws.{made_by, may_lack, none_free, prints, refuses}
 use Rattle.dm_print_ledger.proofs.RangeTests.{both}
 use Rattle.dm_print_ledger.proofs.printer.Printer.print.Goals as goal
@@ -19,7 +19,7 @@ returns-in_default-least_free g c =
       carries = refuses printing.Failed printing.Memory printing.Save (Unit {0})
           (print_verdict c.args.self.now.ledger true)
           c.args.self.now _ running
-          (subst IsInOrder c.self.view_is c.self.invariant) (none_free c.args.self.now.ledger none);
+          (subst PrinterIsInOrder c.self.view_is c.self.invariant) (none_free c.args.self.now.ledger none);
       made = tt;
       lost = λ is. absurd cc;
     }

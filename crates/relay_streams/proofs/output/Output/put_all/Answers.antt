@@ -1,7 +1,5 @@
 use Rattle.std.proofs.Common.{◌≡◌, ◌<◌, ℕ, suc, List, [], ◌∷◌, ◌++◌, Bor, length, take, drop, get_or, ap, sym, ◌∙◌, subst}
-use Rattle.std.proofs.Math.Seq.{split_at}
-use Rattle.std.proofs.lemmas.Grind.{flat_map-append}
-use Rattle.std.proofs.lemmas.List.Concat.{flat_map-cons}
+use Rattle.std.proofs.{Math.Seq.split_at, lemmas.Grind.flat_map-append, lemmas.List.Concat.flat_map-cons}
 use Rattle.std.specs.List.{flat_map}
 use Rattle.relay_streams.specs.Streams.{AppendsPart}
 use Rattle.relay_streams.proofs.Parts.{part_more, part_after}

@@ -1,6 +1,5 @@
 use Rattle.std.proofs.Common.{◌≡◌, take}
-use Rattle.std.specs.List.{flat_map}
-use Rattle.std.specs.Io.KnownBytes.{Appends}
+use Rattle.std.specs.{List.flat_map, Io.KnownBytes.Appends}
 use Rattle.relay_streams.proofs.output.Output.put_all.Given as goal
 
 -- the pieces so far were written, and no write has failed

@@ -1,5 +1,4 @@
-use Rattle.std.proofs.Common.{refl}
-use Rattle.std.proofs.lemmas.Result.{err_from_is_err_and}
+use Rattle.std.proofs.{Common.refl, lemmas.Result.err_from_is_err_and}
 use Rattle.relay_symbol_commands.specs.Symbols.PrintsPicture.{read, refused}
 use Rattle.relay_symbol_commands.proofs.read.ReadingOnImages.answer.Goals as goal
 

@@ -2,9 +2,8 @@
 use Rattle.test_helpers.proofs.Steps.{◌≡◌, Bool, true, false, [], ◌∷◌, Ok, Err, refl, ap, w64, proved, after, id⊢, ftrue, flft, a_type, dnil, dcons, inst_fn, Val, vptr, size, align, capped, ◌⊑◌, ⊑_trans, fact, tables, Item, ‵, raw, ◌⊛◌, some, later, prop, at_ret, Sq, ◌$◌, ◌∵◌, !, qed, done, move, keep, drop, use0, use1, use2, split, join, pick, fjoin, fsplit, feq_i, feq_l, suffices, await, group, enter, lit, addr, stop, fld, no_more, and_then, first, branches, skips, exec, returns, returns_within, agg, alloc_all, pass_all, free_all, look_at, get, through, sets, lands_as, env, bool, usize, yes, bounded, uint_vals, uint_Tells, owns, block_ptr, shr_vals, plain, types_at, heard, nothing, only, calls_at, Ended, lasts, triple_of, framed, Stays, stay_dropped, Goes-dropped, walk_of, ends_at, Al, seen, token, Answer, answer_val, Answer-typed, Answer-Ok, Answer-err, Takes, at_takes, Answered, Takes-goes, Takes-gives, answers, hidden_shr, block_if_ok}
 use Rattle.test_helpers.proofs.Fields.{Count, slot, within, count, fields}
 use Rattle.test_helpers.specs.contracts.refusing.is_refused as ask
-use Rattle.test_helpers.proofs.refusing.is_refused.Met.{met as asked}
+use Rattle.test_helpers.proofs.refusing.{is_refused.Met.met as asked, RefusingAllocator.allocate.Statement.statement}
 use Rattle.test_helpers.specs.contracts.refusing.RefusingAllocator.allocate as f
-use Rattle.test_helpers.proofs.refusing.RefusingAllocator.allocate.Statement.{statement}
 use Rattle.test_helpers.proofs.refusing.RefusingAllocator.allocate.Code as code
 
 pub allocate_spec : {M : Type 1} → statement M
