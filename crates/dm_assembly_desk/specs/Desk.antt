@@ -14,14 +14,14 @@ use Rattle.dm_assembly_desk.specs.declared.reply.Kind.TheVariants.{New, Again, C
 use Rattle.dm_finder_frame.specs.Frame.{GridView}
 use Rattle.dm_assembly_desk.specs.declared.{reply.Held.Held, limits.TheConstants.MOST_JOINT_FILE_BYTES}
 use Rattle.dm_assembly_desk.specs.declared.fault.ScanFault.TheVariants as scanning
+use Rattle.dm_assembly_desk.specs.declared.fault.ForgetFault.TheVariants as forgets
 use Rattle.dm_assembly_desk.specs.declared.fault.ImportFault.TheVariants as importing
+use Rattle.dm_assembly_desk.specs.declared.fault.AskFault.TheVariants as asks
 use Rattle.dm_append_label.specs.declared.fault.LabelFault.TheVariants as labels
 use Rattle.dm_store.specs.declared.store.StoreFault.TheVariants as storing
 use Rattle.dm_assembly_desk.specs.declared.file.FileFault.TheVariants as files
 use Rattle.dm_assembly_desk.specs.declared.adding.AddFault.TheVariants as adds
 use Rattle.std.specs.FinMap as map
-use Rattle.dm_assembly_desk.specs.declared.fault.ForgetFault.TheVariants as forgets
-use Rattle.dm_assembly_desk.specs.declared.fault.AskFault.TheVariants as asks
 use Rattle.dm_assembly_desk.specs.declared.fault.ExportFault.TheVariants as exports
 use Rattle.dm_assembly_desk.specs.declared.fault.DeskFault.TheVariants as opens
 use Rattle.dm_assembly_desk.specs.declared.fault.MoveFault.TheVariants as moves
@@ -241,8 +241,7 @@ Accepts p old result new =
     (added : Result Imported AddFault) × (result ≡ scan_of p added) × Adds p.id (lone p) old added new
 
 -- a scan at a desk that has not failed, by what the grid is opened as
-abbrev pub Scans : {A : Type 0}
-    → Result (Opened A) LabelFault → DeskView → Result Accepted ScanFault → DeskView → Type 0
+abbrev pub Scans : {A : Type 0} → Result (Opened A) LabelFault → DeskView → Result Accepted ScanFault → DeskView → Type 0
 Scans (Ok opened) old result new = Accepts opened.page old result new
 Scans (Err fault) old result new = (result ≡ Err (scan_fault fault)) × (new ≡ old)
 

@@ -10,12 +10,12 @@ use Rattle.dm_finder_frame.specs.Frame.{flipped}
 use Rattle.dm_symbol.specs.Correction.{IsNear}
 use Rattle.dm_assembly_desk.specs.declared.reply.Kind.{Kind, TheVariants.New, TheVariants.Again, TheVariants.Complete}
 use Rattle.dm_assembly_desk.specs.declared.reply.Imported as imported_type
-use Rattle.dm_assembly_desk.specs.declared.fault.{AskFault.AskFault, ScanFault.ScanFault, ImportFault.ImportFault}
 use Rattle.dm_assembly_desk.specs.declared.fault.AskFault.TheVariants as ask_fault
+use Rattle.dm_assembly_desk.specs.declared.fault.{AskFault.AskFault, ScanFault.ScanFault, ImportFault.ImportFault}
 use Rattle.dm_assembly_desk.specs.declared.fault.ScanFault.TheVariants as scan_fault
+use Rattle.dm_assembly_desk.specs.Desk as asking
 use Rattle.dm_assembly_desk.specs.declared.fault.ImportFault.TheVariants as import_fault
 use Rattle.dm_assembly_desk.specs.Documents.{Pages, lacks, mask, missing_mask, names, page, document_of, Documents, page_at, own_pages, added_mask, union_of_pages}
-use Rattle.dm_assembly_desk.specs.Desk as asking
 use Rattle.dm_assembly_desk.specs.Desk.{Asks, lone, add_verdict, add_kind, added_to, reply_of}
 use Rattle.dm_assembly_desk.specs.declared.{adding.AddFault.AddFault, reply.Accepted.Accepted}
 use Rattle.dm_assembly_desk.specs.declared.adding.AddFault.TheVariants as adds
@@ -26,11 +26,11 @@ use Rattle.dm_event_history.specs.declared.{event.Event.Event, reply.Reply.Reply
 use Rattle.dm_event_history.specs.declared.event.Event.TheVariants.{Scan, Ask, Forget, Export, Import}
 use Rattle.dm_event_history.specs.declared.reply.Reply.TheVariants.{Scanned, ScanRefused, Imported, ImportRefused}
 use Rattle.dm_event_history.specs.declared.reply.Reply.TheVariants as replies
-use Rattle.dm_event_history.specs.Relay.{Actor, content_shown, CutDocument, Desk, Label, Relay}
 use Rattle.dm_event_history.specs.Relay as relays
+use Rattle.dm_event_history.specs.Relay.{Actor, content_shown, CutDocument, Desk, Label, Relay}
 use Rattle.dm_event_history.specs.Steps.{Calls, Looks, MayLackFirst, AskTells, ExportTells, ForgetComes, ImportComes, ScanComes, ask_reply, forget_faults, import_faults, scan_course, scan_faults, verdict_course, page_reply, pages_reply, Acts, DeskGoes, IsNamedThere, Step, Moment}
 use Rattle.dm_event_history.specs.Headline.{ArePrinted, AreOfOneDocument, HaveLeft, IsCleanExport, RelayIsSound, AreAllClean, IsFairEvent}
-use Rattle.dm_event_history.specs.Told.{EachFairReplyIsSafe, IsExportSafe, IsFullFor, IsImportKindSafe, IsImportRefusedSafe, IsImportedSafe, IsKindSafe, IsSafe, IsTrulyMissing, Known, docs, known_of, AreBetween, IsBetween}
+use Rattle.dm_event_history.specs.Told.{EachFairReplyIsSafe, IsExportSafe, IsFullFor, IsImportKindSafe, IsImportedSafe, IsKindSafe, IsSafe, IsTrulyMissing, Known, docs, known_of, AreBetween, IsBetween}
 use Rattle.dm_event_history.proofs.Deciding.{decided, if_not, if_so, or_left, or_right, same_number, true_false}
 use Rattle.dm_event_history.proofs.MergedPages.{Differs, all_held, lacks_means, one_lacks}
 use Rattle.dm_event_history.proofs.Adds.{add_refuses, length-lone, lone_some, named_there, some_added, there_named}
@@ -507,12 +507,12 @@ module _ (A : Type 0) (old new : Relay) (earlier : List (Moment A)) (sound : Rel
       fault_is : {one other : ImportFault} → ◌≡◌ {A = Reply A} (ImportRefused one) (ImportRefused other) → one ≡ other
       fault_is e = cc (e)
 
-  import_refusal : (d number : ℕ) (export : relays.Export) (fault : ImportFault) →
+  import_refusal : (d number : ℕ) (stop : Stop) (export : relays.Export) (fault : ImportFault) →
       slice_get old.exports number ≡ Some export →
       (fault ≢ import_fault.Failed → fault ≢ import_fault.Save → fault ≢ import_fault.Memory →
       (fault ≡ import_fault.Full) × IsFullFor old (known_of old earlier) d export.id) →
-      IsImportRefusedSafe old (known_of old earlier) d number fault
-  import_refusal d number export fault there why = grind arith
+      IsSafe {A = A} old (known_of old earlier) (Import d number stop) (ImportRefused fault)
+  import_refusal d number stop export fault there why = grind arith
 
   import_safe : (d number : ℕ) (stop : Stop) (export : relays.Export) (reply : Reply A) →
       slice_get old.exports number ≡ Some export →
@@ -539,7 +539,7 @@ module _ (A : Type 0) (old new : Relay) (earlier : List (Moment A)) (sound : Rel
           one ≡ other
       imported_is e = cc (e)
   import_safe d number stop export (ImportRefused fault) there g =
-      import_refusal d number export fault there (not_imported d number stop export fault there g)
+      import_refusal d number stop export fault there (not_imported d number stop export fault there g)
   import_safe d number stop export reply there g = tt
 
   acts_safe : (event : Event A) (reply : Reply A) → IsFairEvent old event → IsNamedThere old event →

@@ -50,6 +50,10 @@ pub record Faults (A : Type 0) : Type 0 where
   pub save : Reply A
   pub memory : Reply A
 
+-- a call that is refused so tells these
+abbrev pub faults_of : {A F : Type 0} → (F → Reply A) → F → F → F → Faults A
+faults_of refused failed save memory = record { failed = refused failed; save = refused save; memory = refused memory }
+
 -- a call ends: it is answered so, its printer or desk is so, and these goods left
 pub record Ending (A C : Type 0) : Type 0 where
   pub reply : Reply A
@@ -98,18 +102,14 @@ ends faults (AfterLabels most) LacksMemory old = ending replies.Memory old no_go
 abbrev pub Reaches : Stop → Type 0 → Type 0
 Reaches BeforeSave Came = Unit {0}
 Reaches (InSave Old) Came = Unit {0}
-Reaches (InSave New) Came = Came
-Reaches stops.None Came = Came
-Reaches (SaveFault kept) Came = Came
-Reaches (AfterLabels most) Came = Came
+Reaches stop Came = Came
 
 -- A call of a printer or a desk that saves, by what it comes to where that runs. One that has failed answers so; one
 -- that is down is not called, and no stop is taken notice of.
 abbrev pub Calls : {A C : Type 0} → Faults A → Stop → (C → Course A C → Type 0) → Actor C → Ending A C → Type 0
 Calls {A} {C} faults stop Comes (Running held) end =
     (course : Course A C) × Reaches stop (Comes held course) × (end ≡ ends faults stop course (Running held))
-Calls faults stop Comes (Failed shown stored) end =
-    end ≡ ends faults stop (Answers faults.failed) (Failed shown stored)
+Calls faults stop Comes (Failed shown stored) end = end ≡ ends faults stop (Answers faults.failed) (Failed shown stored)
 Calls faults stop Comes (Down stored) end = end ≡ ending replies.Down (Down stored) no_goods
 
 -- Memory may be refused first, for what the relay keeps of the call: then nothing changes.
@@ -138,18 +138,10 @@ IsCourse refuses verdict Leaves (Saves next goods reply) = (verdict ≡ Ok next)
 IsCourse {A} {F} refuses verdict Leaves (Answers reply) = (fault : F) × (verdict ≡ Err fault) × (reply ≡ refuses fault)
 IsCourse refuses verdict Leaves LacksMemory = IsOk verdict
 
--- a ledger that is stored is always sound
-abbrev pub IsStored : LedgerView → Type 0
-IsStored ledger = IsTrue (is_sound ledger)
-
 -- ---- prints
 
 abbrev pub print_faults : {A : Type 0} → Faults A
-print_faults = record {
-  failed = PrintRefused print_fault.Failed;
-  save = PrintRefused print_fault.Save;
-  memory = PrintRefused print_fault.Memory;
-}
+print_faults = faults_of PrintRefused print_fault.Failed print_fault.Save print_fault.Memory
 
 -- the document has these parts, or none
 abbrev pub HasParts : Size → Scheme → List ℕ → Option (List (List ℕ)) → Type 0
@@ -183,10 +175,10 @@ pub record PrintLeaves {A : Type 0} (before : ℕ) (cut : CutDocument) (id : ℕ
 abbrev pub cut_of : List ℕ → Size → Scheme → List (List ℕ) → CutDocument
 cut_of document size scheme parts = record { bytes = document; size = size; scheme = scheme; parts = parts }
 
--- what a print comes to
+-- what a print comes to; a ledger that is stored is sound
 abbrev pub PrintComes : {A : Type 0} → ℕ → List ℕ → Size → Scheme → LedgerView → Course A LedgerView → Type 0
 PrintComes before document size scheme ledger course =
-    IsStored ledger × (parts : Option (List (List ℕ))) × HasParts size scheme document parts
+    IsTrue (is_sound ledger) × (parts : Option (List (List ℕ))) × HasParts size scheme document parts
     × IsCourse PrintRefused (print_verdict ledger (is_some parts)) (λ goods reply.
     IsSomeAnd parts (λ parts. PrintLeaves before (cut_of document size scheme parts) (least ledger.free) goods reply))
     course
@@ -194,39 +186,30 @@ PrintComes before document size scheme ledger course =
 -- ---- gives
 
 abbrev pub give_faults : {A : Type 0} → Faults A
-give_faults = record {
-  failed = GiveRefused give_fault.Failed;
-  save = GiveRefused give_fault.Save;
-  memory = GiveRefused give_fault.Memory;
-}
+give_faults = faults_of GiveRefused give_fault.Failed give_fault.Save give_fault.Memory
 
 -- what a give comes to: the numbers leave by a ticket; a number of tickets left before
 abbrev pub GiveComes : {A : Type 0} → ℕ → ℕ → Range → LedgerView → Course A LedgerView → Type 0
 GiveComes before receiver range ledger course =
-    IsStored ledger × IsCourse GiveRefused (give_verdict ledger receiver range) (λ goods reply.
+    IsTrue (is_sound ledger) × IsCourse GiveRefused (give_verdict ledger receiver range) (λ goods reply.
     (goods ≡ record { labels = []; tickets = ticket_of ledger receiver range ∷ []; exports = []; moves = [] })
     × (reply ≡ Given before (ticket_of ledger receiver range))) course
 
 -- ---- takes
 
 abbrev pub take_faults : {A : Type 0} → Faults A
-take_faults = record {
-  failed = TakeRefused take_fault.Failed;
-  save = TakeRefused take_fault.Save;
-  memory = TakeRefused take_fault.Memory;
-}
+take_faults = faults_of TakeRefused take_fault.Failed take_fault.Save take_fault.Memory
 
 -- what a take comes to: the numbers of the ticket, which left under this number, are free here
 abbrev pub TakeComes : {A : Type 0} → ℕ → TicketView → LedgerView → Course A LedgerView → Type 0
 TakeComes number ticket ledger course =
-    IsStored ledger × IsTrue (is_range ticket.range) × IsCourse TakeRefused (take_verdict ledger ticket) (λ goods reply.
+    IsTrue (is_sound ledger) × IsTrue (is_range ticket.range) × IsCourse TakeRefused (take_verdict ledger ticket) (λ goods reply.
     (goods ≡ record { labels = []; tickets = []; exports = []; moves = Took number ∷ [] }) × (reply ≡ Taken)) course
 
 -- a call that comes to this saves
 abbrev pub IsSaving : {A C : Type 0} → Course A C → Type 0
 IsSaving (Saves next goods reply) = Unit {0}
-IsSaving (Answers reply) = ⊥
-IsSaving LacksMemory = ⊥
+IsSaving course = ⊥
 
 -- A call comes to what is wanted of it; if that is a save, memory for it may be refused.
 abbrev pub MayBe : {A C : Type 0} → Course A C → Course A C → Type 0
@@ -240,11 +223,7 @@ verdict_course tells (Becomes next answer) = Saves next no_goods (tells answer)
 -- ---- scans
 
 abbrev pub scan_faults : {A : Type 0} → Faults A
-scan_faults = record {
-  failed = ScanRefused scan_fault.Failed;
-  save = ScanRefused scan_fault.Save;
-  memory = ScanRefused scan_fault.Memory;
-}
+scan_faults = faults_of ScanRefused scan_fault.Failed scan_fault.Save scan_fault.Memory
 
 abbrev pub scan_reply : {A : Type 0} → Result Accepted ScanFault → Reply A
 scan_reply (Ok accepted) = Scanned accepted
@@ -268,11 +247,7 @@ ScanComes {A} room grid held course =
 -- ---- imports
 
 abbrev pub import_faults : {A : Type 0} → Faults A
-import_faults = record {
-  failed = ImportRefused import_fault.Failed;
-  save = ImportRefused import_fault.Save;
-  memory = ImportRefused import_fault.Memory;
-}
+import_faults = faults_of ImportRefused import_fault.Failed import_fault.Save import_fault.Memory
 
 abbrev pub import_reply : {A : Type 0} → Result imported_type.Imported ImportFault → Reply A
 import_reply (Ok imported) = Imported imported
@@ -290,11 +265,7 @@ ImportComes room export held course =
 -- ---- forgets
 
 abbrev pub forget_faults : {A : Type 0} → Faults A
-forget_faults = record {
-  failed = ForgetRefused forget_fault.Failed;
-  save = ForgetRefused forget_fault.Save;
-  memory = ForgetRefused forget_fault.Memory;
-}
+forget_faults = faults_of ForgetRefused forget_fault.Failed forget_fault.Save forget_fault.Memory
 
 abbrev pub forget_reply : {A : Type 0} → Result (Unit {0}) ForgetFault → Reply A
 forget_reply (Ok done) = Forgotten
@@ -351,21 +322,17 @@ actor_of (Import desk export stop) = DeskAt desk
 abbrev pub is_same : Named → Named → Bool
 is_same (PrinterAt one) (PrinterAt other) = one == other
 is_same (DeskAt one) (DeskAt other) = one == other
-is_same (PrinterAt one) (DeskAt other) = false
-is_same (DeskAt one) (PrinterAt other) = false
+is_same one other = false
 
 -- what is to happen to the call of an event; a restart, an ask and an export have no such thing
 abbrev pub stop_of : {A : Type 0} → Event A → Option Stop
 stop_of (Print printer document size scheme stop) = Some stop
 stop_of (Scan desk label flips stop) = Some stop
-stop_of (RestartPrinter printer) = None
-stop_of (RestartDesk desk) = None
-stop_of (Ask desk id) = None
 stop_of (Forget desk id stop) = Some stop
 stop_of (Give printer receiver range stop) = Some stop
 stop_of (Take printer ticket stop) = Some stop
-stop_of (Export desk id) = None
 stop_of (Import desk export stop) = Some stop
+stop_of event = None
 
 -- a save that meets a device fault leaves the new content
 abbrev pub leaves_new : Option Stop → Bool
@@ -397,11 +364,9 @@ may_save event other = false
 
 -- the call is to end before its reply
 abbrev pub IsStopping : Stop → Type 0
-IsStopping BeforeSave = Unit {0}
-IsStopping (InSave kept) = Unit {0}
-IsStopping (AfterLabels count) = Unit {0}
 IsStopping stops.None = ⊥
 IsStopping (SaveFault kept) = ⊥
+IsStopping stop = Unit {0}
 
 -- ---- what is there
 
@@ -471,8 +436,7 @@ Acts old (Import desk number stop) reply new =
 Acts old (Ask desk id) reply new = DeskGoes old desk (λ room. Looks (AskTells id)) reply new
 Acts old (Export desk id) reply new =
     DeskGoes old desk (λ room. MayLackFirst (Looks (ExportTells (length old.exports) id))) reply new
-Acts old (RestartDesk desk) reply new =
-    DeskGoes old desk (λ room. Restarts (DeskRefused desk_fault.Memory)) reply new
+Acts old (RestartDesk desk) reply new = DeskGoes old desk (λ room. Restarts (DeskRefused desk_fault.Memory)) reply new
 
 -- one step: an event that names what is not there is answered `NoSuch`, and changes nothing
 abbrev pub Step : {A : Type 0} → Relay → Event A → Reply A → Relay → Type 0
@@ -489,8 +453,7 @@ pub record Moment (A : Type 0) : Type 0 where
 -- these moments, the newest of them first, led from a relay to another
 abbrev pub IsRun : {A : Type 0} → Relay → List (Moment A) → Relay → Type 0
 IsRun from [] end = end ≡ from
-IsRun from (moment ∷ earlier) end =
-    IsRun from earlier moment.before × Step moment.before moment.event moment.reply end
+IsRun from (moment ∷ earlier) end = IsRun from earlier moment.before × Step moment.before moment.event moment.reply end
 
 -- these moments, the first of them first, after earlier ones: the newest first
 abbrev pub onto : {A : Type 0} → List (Moment A) → List (Moment A) → List (Moment A)

@@ -25,6 +25,7 @@ use Rattle.dm_print_ledger.specs.declared.fault.GiveFault.TheVariants as give_fa
 use Rattle.dm_print_ledger.specs.declared.fault.TakeFault.TheVariants as take_fault
 use Rattle.dm_print_ledger.specs.declared.fault.OpenFault.TheVariants as open_fault
 use Rattle.dm_assembly_desk.specs.declared.fault.ScanFault.TheVariants as scan_fault
+use Rattle.dm_assembly_desk.specs.declared.reply.Imported as imported_type
 use Rattle.dm_assembly_desk.specs.declared.fault.AskFault.TheVariants as ask_fault
 use Rattle.dm_assembly_desk.specs.declared.fault.ForgetFault.TheVariants as forget_fault
 use Rattle.dm_assembly_desk.specs.declared.fault.ExportFault.TheVariants as export_fault
@@ -33,12 +34,10 @@ use Rattle.dm_assembly_desk.specs.declared.fault.DeskFault.TheVariants as desk_f
 use Rattle.dm_event_history.specs.declared.stop.Stop.TheVariants as stops
 use Rattle.dm_event_history.specs.declared.reply.Reply.TheVariants as replies
 use Rattle.dm_event_history.specs.Relay as relays
-use Rattle.dm_assembly_desk.specs.declared.reply.Imported as imported_type
 
 abbrev pub IsDown : {C : Type 0} → Actor C → Type 0
-IsDown (Running held) = ⊥
-IsDown (Failed shown stored) = ⊥
 IsDown (relays.Down stored) = Unit {0}
+IsDown actor = ⊥
 
 abbrev pub IsDownAt : Relay → Named → Type 0
 IsDownAt relay (PrinterAt printer) =
@@ -56,9 +55,8 @@ abbrev pub IsStopped : {A : Type 0} → Event A → Type 0
 IsStopped event = IsSomeAnd (stop_of event) IsStopping
 
 abbrev pub is_new : Kind → Bool
-is_new New = true
-is_new Complete = true
 is_new Again = false
+is_new kind = true
 
 -- the reply tells of a save
 abbrev pub tells_of_save : {A : Type 0} → Reply A → Bool
@@ -128,9 +126,7 @@ is_down (moment ∷ earlier) who =
 abbrev pub is_failed : {A : Type 0} → List (Moment A) → Named → Bool
 is_failed [] who = false
 is_failed (moment ∷ earlier) who =
-    if is_same (actor_of moment.event) who
-    then failed_after moment.reply (is_failed earlier who)
-    else is_failed earlier who
+    if is_same (actor_of moment.event) who then failed_after moment.reply (is_failed earlier who) else is_failed earlier who
 
 abbrev pub IsAsTold : {C : Type 0} → Bool → Bool → Actor C → Type 0
 IsAsTold down failed (relays.Running held) = (down ≡ false) × (failed ≡ false)
@@ -394,17 +390,14 @@ pub record Known : Type 1 where
   pub labels : List Label
 
 abbrev pub known_of : {A : Type 0} → Relay → List (Moment A) → Known
-known_of before earlier = record {
-  may_hold = IsPossiblyHeld earlier;
-  holds = IsSurelyHeld earlier;
-  labels = before.labels;
-}
+known_of before earlier =
+    record { may_hold = IsPossiblyHeld earlier; holds = IsSurelyHeld earlier; labels = before.labels }
 
 -- no page of a document is surely held
 abbrev pub IsNotSurelyHeld : Known → ℕ → ℕ → Type 0
 IsNotSurelyHeld known desk id = (m : ℕ) → ¬ known.holds desk id m
 
--- ---- asks and forgets
+-- ---- asks
 
 -- the document was printed under this ID, and each of its pages is possibly held
 pub record IsTrueDocument (known : Known) (desk id : ℕ) (bytes : List ℕ) : Type 0 where
@@ -422,16 +415,6 @@ pub record IsTrulyMissing (known : Known) (desk id missing : ℕ) : Type 0 where
   pub nothing_else : (m : ℕ) → names missing m ≡ true → (1 ≤ m) × (m ≤ length document.parts)
   pub not_surely : (m : ℕ) → names missing m ≡ true → ¬ known.holds desk id m
   pub possibly : (m : ℕ) → 1 ≤ m → m ≤ length document.parts → ¬ (names missing m ≡ true) → known.may_hold desk id m
-
--- why a document is not given, and why it is not forgotten
-abbrev pub IsAskSafe : Known → ℕ → ℕ → AskFault → Type 0
-IsAskSafe known desk id ask_fault.NotHeld = IsNotSurelyHeld known desk id
-IsAskSafe known desk id (ask_fault.Incomplete missing) = IsTrulyMissing known desk id missing
-IsAskSafe known desk id ask_fault.Memory = Unit {0}
-
-abbrev pub IsForgetSafe : Known → ℕ → ℕ → ForgetFault → Type 0
-IsForgetSafe known desk id forget_fault.NotHeld = IsNotSurelyHeld known desk id
-IsForgetSafe known desk id other = Unit {0}
 
 -- ---- scans
 
@@ -462,10 +445,6 @@ pub record IsExportSafe (known : Known) (desk id n mask : ℕ) : Type 0 where
   pub n_is : n ≡ length document.parts
   pub possibly : (m : ℕ) → names mask m ≡ true → known.may_hold desk id m
   pub surely : (m : ℕ) → known.holds desk id m → names mask m ≡ true
-
-abbrev pub IsExportRefusedSafe : Known → ℕ → ℕ → ExportFault → Type 0
-IsExportRefusedSafe known desk id export_fault.NotHeld = IsNotSurelyHeld known desk id
-IsExportRefusedSafe known desk id export_fault.Memory = Unit {0}
 
 -- by the kind of the answer to an import of this export, of which these pages were added
 abbrev pub IsImportKindSafe : Known → ℕ → relays.Export → ℕ → Kind → Type 0
@@ -502,40 +481,30 @@ IsFullFor before known number id =
     IsNotSurelyHeld known number id
     × ((desk : Desk) → slice_get before.desks number ≡ Some desk → MayHoldOthers known number id desk.room)
 
--- a scan, or an import, is never refused for a conflict, nor an import for the bytes of its export
-abbrev pub IsScanRefusedSafe : Relay → Known → ℕ → ℕ → ScanFault → Type 0
-IsScanRefusedSafe before known desk number scan_fault.Conflict = ⊥
-IsScanRefusedSafe before known desk number scan_fault.Full =
-    (label : Label) × (slice_get before.labels number ≡ Some label) × IsFullFor before known desk label.page.id
-IsScanRefusedSafe before known desk number other = Unit {0}
-
-abbrev pub IsImportRefusedSafe : Relay → Known → ℕ → ℕ → ImportFault → Type 0
-IsImportRefusedSafe before known desk number import_fault.NotPages = ⊥
-IsImportRefusedSafe before known desk number import_fault.Version = ⊥
-IsImportRefusedSafe before known desk number import_fault.Damaged = ⊥
-IsImportRefusedSafe before known desk number import_fault.Conflict = ⊥
-IsImportRefusedSafe before known desk number import_fault.Full =
-    (export : relays.Export) × (slice_get before.exports number ≡ Some export) × IsFullFor before known desk export.id
-IsImportRefusedSafe before known desk number other = Unit {0}
-
 -- ---- any reply
 
--- what is so of the reply
+-- What is so of the reply. A scan, or an import, is never refused for a conflict, nor an import for its export's bytes.
 abbrev pub IsSafe : {A : Type 0} → Relay → Known → Event A → Reply A → Type 0
 IsSafe before known (Scan desk number flips stop) (Scanned accepted) = IsAcceptedSafe known desk number accepted
-IsSafe before known (Scan desk number flips stop) (ScanRefused fault) =
-    IsScanRefusedSafe before known desk number fault
+IsSafe before known (Scan desk number flips stop) (ScanRefused scan_fault.Conflict) = ⊥
+IsSafe before known (Scan desk number flips stop) (ScanRefused scan_fault.Full) =
+    (label : Label) × (slice_get before.labels number ≡ Some label) × IsFullFor before known desk label.page.id
 IsSafe before known (Ask desk id) (Document bytes) = IsTrueDocument known desk id bytes
-IsSafe before known (Ask desk id) (AskRefused fault) = IsAskSafe known desk id fault
+IsSafe before known (Ask desk id) (AskRefused ask_fault.NotHeld) = IsNotSurelyHeld known desk id
+IsSafe before known (Ask desk id) (AskRefused (ask_fault.Incomplete missing)) = IsTrulyMissing known desk id missing
 IsSafe before known (Forget desk id stop) Forgotten = (m : ℕ) × known.may_hold desk id m
-IsSafe before known (Forget desk id stop) (ForgetRefused fault) = IsForgetSafe known desk id fault
+IsSafe before known (Forget desk id stop) (ForgetRefused forget_fault.NotHeld) = IsNotSurelyHeld known desk id
 IsSafe before known (Export desk id) (Exported index told n mask) = IsExportSafe known desk id n mask
-IsSafe before known (Export desk id) (ExportRefused fault) = IsExportRefusedSafe known desk id fault
+IsSafe before known (Export desk id) (ExportRefused export_fault.NotHeld) = IsNotSurelyHeld known desk id
 IsSafe before known (Import desk number stop) (Imported imported) =
     (export : relays.Export) × (slice_get before.exports number ≡ Some export)
     × IsImportedSafe known desk export imported
-IsSafe before known (Import desk number stop) (ImportRefused fault) =
-    IsImportRefusedSafe before known desk number fault
+IsSafe before known (Import desk number stop) (ImportRefused import_fault.NotPages) = ⊥
+IsSafe before known (Import desk number stop) (ImportRefused import_fault.Version) = ⊥
+IsSafe before known (Import desk number stop) (ImportRefused import_fault.Damaged) = ⊥
+IsSafe before known (Import desk number stop) (ImportRefused import_fault.Conflict) = ⊥
+IsSafe before known (Import desk number stop) (ImportRefused import_fault.Full) =
+    (export : relays.Export) × (slice_get before.exports number ≡ Some export) × IsFullFor before known desk export.id
 IsSafe before known event reply = Unit {0}
 
 -- As long as each scan that may have saved its page was fair, desks show and store all that is surely held there, and

@@ -33,7 +33,7 @@ use Rattle.dm_event_history.specs.Relay.{Actor, Running, Failed, Down, stored_of
 use Rattle.dm_event_history.specs.Steps.{Answers, Calls, Course, Ending, Faults, LacksMemory, MayLackFirst, Saves, ending, ends, ForgetComes, ImportComes, MayBe, ScanComes, forget_faults, forget_reply, import_faults, import_reply, page_reply, pages_reply, scan_course, scan_faults, scan_reply, verdict_course}
 use Rattle.dm_event_world.specs.declared.actor.{DeskState.DeskState, LeftExport.LeftExport}
 use Rattle.dm_event_world.specs.declared.actor.DeskState.TheVariants as states
-use Rattle.dm_event_world.specs.Shows.{DeskIs, IsReadySet, ShowsDesk}
+use Rattle.dm_event_world.specs.Shows.{DeskIs, IsReady, ShowsDesk}
 use Rattle.dm_event_world.specs.inner.Calls.{IsMadeUnder, next_save_of, stops_before, EndsEach, EndsSo, Left, state_after, ended_reply, lacks_memory}
 use Rattle.dm_event_world.specs.inner.Desks.{Calling, desk_planned, down_desk}
 use Rattle.dm_event_world.proofs.Endings.{Ends, IsEmpty, TellsMemory, empty, finish, lacks_first, none_left, not_first, plain, reaches, stopped_before, unsaved_empty, with_goods}
@@ -44,7 +44,7 @@ down_shows room state shown s = grind arith
 
 -- what is shown of a desk whose call saved nothing
 same_again : (A : Type 0) (room : ℕ) (view mid : DeskView) (plan : NextSave) (shown : Actor Documents) →
-    ShowsDesk {A = A} room (states.Running view) shown → IsReadySet view.saved → mid ≡ desk_planned view plan →
+    ShowsDesk {A = A} room (states.Running view) shown → IsReady view.saved.is_honest view.saved.load_plan view.saved.save_plan → mid ≡ desk_planned view plan →
     ShowsDesk {A = A} room (states.Running (desk_planned mid next_save.Fine)) shown
 same_again A room view mid plan shown s ready same = grind arith
 

@@ -8,7 +8,7 @@ use Rattle.dm_assembly_desk.specs.Documents.{Pages, file, Documents, AreEntries,
 use Rattle.dm_assembly_desk.specs.Desk.{DeskOpens}
 use Rattle.dm_event_world.specs.declared.actor.{DeskActor.DeskActor, DeskState.DeskState, DeskState.TheVariants.Running}
 use Rattle.dm_event_history.specs.Relay as actors
-use Rattle.dm_event_world.specs.{Shows.IsReadySet, Shows.ShowsDesk, inner.Desks.AreEmpty}
+use Rattle.dm_event_world.specs.{Shows.IsReady, Shows.ShowsDesk, inner.Desks.AreEmpty}
 
 -- the desk is empty, and has this room
 abbrev pub IsEmptyDesk : {A : Type 0} → ℕ → DeskState A → Type 0
@@ -45,7 +45,7 @@ opened_empty A set capacity view is opens found =
     let few : map.len nothing ≤ capacity = (let l = len-empty nat_cmp Pages in omega arith) in
     record {
       store = record {
-        ready = subst IsReadySet (sym set_is) (record { honest = refl; loads_fine = refl; saves_fine = refl });
+        ready = subst (λ (s : SavedSet). IsReady s.is_honest s.load_plan s.save_plan) (sym set_is) (record { honest = refl; loads_fine = refl; saves_fine = refl });
         holds = subst (λ (s : SavedSet). HoldsFiles s.content map.empty) (sym set_is) no_files;
         is_room = opens.room;
         few = few;

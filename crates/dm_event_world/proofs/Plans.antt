@@ -7,6 +7,7 @@ use Rattle.dm_event_world.specs.{Shows.IsReady, inner.Calls.planned}
 
 -- a store is ready after a save, however it ended
 pub ready_after : (view mid : PrinterView) (plan : NextSave) (bytes : List ℕ)
-    (answer : Result (Unit {0}) StoreFault) → IsReady view.saved →
-    Replaces (planned view plan).saved bytes answer mid.saved → IsReady (planned mid next_save.Fine).saved
+    (answer : Result (Unit {0}) StoreFault) → IsReady view.saved.is_honest view.saved.load_plan view.saved.save_plan →
+    Replaces (planned view plan).saved bytes answer mid.saved →
+    (let saved = (planned mid next_save.Fine).saved in IsReady saved.is_honest saved.load_plan saved.save_plan)
 ready_after view mid plan bytes answer ready replaced = grind arith

@@ -8,7 +8,7 @@ use Rattle.dm_print_ledger.specs.{Ledger.TicketView, Ledger.LedgerView, Ledger.i
 use Rattle.dm_event_history.specs.declared.{event.Event.Event, event.Event.TheVariants.Scan, reply.Reply.Reply}
 use Rattle.dm_event_world.specs.declared.actor.{PrinterActor.PrinterActor, DeskActor.DeskActor, LeftLabel.LeftLabel}
 use Rattle.dm_event_world.specs.declared.{actor.LeftExport.LeftExport, actor.DeskState.DeskState, answers.Answer.Answer}
-use Rattle.dm_store.specs.Saved.{Saved, LoadsFine, SavesFine, SavedSet}
+use Rattle.dm_store.specs.Saved.{LoadPlan, LoadsFine, SavePlan, SavesFine, Saved, SavedSet}
 use Rattle.dm_assembly_desk.specs.Documents.{Documents, HoldsFiles, IsEntry, file, mask, DeskView, IsCapacity}
 use Rattle.dm_event_history.specs.Relay.{Actor, Running, Failed, Down, Desk, Export, Label, Relay, start}
 use Rattle.dm_print_ledger.specs.declared.range.Range.{Range}
@@ -55,21 +55,15 @@ IsFairIn world event = Unit {0}
 
 -- ---- Which relay a world shows.
 
--- an honest store in which nothing is to fail
-pub record IsReady (saved : Saved) : Type 0 where
-  pub honest : saved.is_honest ≡ true
-  pub loads_fine : saved.load_plan ≡ LoadsFine
-  pub saves_fine : saved.save_plan ≡ SavesFine
-
--- an honest set in which nothing is to fail
-pub record IsReadySet (saved : SavedSet) : Type 0 where
-  pub honest : saved.is_honest ≡ true
-  pub loads_fine : saved.load_plan ≡ LoadsFine
-  pub saves_fine : saved.save_plan ≡ SavesFine
+-- an honest store, or set, in which nothing is to fail
+pub record IsReady (is_honest : Bool) (loads : LoadPlan) (saves : SavePlan) : Type 0 where
+  pub honest : is_honest ≡ true
+  pub loads_fine : loads ≡ LoadsFine
+  pub saves_fine : saves ≡ SavesFine
 
 -- the store is as it should be, and holds this ledger
 pub record StoresLedger (saved : Saved) (ledger : LedgerView) : Type 0 where
-  pub ready : IsReady saved
+  pub ready : IsReady saved.is_honest saved.load_plan saved.save_plan
   pub holds : HoldsLedger saved ledger
 
 abbrev pub ShowsPrinter : {A : Type 0} → PrinterActor A → Actor LedgerView → Type 0
@@ -82,7 +76,7 @@ ShowsPrinter actor other = ⊥
 
 -- the set is as it should be, and holds these documents, for which there is room
 pub record StoresDocuments (saved : SavedSet) (room : ℕ) (held : Documents) : Type 0 where
-  pub ready : IsReadySet saved
+  pub ready : IsReady saved.is_honest saved.load_plan saved.save_plan
   pub holds : HoldsFiles saved.content held
   pub is_room : IsCapacity room
   pub few : finite.len held ≤ room
@@ -102,8 +96,7 @@ ShowsDesk room state other = ⊥
 
 -- a label and an export as the world keeps them
 abbrev pub left_label : {A : Type 0} → Label → LeftLabel A
-left_label label =
-    record { id = label.page.id; number = label.page.m; count = label.page.n; grid = label.grid }
+left_label label = record { id = label.page.id; number = label.page.m; count = label.page.n; grid = label.grid }
 
 abbrev pub left_export : {A : Type 0} → Export → LeftExport A
 left_export export = record {

@@ -163,12 +163,8 @@ numbers_in bytes = record {
 
 -- what a ledger says
 abbrev pub shown_of : LedgerView → ShownView
-shown_of ledger = record {
-  number = Some ledger.number;
-  next_serial = ledger.next_serial;
-  free = ledger.free;
-  givers = ledger.givers;
-}
+shown_of ledger =
+    record { number = Some ledger.number; next_serial = ledger.next_serial; free = ledger.free; givers = ledger.givers }
 
 -- the bytes are those of a sound ledger
 abbrev pub read_second : List ℕ → Result ShownView OpenFault

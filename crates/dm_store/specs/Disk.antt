@@ -156,9 +156,4 @@ saved_under disk path = record {
 
 -- a disk that is not honest, so that no law speaks of what a reader finds or a stop leaves
 abbrev pub unclaimed : DiskState
-unclaimed = record {
-  is_honest = false;
-  seen = λ name. None;
-  is_synced = λ name. ⊤;
-  may_leave = λ name content. ⊤;
-}
+unclaimed = record { is_honest = false; seen = λ name. None; is_synced = λ name. ⊤; may_leave = λ name content. ⊤ }

@@ -5,7 +5,7 @@ use Rattle.std.specs.{Option.option_copied, Io.KnownBytes.Appends, Io.KnownBytes
 use Rattle.relay_command.specs.declared.command.Command.{Command}
 use Rattle.relay_command.specs.declared.command.Command.TheVariants.{Words, Draw, Read, Plan, Ticket, Ledger, Print, Give, GiveLast, Take, Left, Audit, Scan, Deliver, Forget, Export, Import, Held, Copy, World}
 use Rattle.relay_streams.specs.Streams.{TakesPart, AppendsPart, OutputView, write_fault_name}
-use Rattle.relay_shared.specs.Command.{LeavesErrors, StreamsView, TellsRefusal}
+use Rattle.relay_shared.specs.Command.{StreamsView, TellsRefusal}
 use Rattle.relay_shared.specs.declared.command.TheConstants.{DOCUMENT_BYTES}
 use Rattle.relay_desk_commands.specs.declared.import.TheConstants.{IMPORT_BYTES}
 use Rattle.relay_printer_commands.specs.declared.audit.TheConstants.{TICKETS_BYTES}
@@ -52,7 +52,7 @@ Does A Read images old status new = OnStreams (EndsRead images) old status new
 Does A (Plan scheme) images old status new =
     OnStreams (EndsPlan scheme) old status new × ReadsPart DOCUMENT_BYTES old.streams new.streams
 Does A (Ticket ticket) images old status new = OnStreams (EndsTicket ticket.now) old status new
-Does A World images old status new = OnStreams (EndsWorld A) old status new × LeavesErrors old.streams new.streams
+Does A World images old status new = OnStreams (EndsWorld A) old status new × (new.streams.errors ≡ old.streams.errors)
     × ReadsPart INPUT_BYTES old.streams new.streams
 Does A (Ledger file number first last) images old status new =
     OnFile (EndsLedger number (record { first = first; last = last })) old status new

@@ -14,7 +14,7 @@ use Rattle.relay_streams.specs.Streams.{input_fault_name, OutputView, ReadsFirst
 use Rattle.relay_streams.specs.declared.fault.InputFault.{InputFault}
 use Rattle.relay_desk_commands.specs.declared.documents.Given.{Given, TheVariants.Document, TheVariants.File}
 use Rattle.relay_desk_commands.specs.declared.{import.TheConstants.IMPORT_BYTES, copy.CopyOptions.CopyOptions}
-use Rattle.relay_shared.specs.Command.{HasInputFault, refusal_name, LeavesErrors, OnlyOutput, RefusesOnErrors, RefusesOnOutput, StreamsView, TellsAnswer, TellsBytes, TellsRefusal, ImageCommand, Said, TellsInputs, progress_at, refusal_of, Tells, EndsNote, NotesImage}
+use Rattle.relay_shared.specs.Command.{HasInputFault, refusal_name, OnlyOutput, RefusesOnErrors, RefusesOnOutput, StreamsView, TellsAnswer, TellsBytes, TellsRefusal, ImageCommand, Said, TellsInputs, progress_at, refusal_of, Tells, EndsNote, NotesImage}
 use Rattle.dm_finder_frame.specs.Frame.{GridView}
 use Rattle.dm_pbm_io.specs.{FaultNames.shape_fault_name, Image.Picture, Image.HasShape, Image.IsGridInside, Image.p4}
 use Rattle.dm_pbm_io.specs.declared.fault.ShapeFault.{ShapeFault, TheVariants.Shape, TheVariants.Memory}
@@ -59,8 +59,7 @@ held_line held =
 
 -- the file of a key, by its name, and why it is not sound
 abbrev pub unsound_line : ℕ → List ℕ → List ℕ
-unsound_line key name =
-    codes "file " ++ (word_text key ++ (32 ∷ (name ++ 10 ∷ [])))
+unsound_line key name = codes "file " ++ (word_text key ++ (32 ∷ (name ++ 10 ∷ [])))
 
 -- the file of an older version, and why it is not sound
 abbrev pub unsound_joint_line : List ℕ → List ℕ
@@ -174,21 +173,18 @@ EndsForget text = EndsOnId RefusesOnOutput text (λ id. EndsAtDesk RefusesOnOutp
     (λ desk old status new. OnlyOutput old new.streams
     × AnswersCall (λ _. forgotten_line id) forget_fault_name (Forgets id) desk old status new))
 
--- the line of pages that were taken in
-abbrev pub line_of_import : Imported → List ℕ
-line_of_import reply = imported_line reply.id reply.n reply.added (kind_name reply.kind)
-
 -- How `import` ends: the input could not be read; or no read failed, and these bytes were read, and no other, one more
 -- than the greatest file has, or all if they are fewer, and then the desk was opened, and has answered. Nothing was
 -- written to the standard error.
 pub data EndsImport (capacity : ℕ) (old : OnDesk) (status : ℕ) (new : OnDesk) : Type 0 where
   not_read : (fault : InputFault) → HasInputFault old.streams.input new.streams.input fault → new.files ≡ old.files
       → TellsRefusal (input_fault_name fault) old.streams.output status new.streams.output
-      → LeavesErrors old.streams new.streams → EndsImport capacity old status new
+      → new.streams.errors ≡ old.streams.errors → EndsImport capacity old status new
   read : (bytes : List ℕ) → ReadsFirst old.streams.input new.streams.input IMPORT_BYTES bytes
       → EndsAtDesk (λ name before told after. TellsRefusal name before.output told after.output) capacity
-      (AnswersCall line_of_import import_fault_name (ImportsBytes bytes)) old status new
-      → LeavesErrors old.streams new.streams → EndsImport capacity old status new
+      (AnswersCall (λ reply. imported_line reply.id reply.n reply.added (kind_name reply.kind)) import_fault_name
+      (ImportsBytes bytes)) old status new
+      → new.streams.errors ≡ old.streams.errors → EndsImport capacity old status new
 
 -- ---- what is scanned
 

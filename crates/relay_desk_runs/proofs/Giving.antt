@@ -2,6 +2,7 @@
 use Rattle.std.proofs.Common.{◌≡◌, inl, inr, ℕ, Option, None, Some, List, [], Result, Ok, Err, length, refl, sym, ap, subst, ◌∙◌, arith}
 use Rattle.std.specs.Prelude.{IfSome, MatchResult, unwrap_or}
 use Rattle.std.specs.FinMap as finite
+use Rattle.std.specs.Result.{result_ok}
 use Rattle.dm_append_label.specs.Labels.{Carries, PageView}
 use Rattle.dm_size.specs.declared.size.Size.{Size}
 use Rattle.dm_encodation.specs.declared.scheme.Scheme.{Scheme}
@@ -20,7 +21,7 @@ use Rattle.relay_shared.specs.declared.command.Refusal.TheVariants as refusals
 use Rattle.relay_desk_commands.specs.Desks.{EndsCopy, EndsCopyOf, GivesCopy, IsPageHeld, ByName, EndsDeliver, EndsExport, IsTextOfId, OnDesk}
 use Rattle.relay_desk_commands.specs.Desks.{EndsCopyOf.no_side, EndsCopyOf.of_side, EndsOnId.no_id, EndsOnId.of_id}
 use Rattle.relay_desk_commands.specs.Desks.EndsAtDesk.{no_desk, opened}
-use Rattle.relay_desk_runs.specs.Answered.{file_exported, if_copied, if_given, label_copied, EachCopyIsPrinted, EachDeliverIsPrinted, EachExportIsPrinted, GivesPrinted, HoldsPrinted, HasPrinted, IsOfLabel, IsPrintedFile, document, nothing}
+use Rattle.relay_desk_runs.specs.Answered.{file_exported, if_copied, label_copied, EachCopyIsPrinted, EachDeliverIsPrinted, EachExportIsPrinted, GivesPrinted, HoldsPrinted, HasPrinted, IsOfLabel, IsPrintedFile, document, nothing}
 use Rattle.relay_desk_runs.proofs.OneDesk.{asked}
 use Rattle.relay_desk_runs.proofs.Opened.{IsOpened, as_they_were, at_desk_keeps, is_opened, on_id_keeps, still_clean}
 
@@ -37,7 +38,7 @@ export_clean labels held id pages left there = record {
 module _ (labels : List Label) (set : SavedSet) (desk : DeskView) (o : IsOpened labels set desk) (id : ℕ) where
   exported : (found : Option Pages) → finite.get desk.held id ≡ found → (given : Result (List ℕ) (List ℕ)) →
       ByName export_fault_name (Exports (λ (bytes : List ℕ). bytes) id found) given →
-      IfSome (if_given given) (IsPrintedFile labels)
+      IfSome (result_ok given) (IsPrintedFile labels)
   exported None there (Ok bytes) gives = absurd (cc (gives))
   exported (Some pages) there (Ok bytes) gives = record {
     id = id;

@@ -22,7 +22,7 @@ use Rattle.relay_desk_commands.specs.Desks.{EndsCopyOf.no_side, EndsCopyOf.of_si
 use Rattle.relay_desk_commands.specs.declared.copy.CopyOptions.{CopyOptions}
 use Rattle.relay_desk_commands.specs.Desks.ScansPicture.{accepted, refused, no_grid}
 use Rattle.relay_desk_commands.specs.Desks.{EndsAtDesk.no_desk, EndsAtDesk.opened, EndsImport.not_read, EndsImport.read}
-use Rattle.std.specs.{List.AllByRecursion, Io.KnownBytes.Appends}
+use Rattle.std.specs.{List.AllByRecursion, Result.result_ok, Io.KnownBytes.Appends}
 use Rattle.dm_symbol.specs.Correction.{IsNear}
 use Rattle.dm_append_label.specs.Labels.{Carries, PageView}
 use Rattle.dm_store.specs.Saved.{Saved, SavedSet}
@@ -101,15 +101,11 @@ file_imported (read bytes reads (opened desk opens rest) leaves) = if_imported r
 
 -- ---- an export, and a copy: what was given out, if anything
 
-abbrev pub if_given : Result (List ℕ) (List ℕ) → Option (List ℕ)
-if_given (Ok bytes) = Some bytes
-if_given (Err name) = None
-
 abbrev pub file_exported : {text : List ℕ} {old new : OnDesk} {status : ℕ} → EndsExport text old status new →
     Option (List ℕ)
 file_exported (no_id isnt same refuses) = None
 file_exported (of_id id text_is (no_desk name has refuses)) = None
-file_exported (of_id id text_is (opened desk opens rest)) = if_given rest.0
+file_exported (of_id id text_is (opened desk opens rest)) = result_ok rest.0
 
 abbrev pub if_copied : (id m : ℕ) (size : Size) (scheme : Scheme) (held : Documents) (given : Result (List ℕ) (List ℕ)) →
     GivesCopy id m size scheme held given → Option GridView

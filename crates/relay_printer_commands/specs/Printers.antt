@@ -68,8 +68,7 @@ shown_lines shown = number_line shown.number ++ (left_line (free_count shown.fre
 
 -- `side` and its modules, `labels` and how many there are
 abbrev pub side_line : PlannedSide → List ℕ
-side_line planned =
-    codes "side " ++ (decimal planned.side ++ (codes " labels " ++ (decimal planned.count ++ 10 ∷ [])))
+side_line planned = codes "side " ++ (decimal planned.side ++ (codes " labels " ++ (decimal planned.count ++ 10 ∷ [])))
 
 -- the numbers of a ticket, each after its word, and what comes after them
 abbrev pub range_before : TicketView → List ℕ → List ℕ
@@ -95,8 +94,6 @@ abbrev pub check_line : List ℕ → List ℕ
 check_line bytes = codes "check " ++ (check_text bytes ++ 10 ∷ [])
 
 -- The text of a ticket, in its two forms, which this project lays down, and what `ticket` says of one.
-
--- ---- tickets
 
 -- ---- twelve bytes: ten, and two error correction codewords of them
 

@@ -1,6 +1,7 @@
 -- The ledgers and the machine's printers, once commands ran: a printer for each number, whose range the list makes.
 use Rattle.std.proofs.Common.{◌≡◌, ◌⊎◌, ◌+◌, ◌≤◌, ◌++◌, inl, inr, true, ℕ, zero, suc, List, [], ◌∷◌, None, Option, Some, length, map, slice_get, slice_set, refl, sym, ap, subst, ◌∙◌, arith, eq-eqb}
 use Rattle.std.specs.Prelude.{◌==◌, IfSome, IsSomeAnd}
+use Rattle.std.specs.Option.{option_to_list}
 use Rattle.std.proofs.lemmas.List.{append-nil, length-set}
 use Rattle.dm_finder_frame.specs.Frame.{GridView}
 use Rattle.dm_append_label.specs.Labels.{Carries, PageView}
@@ -15,7 +16,7 @@ use Rattle.dm_event_history.proofs.{Headline.each_run_is_sound, Numbers.gone_mor
 use Rattle.dm_event_world.proofs.Changing.{at_place}
 use Rattle.relay_command.specs.declared.command.Command.{Command}
 use Rattle.relay_desk_commands.specs.Desks.{OnDesk}
-use Rattle.relay_runs.specs.Runs.{FollowsRun, IsOfJob, KeepsLedger, grids_in, grids_of, listed}
+use Rattle.relay_runs.specs.Runs.{FollowsRun, IsOfJob, KeepsLedger, grids_in, grids_of}
 use Rattle.relay_runs.proofs.Places.{set_there}
 use Rattle.relay_printer_commands.specs.Printers.{images_of}
 use Rattle.relay_streams.specs.Streams.{AppendsPart}
@@ -464,7 +465,7 @@ module _ (A : Type 0) (ranges : List Range) (earlier : List (Ran A)) (site : Lis
                   (get_more s.relay.tickets f.goods.tickets t.0 ticket t.1),
             )
         | inr new ↦
-            let one : f.goods.tickets ≡ ticket ∷ [] = f.tickets ∙ ap (listed {X = TicketView}) new in
+            let one : f.goods.tickets ≡ ticket ∷ [] = f.tickets ∙ ap (option_to_list {X = TicketView}) new in
             let at : slice_get f.goods.tickets 0 ≡ Some ticket = ap (λ (ts : List TicketView). slice_get ts 0) one in
             let a = after_some s.relay.tickets f.goods.tickets 0 ticket at in
             (a.0, subst (λ (ts : List TicketView). slice_get ts a.0 ≡ Some ticket) (sym tickets_are) a.1)

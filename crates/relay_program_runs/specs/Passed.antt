@@ -29,15 +29,8 @@ pub record Passed : Type 0 where
   pub imported : Option (List ℕ)
 
 abbrev pub nothing : Passed
-nothing = record {
-  printed = None;
-  given = None;
-  copied = None;
-  exported = None;
-  taken = None;
-  scanned = [];
-  imported = None;
-}
+nothing =
+    record { printed = None; given = None; copied = None; exported = None; taken = None; scanned = []; imported = None }
 
 -- by the clause of the command
 abbrev pub passed_by : (A : Type 0) (command : Command) (images : List (Option (List ℕ))) (before : OnDesk) (status : ℕ)

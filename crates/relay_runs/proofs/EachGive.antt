@@ -1,5 +1,6 @@
 -- Each give over an honest store is a run.
 use Rattle.std.proofs.Common.{◌≡◌, inl, ℕ, [], ◌∷◌, Some, None, Result, length, slice_get, refl, sym, ap, subst}
+use Rattle.std.specs.Result.{result_ok}
 use Rattle.dm_store.specs.Saved.{Saved}
 use Rattle.dm_print_ledger.specs.declared.{fault.GiveFault.GiveFault, range.Range.Range}
 use Rattle.dm_print_ledger.specs.declared.fault.GiveFault.TheVariants as give_fault
@@ -12,7 +13,7 @@ use Rattle.dm_event_world.specs.inner.Calls.{give_reply}
 use Rattle.relay_printer_commands.specs.Printers.{EndsGive, EndsGiveLast, OnLedger}
 use Rattle.relay_printer_commands.specs.Printers.EndsGive.{opened as was_opened, not_opened}
 use Rattle.relay_printer_commands.specs.Printers.EndsGiveLast.{gave, too_few, unopened}
-use Rattle.relay_runs.specs.Runs.{answered, ticket_given, ticket_given_last, EachGiveIsARun, FollowsRun, KeepsLedger, grids_of}
+use Rattle.relay_runs.specs.Runs.{ticket_given, ticket_given_last, EachGiveIsARun, FollowsRun, KeepsLedger, grids_of}
 use Rattle.relay_runs.proofs.Places.{calling, restart, restarted, run_of, still_within}
 use Rattle.relay_runs.proofs.{Files.HoldsFile, Files.holds_file, Files.opened, Giving.GivenSo, Giving.given_so}
 use Rattle.relay_runs.proofs.{Calling.keeps_shown, Calling.shows_opened, Uncalled.none_there, Uncalled.uncalled}
@@ -24,7 +25,7 @@ module _ (A : Type 0) (relay : Relay) (place : ℕ) (actor : Actor LedgerView) (
   called_so : (after : PrinterView) (answer : Result TicketView GiveFault) → new.saved ≡ after.saved →
       HoldsFile after.saved →
       GivenSo A (length (restarted relay place (stored_of actor)).tickets) to range (stored_of actor) answer after →
-      FollowsRun A relay place old.streams.input new.saved None (answered answer)
+      FollowsRun A relay place old.streams.input new.saved None (result_ok answer)
   called_so after answer same file g =
       let event : Event A = Give place to range g.stop in
       record {

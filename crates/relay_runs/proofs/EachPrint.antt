@@ -1,6 +1,6 @@
 -- Each print over an honest store is a run.
 use Rattle.std.proofs.Common.{◌≡◌, inl, ℕ, List, [], ◌∷◌, Some, None, Result, Ok, Err, length, slice_get, refl, sym, ap, subst}
-use Rattle.std.specs.Prelude.{is_some}
+use Rattle.std.specs.{Prelude.is_some, Result.result_ok}
 use Rattle.dm_size.specs.declared.size.Size.{Size}
 use Rattle.dm_encodation.specs.declared.scheme.Scheme.{Scheme}
 use Rattle.dm_store.specs.Saved.{Saved}
@@ -17,20 +17,20 @@ use Rattle.relay_shared.specs.Command.{ReadsDocument}
 use Rattle.relay_printer_commands.specs.Printers.{EndsPrint, PrintsDocument, OnLedger}
 use Rattle.relay_printer_commands.specs.Printers.EndsPrint.{no_side, not_read, too_long, read as was_read}
 use Rattle.relay_printer_commands.specs.Printers.PrintsDocument.{opened as was_opened, not_opened}
-use Rattle.relay_runs.specs.Runs.{answered, job_ended, job_printed, EachPrintIsARun, FollowsRun, IsOfJob, KeepsLedger}
+use Rattle.relay_runs.specs.Runs.{job_ended, job_printed, EachPrintIsARun, FollowsRun, IsOfJob, KeepsLedger}
 use Rattle.relay_runs.proofs.Places.{calling, restart, restarted, run_of, still_within}
 use Rattle.relay_runs.proofs.{Files.HoldsFile, Files.holds_file, Files.opened, Uncalled.uncalled}
 use Rattle.relay_runs.proofs.Calling.{keeps_shown, shows_opened}
 use Rattle.relay_runs.proofs.Printing.{PrintedSo, none_mapped, printed_so}
 
-answered_ok : (answer : Result JobView PrintFault) (job : JobView) → answered answer ≡ Some job → answer ≡ Ok job
+answered_ok : (answer : Result JobView PrintFault) (job : JobView) → result_ok answer ≡ Some job → answer ≡ Ok job
 answered_ok (Ok it) job is = cc (is)
 answered_ok (Err fault) job is = cc (is)
 
 module _ {A : Type 0} {before : ℕ} {stored : LedgerView} (document : List ℕ) (size : Size) (scheme : Scheme)
     (after : PrinterView) (input rest : InputView) (read : ReadsDocument input rest document) where
   job_from : (answer : Result JobView PrintFault) (p : PrintedSo A before document size scheme stored answer after) (i : ℕ)
-      (label : Label) → slice_get p.end.goods.labels i ≡ Some label → IsOfJob input (answered answer) label
+      (label : Label) → slice_get p.end.goods.labels i ≡ Some label → IsOfJob input (result_ok answer) label
   job_from (Ok job) p i label there =
       let cut = p.cut job refl i label there in
       record {
@@ -53,7 +53,7 @@ module _ (A : Type 0) (relay : Relay) (place : ℕ) (actor : Actor LedgerView) (
       (answer : Result JobView PrintFault) → ReadsDocument old.streams.input rest document → new.saved ≡ after.saved →
       HoldsFile after.saved →
       PrintedSo A (length (restarted relay place (stored_of actor)).labels) document size scheme (stored_of actor) answer
-      after → FollowsRun A relay place old.streams.input new.saved (answered answer) None
+      after → FollowsRun A relay place old.streams.input new.saved (result_ok answer) None
   called_so document rest size after answer is_read same file p =
       let event : Event A = Print place document size scheme p.stop in
       record {

@@ -11,7 +11,7 @@ use Rattle.dm_event_world.specs.declared.actor.PrinterActor.TheVariants as actor
 use Rattle.dm_event_world.specs.Shows.{ShowsPrinter, left_label}
 use Rattle.dm_event_world.specs.inner.Calls.{EndsSo, Left, ends_early, give_reply, left_ticket}
 use Rattle.dm_event_world.proofs.PrinterEvents.{give_ends}
-use Rattle.relay_runs.specs.Runs.{answered, listed}
+use Rattle.std.specs.{Result.result_ok, Option.option_to_list}
 use Rattle.relay_runs.proofs.Plans.{IsMet, IsUnder, fine_printer, under_stop}
 use Rattle.relay_runs.proofs.{Calling.met_ended, Calling.met_reply, Printing.cancel, Printing.none_mapped}
 
@@ -24,11 +24,11 @@ pub record GivenSo (A : Type 0) (before to : ℕ) (range : Range) (stored : Ledg
   pub reply_is : give_reply before answer ≡ end.reply
   pub shows : ShowsPrinter {A = A} (actors.Running (fine_printer after)) end.actor
   pub labels : end.goods.labels ≡ []
-  pub tickets : end.goods.tickets ≡ listed (answered answer)
+  pub tickets : end.goods.tickets ≡ option_to_list (result_ok answer)
 
 -- what a command may meet does not end its call early
 lets_ticket : (stop : Stop) (answer : Result TicketView GiveFault) → IsMet stop →
-    (if ends_early stop then [] else left_ticket answer) ≡ listed (answered answer)
+    (if ends_early stop then [] else left_ticket answer) ≡ option_to_list (result_ok answer)
 lets_ticket stop answer met = grind arith
 
 module _ (A : Type 0) (tickets : List TicketView) (to : ℕ) (range : Range) (view after : PrinterView)

@@ -1,5 +1,6 @@
 -- What a print lets out: a first part of the images of its labels.
 use Rattle.std.proofs.Common.{◌≡◌, ◌++◌, ℕ, List, [], ◌∷◌, None, Option, Some, Result, Ok, Err, slice_get, refl, sym, ap, subst, ◌∙◌}
+use Rattle.std.specs.Result.{result_ok}
 use Rattle.std.proofs.lemmas.Grind.{flat_map-append}
 use Rattle.dm_pbm_io.specs.Image.{p4}
 use Rattle.dm_finder_frame.specs.Frame.{GridView}
@@ -14,7 +15,7 @@ use Rattle.relay_printer_commands.specs.Printers.PrintsDocument.{opened as was_o
 use Rattle.relay_command.specs.declared.command.Labels.{Labels}
 use Rattle.relay_streams.proofs.Parts.{part_none, part_whole}
 use Rattle.dm_encodation.specs.declared.scheme.Scheme.{Scheme}
-use Rattle.relay_runs.specs.Runs.{answered, job_ended}
+use Rattle.relay_runs.specs.Runs.{job_ended}
 
 no_part : (old new : OutputView) (text : List ℕ) → new ≡ old → AppendsPart old.contents new.contents text
 no_part old new text same =
@@ -37,7 +38,7 @@ labels_part labels line old new status (lost errors refusal out loses told) = lo
 
 -- of the images of a job a first part is out
 job_part : (answer : Result JobView PrintFault) (job : JobView) (left : ℕ) (old new : StreamsView) (status : ℕ) →
-    answered answer ≡ Some job → TellsPrint answer left old status new →
+    result_ok answer ≡ Some job → TellsPrint answer left old status new →
     AppendsPart old.output.contents new.output.contents (images_of job.labels)
 job_part (Ok it) job left old new status is told =
     let same : it ≡ job = cc (is) in

@@ -1,5 +1,6 @@
 -- A print is a run.
 use Rattle.std.proofs.Common.{false, ◌≡◌, ◌+◌, ◌++◌, inl, inr, ℕ, zero, suc, List, [], ◌∷◌, Result, Ok, Err, Some, length, map, slice_get, take, refl, sym, ap, subst, ◌∙◌, arith}
+use Rattle.std.specs.Result.{result_ok}
 use Rattle.std.specs.Prelude.{IfOk, IsTrue, is_some}
 use Rattle.std.proofs.lemmas.List.{length-map, take_all}
 use Rattle.dm_size.specs.declared.size.Size.{Size}
@@ -21,7 +22,7 @@ use Rattle.dm_event_world.specs.{declared.actor.LeftLabel.LeftLabel, Shows.Shows
 use Rattle.dm_event_world.specs.declared.actor.PrinterActor.TheVariants as actors
 use Rattle.dm_event_world.specs.inner.Calls.{EndsSo, Left, job_labels, left_labels, most_labels, print_reply}
 use Rattle.dm_event_world.proofs.PrinterEvents.{few_labels, print_ends}
-use Rattle.relay_runs.specs.Runs.{answered, grids_in, grids_of}
+use Rattle.relay_runs.specs.Runs.{grids_in, grids_of}
 use Rattle.relay_runs.proofs.{Plans.IsUnder, Plans.fine_printer, Plans.under_stop, Calling.met_ended, Calling.met_reply}
 
 -- ---- what leaves
@@ -48,7 +49,7 @@ grids_job A id count number (grid ∷ job) = ap (λ (gs : List GridView). grid �
 
 -- the labels of the job of an answer
 abbrev pub answered_grids : Result JobView PrintFault → List GridView
-answered_grids answer = grids_in (answered answer)
+answered_grids answer = grids_in (result_ok answer)
 
 -- ---- the number that is used
 

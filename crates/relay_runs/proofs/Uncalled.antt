@@ -1,10 +1,11 @@
 -- A command that did not call its printer does nothing.
 use Rattle.std.proofs.Common.{◌≡◌, ℕ, List, [], Option, Some, None, slice_get, refl, sym, ap, subst}
+use Rattle.std.specs.Option.{option_to_list}
 use Rattle.dm_store.specs.Saved.{Saved}
 use Rattle.dm_print_ledger.specs.Ledger.{JobView, LedgerView, TicketView}
 use Rattle.dm_event_history.specs.Relay.{Actor, Label, Relay, no_goods}
 use Rattle.relay_streams.specs.Streams.{InputView}
-use Rattle.relay_runs.specs.Runs.{FollowsRun, KeepsLedger, grids_in, listed}
+use Rattle.relay_runs.specs.Runs.{FollowsRun, KeepsLedger, grids_in}
 use Rattle.relay_runs.proofs.Places.{no_run}
 
 pub none_there : (labels : List Label) (i : ℕ) (label : Label) → labels ≡ [] → slice_get labels i ≡ Some label → ⊥
@@ -21,6 +22,6 @@ uncalled A relay place input old new actor job ticket was keeps same no_job no_t
   runs = no_run A relay place actor was new (subst (λ (s : Saved). KeepsLedger s actor) (sym same) keeps);
   labels = ap grids_in (sym no_job);
   printed = λ i label there. absurd (none_there [] i label refl there);
-  tickets = ap (listed {X = TicketView}) (sym no_ticket);
+  tickets = ap (option_to_list {X = TicketView}) (sym no_ticket);
   used = λ it is. absurd (cc (no_job, is));
 }

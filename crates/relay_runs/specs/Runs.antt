@@ -1,6 +1,7 @@
 -- What commands of a printer were answered, by their contracts: the job of a print, the ticket of a give, and the ticket
 -- that a take took in.
 use Rattle.std.specs.Prelude.{ℕ, List, Option, None, Some, Result, Ok, Err, ◌≡◌, [], ◌∷◌, map, slice_get, IsTrue, IfSome}
+use Rattle.std.specs.{Result.result_ok, Option.option_to_list}
 use Rattle.dm_encodation.specs.declared.scheme.Scheme.{Scheme}
 use Rattle.dm_size.specs.declared.size.Size.{Size}
 use Rattle.dm_print_ledger.specs.declared.fault.TakeFault.{TakeFault, TheVariants.Save}
@@ -22,14 +23,10 @@ use Rattle.relay_shared.specs.Command.{ReadsDocument}
 
 -- ---- what commands were answered
 
-abbrev pub answered : {X F : Type 0} → Result X F → Option X
-answered (Ok x) = Some x
-answered (Err fault) = None
-
 -- the job of a print, if the printer answered one: from then on its ID is used, whatever goes out
 abbrev pub job_printed : {number : ℕ} {size : Size} {scheme : Scheme} {document : List ℕ} {old new : OnLedger} {status : ℕ} →
     PrintsDocument number size scheme document old status new → Option JobView
-job_printed (print_opened before after answer opens prints same told) = answered answer
+job_printed (print_opened before after answer opens prints same told) = result_ok answer
 job_printed (print_not_opened fault opens same told) = None
 
 abbrev pub job_ended : {number : ℕ} {labels : Labels} {scheme : Scheme} {old new : OnLedger} {status : ℕ} →
@@ -42,12 +39,12 @@ job_ended (too_long document rest side is_read long same told) = None
 -- the ticket of a give, if the printer answered one
 abbrev pub ticket_given : {number to : ℕ} {range : Range} {old new : OnLedger} {status : ℕ} →
     EndsGive number to range old status new → Option TicketView
-ticket_given (give_opened before after answer opens gives same told only) = answered answer
+ticket_given (give_opened before after answer opens gives same told only) = result_ok answer
 ticket_given (give_not_opened fault opens same told) = None
 
 abbrev pub ticket_given_last : {number to count : ℕ} {old new : OnLedger} {status : ℕ} →
     EndsGiveLast number to count old status new → Option TicketView
-ticket_given_last (gave range before after answer last opens gives same told only) = answered answer
+ticket_given_last (gave range before after answer last opens gives same told only) = result_ok answer
 ticket_given_last (too_few before most put opens longest less same told notes reads) = None
 ticket_given_last (unopened fault opens same told) = None
 
@@ -90,10 +87,6 @@ abbrev pub grids_in : Option JobView → List GridView
 grids_in None = []
 grids_in (Some job) = job.labels
 
-abbrev pub listed : {X : Type 0} → Option X → List X
-listed None = []
-listed (Some x) = x ∷ []
-
 -- the label is one of the job, cut from a document that was read
 pub record IsOfJob (input : InputView) (job : Option JobView) (label : Label) : Type 0 where
   pub it : JobView
@@ -112,7 +105,7 @@ pub record FollowsRun (A : Type 0) (relay : Relay) (place : ℕ) (input : InputV
   pub runs : RunLeadsTo relay place saved moments goods after
   pub labels : grids_of goods.labels ≡ grids_in job
   pub printed : (i : ℕ) (label : Label) → slice_get goods.labels i ≡ Some label → IsOfJob input job label
-  pub tickets : goods.tickets ≡ listed ticket
+  pub tickets : goods.tickets ≡ option_to_list ticket
   pub used : (it : JobView) → job ≡ Some it → goods.moves ≡ Used it.id ∷ []
 
 -- ---- laws: each command at the ledger of a printer, over an honest store that holds what this printer stores

@@ -54,8 +54,7 @@ IsIdOf word id = (id < 64516) × (decode_sized word 2 ≡ Ok (id_words id))
 
 -- bytes in hexadecimal, or `-` for none
 unfoldable pub AreBytesOf : List ℕ → List ℕ → Type 0
-AreBytesOf word bytes =
-    ((word ≡ codes "-") × (bytes ≡ [])) ⊎ ((0 < length word) × (decode_of word ≡ Ok bytes))
+AreBytesOf word bytes = ((word ≡ codes "-") × (bytes ≡ [])) ⊎ ((0 < length word) × (decode_of word ≡ Ok bytes))
 
 -- where a call is stopped
 unfoldable pub IsStopOf : List ℕ → Stop → Type 0

@@ -70,10 +70,6 @@ OnlyOutput old new = new ≡ record old { output = new.output }
 abbrev pub ReadsNothing : StreamsView → StreamsView → Type 0
 ReadsNothing old new = new.input ≡ old.input
 
--- nothing was written to the standard error
-abbrev pub LeavesErrors : StreamsView → StreamsView → Type 0
-LeavesErrors old new = new.errors ≡ old.errors
-
 -- The line was written on the output, and the exit status is 0; or the output has failed, with a part of the line, and
 -- the exit status is 1. Nothing happened to the other streams.
 abbrev pub TellsOnOutput : List ℕ → StreamsView → ℕ → StreamsView → Type 0
@@ -127,9 +123,6 @@ IsAnother taken rest = ((p : Picture) × Spells taken p) ⊎ ((fault : PbmFault)
 pub record Said : Type 0 where
   pub line : List ℕ
   pub refused : Bool
-
-abbrev pub nothing_said : Said
-nothing_said = record { line = []; refused = false }
 
 -- the line of a refusal of this name
 abbrev pub refusal_of : List ℕ → Said
@@ -195,7 +188,7 @@ pub record TakesImage (c : ImageCommand) (count : ℕ) (old : Progress c) (said 
 pub data EndsImages (c : ImageCommand) (count : ℕ) (old : Progress c) : Said → Progress c → Type 0 where
   no_image : {rest : InputView} {output : OutputView} → count ≤ MOST_IMAGES
       → Keeps old.input.remaining rest.remaining → IsAtEnd rest.remaining
-      → EndsImages c count old nothing_said (progress_at old.state rest output)
+      → EndsImages c count old (record { line = []; refused = false }) (progress_at old.state rest output)
   last_line : {said : Said} {new : Progress c} → TakesImage c count old said true new → EndsImages c count old said new
 
 -- ---- all of them

@@ -19,8 +19,7 @@ pub record OutputView : Type 0 where
 
 -- what a read of one byte found: the first byte of those that were left, which is taken, or their end
 abbrev pub GivesNext : Option (List ℕ) → Option (List ℕ) → Option ℕ → Type 0
-GivesNext old new found =
-    MatchOption found (Keeps old new × IsAtEnd new) (λ byte. Consumes old new (byte ∷ []))
+GivesNext old new found = MatchOption found (Keeps old new × IsAtEnd new) (λ byte. Consumes old new (byte ∷ []))
 
 -- the first `limit` of the bytes that were left, or all where they are fewer, and no other, are taken
 pub record TakesFirst (old new : Option (List ℕ)) (limit : ℕ) (bytes : List ℕ) : Type 0 where

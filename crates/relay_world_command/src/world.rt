@@ -6,7 +6,7 @@ ghost use Rattle.relay_streams.specs.Streams.{TakesPart};
 ghost use Rattle.relay_streams.specs.declared.fault.WriteFault.{WriteFault};
 ghost use Rattle.dm_event_world.specs.Shows.{IsWatched, HasWorldFault};
 ghost use Rattle.dm_event_world.specs.declared.answers.Answer.{Answer};
-ghost use Rattle.relay_shared.specs.Command.{LeavesErrors, PutsText};
+ghost use Rattle.relay_shared.specs.Command.{PutsText};
 ghost use Rattle.relay_world_command.specs.World.{answer_line, has_refusal, is_refused_answer, EndsWorld};
 
 use crate::reply_lines::{is_refused_answer, put_answer};
@@ -76,7 +76,7 @@ pub fn world_command<A: Allocator + Copy, R: Read, W: Write, E: Write>(
     streams: &mut Streams<R, W, E>,
 ) -> u8
     ensures part { TakesPart streams.old.input.remaining streams.new.input.remaining INPUT_BYTES }
-    ensures silent { LeavesErrors streams.old streams.new }
+    ensures silent { streams.new.errors ≡ streams.old.errors }
     ensures ends { EndsWorld A streams.old result streams.new }
 {
     let bytes = match streams.input.read_up_to(alloc, INPUT_BYTES) {

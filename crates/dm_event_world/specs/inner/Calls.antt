@@ -69,8 +69,7 @@ lacks_memory other = false
 
 -- of a call that was made and would be answered so: the reply, and what runs or is down then
 abbrev pub ended_reply : {A : Type 0} → Stop → Reply A → Reply A
-ended_reply stop reply =
-    if ends_early stop then (if lacks_memory reply then Memory else Stopped) else reply
+ended_reply stop reply = if ends_early stop then (if lacks_memory reply then Memory else Stopped) else reply
 
 abbrev pub state_after : {A S : Type 0} → (S → S) → Stop → Reply A → S → S
 state_after down stop reply state =
