@@ -141,28 +141,26 @@ abbrev pub ShowsNote : Option (List ℕ) → Option (List ℕ) → Type 0
 ShowsNote old new = (new ≡ old) ⊎ ((note : List ℕ) × ShowsPart old new note)
 
 -- What a command has written is out, and its status is the program's. Or the output has refused a write, and the first
--- bytes of what the command has written are out: either the status is the command's own, where the program need not say
--- so; or it says so on the standard error, with the status 1. Of what is written there the first bytes are out.
-pub data PutsOut (says : Bool) (wrote : Option (List ℕ)) (told : OutputView) (ended status : ℕ)
-    (out errors : Option (List ℕ)) : Type 0 where
+-- bytes of what the command has written are out: then the standard error is told, with the status 1; or it need not be,
+-- and the status is the command's own, which is not 0. Of what is written there the first bytes are out.
+pub data PutsOut (wrote : Option (List ℕ)) (told : OutputView) (ended status : ℕ) (out errors : Option (List ℕ))
+    : Type 0 where
   lets_all_out : Keeps wrote out → status ≡ ended → IsPartOut told.contents errors →
-      PutsOut says wrote told ended status out errors
-  says_nothing : says ≡ false → IsPartOut wrote out → status ≡ ended → IsPartOut told.contents errors →
-      PutsOut says wrote told ended status out errors
+      PutsOut wrote told ended status out errors
+  says_nothing : ended ≢ 0 → IsPartOut wrote out → status ≡ ended → IsPartOut told.contents errors →
+      PutsOut wrote told ended status out errors
   says_so : (after : OutputView) → IsPartOut wrote out → TellsRefusal (write_fault_name Write) told status after →
-      IsPartOut after.contents errors → PutsOut says wrote told ended status out errors
+      IsPartOut after.contents errors → PutsOut wrote told ended status out errors
 
--- What a command does between the standard streams, with these files before and after. The program says that the output
--- has failed if the command has ended with 0 and has seen no write fail: so it ends with 0 only if all is out.
+-- What a command does between the standard streams, with these files before and after. The status is 0 only if that of
+-- the command is, and all that it has written is out.
 pub record DoesBetween (A : Type 0) (command : Command) (images : List (Option (List ℕ))) (before : DeskFiles)
     (old : StandardView) (status : ℕ) (after : DeskFiles) (new : StandardView) : Type 0 where
   pub ended : ℕ
   pub wrote : StreamsView
   pub does : Does A command images (record { files = before; streams = streams_over old }) ended
       (record { files = after; streams = wrote })
-  pub says : Bool
-  pub if_whole : wrote.output.has_failed ≡ false → ended ≡ 0 → says ≡ true
-  pub out : PutsOut says wrote.output.contents wrote.errors ended status new.output new.errors
+  pub out : PutsOut wrote.output.contents wrote.errors ended status new.output new.errors
 
 -- ---- the paths
 

@@ -50,16 +50,12 @@ fn least_of(command: Command) -> usize {
     }
 }
 
-// Whether it is said that the output has failed: but for a command that has said so itself, for one that was refused
-// and can't say it, and for one that answers to each image.
+// Whether it is said that the output has failed: always of a command that has ended with 0; else where the output has
+// failed before, but for a command that has said so itself, and for one that answers to each image.
 fn says_failure(command: Command, has_failed: bool, status: u8) -> bool
-    ensures { has_failed ≡ false → status ≡ 0 → result ≡ true }
+    ensures { status ≡ 0 → result ≡ true }
 {
-    if has_failed {
-        !refuses_on_errors(command) && !answers_each_image(command)
-    } else {
-        status == 0
-    }
+    status == 0 || has_failed && !refuses_on_errors(command) && !answers_each_image(command)
 }
 
 /// Tells a stream the line of a refusal, and gives the exit status.
@@ -83,14 +79,15 @@ pub(crate) fn show<A: Allocator, W: Write + Drop>(alloc: A, writer: W, text: &st
     (writer, is_all && put.is_ok())
 }
 
-// Lets out what a command has written, and says where it could not. The exit status, and the writers.
+// Lets out what a command has written; where it can't, that is said if it is to be. The exit status, and the writers.
 fn let_out<A: Allocator, O: Write + Drop, E: Write + Drop>(
     output: LineBuffer<O, A>,
     errors: Output<LineBuffer<E, A>>,
     ended: u8,
     says: bool,
 ) -> (u8, O, E)
-    ensures { PutsOut says (promised output) errors ended result.0 (O.contents result.1) (E.contents result.2) }
+    requires { ended ≡ 0 → says ≡ true }
+    ensures { PutsOut (promised output) errors ended result.0 (O.contents result.1) (E.contents result.2) }
 {
     let (output, is_all) = output.end();
     let mut told = errors;

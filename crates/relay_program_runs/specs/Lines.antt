@@ -1,6 +1,6 @@
 -- The laws of commands, said of the program: of lines that ran one after another over the places of one system.
 use Rattle.std.specs.Prelude.{◌≡◌, ◌≢◌, ◌++◌, ◌∷◌, ℕ, AllPairs, Bool, List, [], None, Option, Some, IfSome, IsTrue}
-use Rattle.std.specs.List.{AllByRecursion}
+use Rattle.std.specs.{List.AllByRecursion, Io.KnownBytes.Keeps}
 use Rattle.relay_command.specs.declared.command.Command.{Command}
 use Rattle.relay_desk_commands.specs.Desks.{DeskFiles}
 use Rattle.relay.specs.Program.{path_of, DoesAt, IsAt, PlacesView, SystemView, at_none, at_path, does, does_and_saves, does_here, streams_over}
@@ -83,3 +83,9 @@ abbrev pub WhatLinesDeliverWasPrinted : Type 0 → Type 0
 WhatLinesDeliverWasPrinted A = (among : List ℕ → Bool) (lines : List (LineRan A)) → LinesAsk lines →
     Each (TakesPrinted (λ path. IsTrue (among path))) [] (all_commands lines) →
     Each (DeliversPrinted (λ path. IsTrue (among path))) [] (all_commands lines)
+
+-- Where a line exits with 0 its command has ended so, and all that this has written is out.
+abbrev pub AllIsOut : Type 0 → Type 0
+AllIsOut A = (command : Command) (images : List (Option (List ℕ))) (old new : SystemView) →
+    (at : DoesAt A command images old 0 new) →
+    (at.between.ended ≡ 0) × Keeps at.between.wrote.output.contents new.standard.output

@@ -1,7 +1,7 @@
 //! The laws: each function's contract is the law.
 
 ghost use Rattle.relay_program_runs.specs.Law.{NoIdIsPrintedTwice, WhatIsDeliveredWasPrinted, WhatIsWrittenWasPrinted};
-ghost use Rattle.relay_program_runs.specs.Lines.{NoLinePrintsAnIdAgain, WhatLinesDeliverWasPrinted};
+ghost use Rattle.relay_program_runs.specs.Lines.{AllIsOut, NoLinePrintsAnIdAgain, WhatLinesDeliverWasPrinted};
 ghost use Rattle.relay_program_runs.specs.Worked.{RefusalsCountNot, SayAtLeast};
 
 use std::alloc::Allocator;
@@ -24,6 +24,11 @@ pub fn no_line_prints_an_id_again<A: Allocator>()
 /// What lines of the program deliver was printed.
 pub fn what_lines_deliver_was_printed<A: Allocator>()
     ensures { WhatLinesDeliverWasPrinted A }
+{}
+
+/// What the command of a line wrote is out where the line exits with 0.
+pub fn all_is_out<A: Allocator>()
+    ensures { AllIsOut A }
 {}
 
 /// What `deliver` wrote is nothing, or a first part of a document that was printed.

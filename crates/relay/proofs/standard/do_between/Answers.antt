@@ -9,7 +9,5 @@ returns g c =
       ended = c.do_command-ended.result.status;
       wrote = c.do_command-ended.new.streams;
       does = rw (sym b) c.do_command-ended.ensures;
-      says = c.says_failure-says.result;
-      if_whole = λ whole zero. c.says_failure-says.ensures (search rules) zero;
       out = rw (sym c.streams.view_is) (rw (sym c.into_writer.ensures) c.let_out-status.ensures);
     }

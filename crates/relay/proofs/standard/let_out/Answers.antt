@@ -1,7 +1,10 @@
-use Rattle.std.proofs.Common.{rules, subst, sym}
+use Rattle.std.proofs.Common.{◌≡◌, Bool, true, false, rules, subst, sym}
 use Rattle.relay.specs.{Buffers.IsPartOut, Program.lets_all_out, Program.says_nothing, Program.says_so}
 use Rattle.relay.proofs.standard.let_out.Goals as goal
 use Rattle.relay.proofs.standard.let_out.Goals.{then-not-is_all+then-says, else-not-is_all, else-not-is_all-via-then-not-is_all+else-says, else-not-is_all-via-else-not-is_all}
+
+not_both : {b : Bool} → b ≡ true → b ≡ false → ⊥
+not_both is isnt = cc (is, isnt)
 
 pub returns : goal.returns
 returns g c =
@@ -13,7 +16,7 @@ returns g c =
       | else-not-is_all w ↦
           elim w.else-not-is_all.branch [
             | else-not-is_all-via-then-not-is_all+else-says w' ↦
-                says_nothing (search rules) c.end-output.ensures.part (search rules) (rw (sym w.told-is) part)
+                says_nothing (λ zero. not_both (c.requires zero) (search rules)) c.end-output.ensures.part (search rules) (rw (sym w.told-is) part)
             | else-not-is_all-via-else-not-is_all w' ↦
                 lets_all_out (c.end-output.ensures.all (search rules)) (search rules) (rw (sym w.told-is) part)
           ]
