@@ -17,12 +17,17 @@ impl From<io::Error> for StoreFault {
     }
 }
 
+// Why what is there is not read.
+fn not_plain() -> io::Error {
+    io::Error::other("not a plain file")
+}
+
 // Whether a plain file is at `path`, links followed. What else is there, as a folder or a pipe, is an error: opening it
 // might wait without end.
 fn is_plain_file<R: Files>(runtime: &R, path: &str) -> io::Result<bool> {
     match fs::metadata(runtime, path) {
         Ok(metadata) if metadata.is_file() => Ok(true),
-        Ok(_) => Err(io::Error::from(ErrorKind::InvalidInput)),
+        Ok(_) => Err(not_plain()),
         Err(error) if error.kind() == ErrorKind::NotFound => Ok(false),
         Err(error) => Err(error),
     }
@@ -48,7 +53,7 @@ pub(crate) fn load_file<R: Files, A: Allocator>(
     runtime: &R,
     path: &str,
     limit: usize,
-) -> Result<Option<Vec<u8, A>>, StoreFault> {
+) -> io::Result<Option<Vec<u8, A>>> {
     if !is_plain_file(runtime, path)? {
         return Ok(None);
     }
@@ -57,7 +62,7 @@ pub(crate) fn load_file<R: Files, A: Allocator>(
         opened => opened?,
     };
     if !matches!(file.metadata(), Ok(metadata) if metadata.is_file()) {
-        return Err(StoreFault::Device);
+        return Err(not_plain());
     }
     let mut bytes = Vec::new(alloc);
     let most = (limit as u64).saturating_add(1);

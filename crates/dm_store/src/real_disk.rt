@@ -22,6 +22,8 @@ pub struct RealDisk<'a, R: Files, A: Allocator + Copy = Global> {
     // The file that was written last, open until its sync, which so sees each fault of its writes.
     written: Option<R::File>,
     replaces: bool,
+    // Why the system refused a call last.
+    last_error: Option<io::Error>,
 }
 
 impl<'a, R: Files, A: Allocator + Copy> RealDisk<'a, R, A> {
@@ -32,6 +34,7 @@ impl<'a, R: Files, A: Allocator + Copy> RealDisk<'a, R, A> {
             runtime,
             written: None,
             replaces: true,
+            last_error: None,
         }
     }
 
@@ -40,6 +43,24 @@ impl<'a, R: Files, A: Allocator + Copy> RealDisk<'a, R, A> {
         let mut disk = RealDisk::new(alloc, runtime);
         disk.replaces = false;
         disk
+    }
+
+    /// Why the system refused a call last, if it has refused one.
+    pub fn last_error(&self) -> Option<io::Error> {
+        self.last_error
+    }
+
+    // Keeps why a call was refused.
+    fn kept<T>(&mut self, ended: io::Result<T>) -> io::Result<T> {
+        if let Err(error) = &ended {
+            self.last_error = Some(*error);
+        }
+        ended
+    }
+
+    // What is answered to a call that changes something, or settles it.
+    fn done(&mut self, ended: io::Result<()>) -> Result<(), StoreFault> {
+        self.kept(ended).map_err(|_| StoreFault::Device)
     }
 }
 
@@ -56,7 +77,7 @@ fn keys_of<R: Files + Alloc + Clone + Drop, A: Allocator>(
     alloc: A,
     runtime: &R,
     folder: &str,
-) -> Result<Vec<u16, A>, StoreFault> {
+) -> io::Result<Vec<u16, A>> {
     let mut keys = Vec::new(alloc);
     let entries = match read_dir(runtime, folder) {
         Err(error) if error.kind() == ErrorKind::NotFound => return Ok(keys),
@@ -66,11 +87,11 @@ fn keys_of<R: Files + Alloc + Clone + Drop, A: Allocator>(
     for entry in entries {
         let entry = entry?;
         if names >= MOST_NAMES {
-            return Err(StoreFault::Device);
+            return Err(io::Error::other("has too many names"));
         }
         names += 1;
         if let Some(key) = key_of(entry.file_name().as_bytes()) {
-            keys.push(key).map_err(|_| StoreFault::Memory)?;
+            keys.push(key)?;
         }
     }
     Ok(keys)
@@ -87,11 +108,6 @@ fn settled(ended: io::Result<()>) -> io::Result<()> {
     }
 }
 
-// What is answered to an error of the system.
-fn done(ended: io::Result<()>) -> Result<(), StoreFault> {
-    ended.map_err(|_| StoreFault::Device)
-}
-
 impl<R: Files, A: Allocator + Copy> Disk for RealDisk<'_, R, A> {
     ghost use Rattle.dm_store.specs.Disk.{unclaimed};
 
@@ -100,11 +116,13 @@ impl<R: Files, A: Allocator + Copy> Disk for RealDisk<'_, R, A> {
     ghost state = { λ _. unclaimed };
 
     fn read(&mut self, name: &str, limit: usize) -> Result<Option<Vec<u8, A>>, StoreFault> {
-        load_file(self.alloc, self.runtime, name, limit)
+        let read = load_file(self.alloc, self.runtime, name, limit);
+        Ok(self.kept(read)?)
     }
 
     fn write(&mut self, name: &str, bytes: &[u8]) -> Result<(), StoreFault> {
-        self.written = write_draft(self.runtime, name, bytes).ok();
+        let written = write_draft(self.runtime, name, bytes);
+        self.written = self.kept(written).ok();
         match &self.written {
             Some(_) => Ok(()),
             None => Err(StoreFault::Device),
@@ -112,41 +130,43 @@ impl<R: Files, A: Allocator + Copy> Disk for RealDisk<'_, R, A> {
     }
 
     fn sync(&mut self, _name: &str) -> Result<(), StoreFault> {
-        done(self.written.take().ok_or(StoreFault::Device)?.sync_all())
+        let written = self.written.take().ok_or(StoreFault::Device)?;
+        self.done(written.sync_all())
     }
 
     fn rename(&mut self, from: &str, to: &str) -> Result<(), StoreFault> {
         if self.replaces {
-            done(fs::rename(self.runtime, from, to))
+            self.done(fs::rename(self.runtime, from, to))
         } else {
-            done(name_new(self.runtime, from, to))
+            self.done(name_new(self.runtime, from, to))
         }
     }
 
     fn remove(&mut self, name: &str) -> Result<(), StoreFault> {
         match fs::remove_file(self.runtime, name) {
             Err(error) if error.kind() == ErrorKind::NotFound => Ok(()),
-            ended => done(ended),
+            ended => self.done(ended),
         }
     }
 
     fn sync_entry(&mut self, name: &str) -> Result<(), StoreFault> {
-        done(sync_folder_of(self.runtime, name))
+        self.done(sync_folder_of(self.runtime, name))
     }
 
     fn settle_entry(&mut self, name: &str) -> Result<(), StoreFault> {
-        done(settled(sync_folder_of(self.runtime, name)))
+        self.done(settled(sync_folder_of(self.runtime, name)))
     }
 }
 
 impl<R: Files + Alloc + Clone + Drop, A: Allocator + Copy> Folders for RealDisk<'_, R, A> {
     fn make_folder(&mut self, folder: &str) -> Result<(), StoreFault> {
-        done(make_folder(self.runtime, folder))?;
-        done(sync_folder_of(self.runtime, folder))
+        self.done(make_folder(self.runtime, folder))?;
+        self.done(sync_folder_of(self.runtime, folder))
     }
 
     fn keys(&mut self, folder: &str, limit: usize) -> Result<Vec<u16, A>, StoreFault> {
-        let mut keys = keys_of(self.alloc, self.runtime, folder)?;
+        let listed = keys_of(self.alloc, self.runtime, folder);
+        let mut keys = self.kept(listed)?;
         keys.sort_unstable();
         keys.truncate(limit.saturating_add(1));
         Ok(keys)
@@ -154,6 +174,6 @@ impl<R: Files + Alloc + Clone + Drop, A: Allocator + Copy> Folders for RealDisk<
 
     fn settle_folder(&mut self, folder: &str) -> Result<(), StoreFault> {
         let path = with_end(folder, "/")?;
-        done(settled(sync_folder(self.runtime, path.as_str())))
+        self.done(settled(sync_folder(self.runtime, path.as_str())))
     }
 }

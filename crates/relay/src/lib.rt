@@ -39,6 +39,7 @@ mod real_places;
 mod saved_output;
 mod standard;
 mod system;
+mod watched;
 
 pub use commands::do_command;
 pub use place::{Access, Named};

@@ -4,6 +4,7 @@ ghost use Rattle.std.specs.Prelude.{◌≡◌, ◌⊎◌, IfOk, map, option_map,
 ghost use Rattle.relay.specs.Program.{DoesAndSaves, DoesAt, DoesFor, Helps, LacksMemory, ShowsNote, OrNothing, Runs};
 ghost use Rattle.relay.specs.Program.{SavesOutput, Informs, TellsOut, save_fault_name, system_at};
 
+use crate::notes::note_of_input;
 use crate::place::{named_by, refuses_on_errors};
 use crate::places::Places;
 use crate::standard::{Done, StandardStreams, do_between, show, tell};
@@ -129,8 +130,10 @@ impl<I: Read + Drop, O: Write + Drop, E: Write + Drop, P: Places> System<I, O, E
             let Done {
                 status,
                 standard,
+                has_no_image,
                 ..
             } = done;
+            let standard = standard.noted(alloc, note_of_input(alloc, has_no_image));
             return (Ok(status), System { standard, places });
         };
         let Ok((file, folder)) = places.open(named) else {
@@ -142,8 +145,10 @@ impl<I: Read + Drop, O: Write + Drop, E: Write + Drop, P: Places> System<I, O, E
             store,
             set,
             standard,
+            has_no_image,
         } = done;
         let note = places.close(named, store, set, status);
+        let note = note.or(note_of_input(alloc, has_no_image));
         let standard = standard.noted(alloc, note);
         (Ok(status), System { standard, places })
     }

@@ -4,10 +4,12 @@ ghost use Rattle.std.specs.Prelude.{◌≡◌};
 ghost use Rattle.relay.specs.Program.{locks};
 
 use crate::lock::{Lock, LockFault};
+use crate::notes::note_of_error;
 use crate::place::{Access, Place};
-use dm_store::{Disk, Folders, StoreFault};
+use dm_store::{Disk, Folders, KeepsError, StoreFault};
 use std::cell::{Cell, OnceCell};
 use std::fs::{File, Metadata};
+use std::io;
 use std::io::ErrorKind;
 use std::os::unix::fs::MetadataExt;
 use std::rc::Rc;
@@ -26,7 +28,8 @@ pub(crate) enum Reason {
     LostLink,
     LostFolder,
     NoPlainFile,
-    Unknown,
+    /// The system has refused to say.
+    Refused,
     OwnEnding,
     SecondName,
     Busy,
@@ -65,24 +68,6 @@ pub(crate) fn has_own_ending(place: &Place) -> bool {
     OWN_ENDINGS.iter().any(|ending| path.ends_with(*ending))
 }
 
-// The plain file of a command, if surely something is there.
-fn file_at(rt: &HostRuntime, place: &Place) -> Result<Option<Metadata>, Reason> {
-    if place.is_file_lost {
-        return Err(Reason::LostLink);
-    }
-    match rt.metadata(place.file.as_str()) {
-        Ok(metadata) => {
-            if metadata.is_file() {
-                Ok(Some(metadata))
-            } else {
-                Err(Reason::NoPlainFile)
-            }
-        }
-        Err(error) if error.kind() == ErrorKind::NotFound => Ok(None),
-        Err(_) => Err(Reason::Unknown),
-    }
-}
-
 // Whether a file has a name beside its own, and beside that of its draft, which a stop may have left it.
 fn has_second_name(rt: &HostRuntime, place: &Place, file: &Metadata) -> bool {
     let is_draft = matches!(rt.symlink_metadata(place.draft.as_str()), Ok(draft)
@@ -103,6 +88,8 @@ pub(crate) struct CommandFiles<'a> {
     pub(crate) reason: Cell<Option<Reason>>,
     /// Whether the folder could not be listed.
     pub(crate) has_no_list: Cell<bool>,
+    /// What is to be said of the last call that the system refused.
+    pub(crate) refused: Cell<Option<String>>,
     /// The path of the file that the command has loaded last, if it has loaded one.
     pub(crate) loaded: Cell<Option<String>>,
 }
@@ -117,6 +104,7 @@ impl<'a> CommandFiles<'a> {
             has_saved: Cell::new(false),
             reason: Cell::new(None),
             has_no_list: Cell::new(false),
+            refused: Cell::new(None),
             loaded: Cell::new(None),
         }
     }
@@ -131,11 +119,34 @@ impl<'a> CommandFiles<'a> {
         }
     }
 
+    // Keeps why the system has refused a call on the file at a path.
+    fn keep(&self, path: &str, error: &io::Error) {
+        self.refused
+            .set(note_of_error(self.rt.alloc(), path, error));
+    }
+
+    // The plain file of the command, if surely something is there.
+    fn file(&self) -> Result<Option<Metadata>, Reason> {
+        if self.place.is_file_lost {
+            return Err(Reason::LostLink);
+        }
+        let path = self.place.file.as_str();
+        match self.rt.metadata(path) {
+            Ok(metadata) if metadata.is_file() => Ok(Some(metadata)),
+            Ok(_) => Err(Reason::NoPlainFile),
+            Err(error) if error.kind() == ErrorKind::NotFound => Ok(None),
+            Err(error) => {
+                self.keep(path, &error);
+                Err(Reason::Refused)
+            }
+        }
+    }
+
     // Looks at what is there, and locks it if the command may save.
     fn enter(&self) -> Result<Option<Lock>, Reason> {
         let (rt, place) = (self.rt, &self.place);
         let (access, is_desk) = (place.access, place.is_desk);
-        let file = file_at(rt, place)?;
+        let file = self.file()?;
         let has_folder = is_desk && rt.symlink_metadata(place.folder.as_str()).is_ok();
         let found = Found {
             is_any: file.is_some() || has_folder,
@@ -229,7 +240,16 @@ impl<'a, D> Locked<'a, D> {
     }
 }
 
-impl<D: Disk> Disk for Locked<'_, D> {
+impl<D: KeepsError> Locked<'_, D> {
+    // Keeps why the system has refused a call on the file at a path, if it has.
+    fn tell<T>(&self, path: &str, ended: &Result<T, StoreFault>) {
+        if let (Err(StoreFault::Device), Some(error)) = (ended, self.within.last_error()) {
+            self.command_files.keep(path, &error);
+        }
+    }
+}
+
+impl<D: Disk + KeepsError> Disk for Locked<'_, D> {
     type Memory = D::Memory;
 
     ghost state = { λ locked. D.state locked.within };
@@ -240,18 +260,24 @@ impl<D: Disk> Disk for Locked<'_, D> {
         }
         let kept = String::from_str(self.rt.alloc(), name);
         self.command_files.loaded.set(kept.ok());
-        self.within.read(name, limit)
+        let read = self.within.read(name, limit);
+        self.tell(name, &read);
+        read
     }
 
     fn write(&mut self, name: &str, bytes: &[u8]) -> Result<(), StoreFault> {
         if !self.command_files.may_save() {
             return Err(StoreFault::Device);
         }
-        self.within.write(name, bytes)
+        let written = self.within.write(name, bytes);
+        self.tell(name, &written);
+        written
     }
 
     fn sync(&mut self, name: &str) -> Result<(), StoreFault> {
-        self.within.sync(name)
+        let synced = self.within.sync(name);
+        self.tell(name, &synced);
+        synced
     }
 
     fn rename(&mut self, from: &str, to: &str) -> Result<(), StoreFault> {
@@ -262,6 +288,7 @@ impl<D: Disk> Disk for Locked<'_, D> {
         if renamed.is_err() {
             self.command_files.look_at_place();
         }
+        self.tell(to, &renamed);
         renamed
     }
 
@@ -269,24 +296,32 @@ impl<D: Disk> Disk for Locked<'_, D> {
         if !self.command_files.may_save() {
             return Err(StoreFault::Device);
         }
-        self.within.remove(name)
+        let removed = self.within.remove(name);
+        self.tell(name, &removed);
+        removed
     }
 
     fn sync_entry(&mut self, name: &str) -> Result<(), StoreFault> {
-        self.within.sync_entry(name)
+        let synced = self.within.sync_entry(name);
+        self.tell(name, &synced);
+        synced
     }
 
     fn settle_entry(&mut self, name: &str) -> Result<(), StoreFault> {
-        self.within.settle_entry(name)
+        let settled = self.within.settle_entry(name);
+        self.tell(name, &settled);
+        settled
     }
 }
 
-impl<D: Folders> Folders for Locked<'_, D> {
+impl<D: Folders + KeepsError> Folders for Locked<'_, D> {
     fn make_folder(&mut self, folder: &str) -> Result<(), StoreFault> {
         if !self.command_files.may_save() {
             return Err(StoreFault::Device);
         }
-        self.within.make_folder(folder)
+        let made = self.within.make_folder(folder);
+        self.tell(folder, &made);
+        made
     }
 
     fn keys(&mut self, folder: &str, limit: usize) -> Result<Vec<u16, D::Memory>, StoreFault> {
@@ -297,10 +332,13 @@ impl<D: Folders> Folders for Locked<'_, D> {
         self.command_files
             .has_no_list
             .set(matches!(&keys, Err(StoreFault::Device)));
+        self.tell(folder, &keys);
         keys
     }
 
     fn settle_folder(&mut self, folder: &str) -> Result<(), StoreFault> {
-        self.within.settle_folder(folder)
+        let settled = self.within.settle_folder(folder);
+        self.tell(folder, &settled);
+        settled
     }
 }

@@ -1,6 +1,7 @@
 //! Files of images that were named on the line.
 
 use crate::notes::note;
+use crate::watched::{NO_IMAGE, Watched};
 use relay_shared::ImageFile;
 use relay_streams::InputFault;
 use std::fs::File;
@@ -33,11 +34,11 @@ impl<I: Read + Drop> Read for Source<I> {
 impl ImageFile for NamedImages<'_> {
     ghost use Rattle.std.specs.Prelude.{None};
 
-    type Reader = BufReader<Source<<HostRuntime as Input>::Reader>>;
+    type Reader = Watched<BufReader<Source<<HostRuntime as Input>::Reader>>>;
 
     ghost remaining = { λ _. None };
 
-    fn open(&self) -> Result<BufReader<Source<<HostRuntime as Input>::Reader>>, InputFault> {
+    fn open(&self) -> Result<Self::Reader, InputFault> {
         let source = if self.name.as_str() == "-" {
             Source::Input(self.rt.reader())
         } else {
@@ -48,14 +49,16 @@ impl ImageFile for NamedImages<'_> {
             Source::File(file)
         };
         match BufReader::new(self.rt.alloc(), source) {
-            Ok(reader) => Ok(reader),
+            Ok(reader) => Ok(Watched::new(reader)),
             Err(_) => Err(InputFault::Memory),
         }
     }
 
-    fn end(&self, refused: bool) {
+    fn end(&self, reader: Self::Reader, refused: bool) {
         if refused {
             note(self.rt, self.name.as_str(), "has images that are refused");
+        } else if reader.is_empty() {
+            note(self.rt, self.name.as_str(), NO_IMAGE);
         }
     }
 }

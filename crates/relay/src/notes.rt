@@ -3,9 +3,11 @@
 
 use crate::locked::Reason;
 use crate::place::Place;
+use crate::watched::NO_IMAGE;
 use dm_assembly_desk::{JointFile, MOST_JOINT_FILE_BYTES, MoveFault, held_at};
 use dm_store::{FileSet, FileStore, Folders, Store, StoreFault};
 use std::alloc::{AllocError, Global};
+use std::io;
 use std::io::Read;
 use std::rt::Files;
 
@@ -26,6 +28,21 @@ pub(crate) fn note(rt: &HostRuntime, name: &str, why: &str) {
     }
 }
 
+/// That an input had no image, if it was to have some and had none.
+pub(crate) fn note_of_input(alloc: Global, has_no_image: bool) -> Option<String> {
+    if !has_no_image {
+        return None;
+    }
+    format!(in alloc; "relay: {NO_IMAGE}\n").ok()
+}
+
+/// Why the system refused a call on the file at a path, in its own words.
+pub(crate) fn note_of_error(alloc: Global, path: &str, error: &io::Error) -> Option<String> {
+    let words = format!(in alloc; "{error}").ok()?;
+    let why = words.as_str().split(" (os error").next()?;
+    line_of(alloc, path, why).ok()
+}
+
 /// Why a command did not find or did not get its files.
 pub(crate) fn note_of_reason(alloc: Global, place: &Place, reason: Reason) -> Option<String> {
     let (file, folder) = (place.named.as_str(), place.folder.as_str());
@@ -35,7 +52,7 @@ pub(crate) fn note_of_reason(alloc: Global, place: &Place, reason: Reason) -> Op
         Reason::LostLink => (file, "a link that leads nowhere"),
         Reason::LostFolder => (folder, "a link that leads nowhere"),
         Reason::NoPlainFile => (file, "not a plain file"),
-        Reason::Unknown => (file, "can't be looked at"),
+        Reason::Refused => (file, "can't be looked at"),
         Reason::OwnEnding => (
             file,
             "paths that end in .new, .lock or .pages are for other files",
@@ -103,13 +120,9 @@ fn odd_name(rt: &HostRuntime, folder: &str) -> Option<String> {
     None
 }
 
-/// Why the files in a desk's folder can't be listed.
+/// Which name in a desk's folder can't be read, if that is why the folder can't be listed.
 pub(crate) fn note_of_folder(rt: &HostRuntime, place: &Place) -> Option<String> {
     let folder = place.folder.as_str();
-    let odd = odd_name(rt, folder);
-    let why = match &odd {
-        Some(why) => why.as_str(),
-        None => "can't be listed",
-    };
-    line_of(rt.alloc(), folder, why).ok()
+    let why = odd_name(rt, folder)?;
+    line_of(rt.alloc(), folder, why.as_str()).ok()
 }

@@ -1,6 +1,6 @@
 //! The system's own files.
 
-use crate::locked::{CommandFiles, Locked};
+use crate::locked::{CommandFiles, Locked, Reason};
 use crate::named_images::NamedImages;
 use crate::notes::{note_of_file, note_of_folder, note_of_reason};
 use crate::place::{Access, Named, Place};
@@ -34,11 +34,16 @@ type Gated<'a> = Locked<'a, RealDisk<'a, HostRuntime>>;
 // What the line of a refusal can't say of a command's files.
 fn note_of(rt: &HostRuntime, command_files: &CommandFiles<'_>) -> Option<String> {
     let (alloc, place) = (rt.alloc(), &command_files.place);
-    if let Some(reason) = command_files.reason.get() {
-        return note_of_reason(alloc, place, reason);
+    match command_files.reason.get() {
+        None | Some(Reason::Refused) => {}
+        Some(reason) => return note_of_reason(alloc, place, reason),
     }
     if command_files.has_no_list.get() {
-        return note_of_folder(rt, place);
+        let odd = note_of_folder(rt, place);
+        return odd.or_else(|| command_files.refused.take());
+    }
+    if let Some(refused) = command_files.refused.take() {
+        return Some(refused);
     }
     if !place.is_desk || place.access == Access::Looks {
         return None;

@@ -1,9 +1,9 @@
 //! A new file that the output of a command is saved as.
 
 use crate::locked::{Reason, has_own_ending};
-use crate::notes::note_of_reason;
+use crate::notes::{note_of_error, note_of_reason};
 use crate::place::{Access, Named, Place};
-use dm_store::{FileStore, RealDisk, Store, StoreFault};
+use dm_store::{FileStore, KeepsError, RealDisk, Store, StoreFault};
 use std::alloc::AllocError;
 use std::rt::Files;
 
@@ -20,10 +20,21 @@ fn why_not_new(rt: &HostRuntime, place: &Place) -> Option<Reason> {
     }
 }
 
-// Saves the bytes as the file of a place, where none was.
-fn save_at(rt: &HostRuntime, place: &Place, bytes: &[u8]) -> Result<(), StoreFault> {
-    let disk = RealDisk::of_new_files(rt.alloc(), rt);
-    FileStore::new(disk, place.file.clone()?).replace(bytes)
+// Saves the bytes as the file of a place, where none was, and gives what is to be said where it is not saved.
+fn save_at(
+    rt: &HostRuntime,
+    place: &Place,
+    bytes: &[u8],
+) -> (Result<(), StoreFault>, Option<String>) {
+    let alloc = rt.alloc();
+    let Ok(path) = place.file.clone() else {
+        return (Err(StoreFault::Memory), None);
+    };
+    let mut store = FileStore::new(RealDisk::of_new_files(alloc, rt), path);
+    let saved = store.replace(bytes);
+    let error = store.into_disk().last_error();
+    let note = error.and_then(|error| note_of_error(alloc, place.file.as_str(), &error));
+    (saved, note)
 }
 
 /// Saves the bytes as a new file, as stores are saved, and gives what is to be said where it is not saved.
@@ -44,5 +55,5 @@ pub(crate) fn save_new(
         let note = note_of_reason(rt.alloc(), &place, reason);
         return (Err(StoreFault::Device), note);
     }
-    (save_at(rt, &place, bytes), None)
+    save_at(rt, &place, bytes)
 }

@@ -8,6 +8,7 @@ ghost use Rattle.std.specs.Io.KnownBytes.{Appends};
 use crate::commands::do_command;
 use crate::line_buffer::LineBuffer;
 use crate::place::refuses_on_errors;
+use crate::watched::Watched;
 use dm_store::{Store, StoreSet};
 use relay_command::Command;
 use relay_shared::{EndedDesk, ImageFile, Streams, refuse};
@@ -107,6 +108,8 @@ pub(crate) struct Done<S: Store, T: StoreSet, I: Read, O: Write, E: Write> {
     pub(crate) store: S,
     pub(crate) set: T,
     pub(crate) standard: StandardStreams<I, O, E>,
+    /// Whether the input was to have images, and had none.
+    pub(crate) has_no_image: bool,
 }
 
 /// Does a command over a store, a set and files of images, and lets out what it has written. It stays a function of its
@@ -134,7 +137,7 @@ pub(crate) fn do_between<
     let StandardStreams(input, output, errors) = standard;
     let output = LineBuffer::new(alloc, output, least_of(command));
     let errors = LineBuffer::new(alloc, errors, 0);
-    let mut streams = Streams::new(input, output, errors);
+    let mut streams = Streams::new(Watched::new(input), output, errors);
     let ended = do_command(alloc, store, set, images, &mut streams, command);
     let EndedDesk { status, store, set } = ended;
     let Streams {
@@ -145,11 +148,14 @@ pub(crate) fn do_between<
     let says = says_failure(command, output.has_failed(), status);
     let (status, output, errors) = let_out(output.into_writer(), errors, status, says);
     let input = input.into_reader();
+    let has_no_image = status == 0 && answers_each_image(command) && input.is_empty();
+    let input = input.into_reader();
     let standard = StandardStreams(input, output, errors);
     Done {
         status,
         store,
         set,
         standard,
+        has_no_image,
     }
 }

@@ -174,9 +174,9 @@ pub trait ImageFile {
     fn open(&self) -> Result<Self::Reader, InputFault>
         ensures { IfOk result (λ reader. Self.Reader.remaining reader ≡ remaining self.now) };
 
-    /// Called after the last line of a file that was opened, with whether any of its lines names a refusal and the
-    /// output took them all.
-    fn end(&self, refused: bool);
+    /// Called after the last line of a file that was opened, with its reader, and whether any of its lines names a
+    /// refusal and the output took them all.
+    fn end(&self, reader: Self::Reader, refused: bool);
 }
 
 impl<'a> ImageFile for &'a [u8] {
@@ -190,7 +190,7 @@ impl<'a> ImageFile for &'a [u8] {
         Ok(*self)
     }
 
-    fn end(&self, _refused: bool) {}
+    fn end(&self, _reader: &'a [u8], _refused: bool) {}
 }
 
 // Answers to each image of a file.
@@ -212,7 +212,7 @@ fn each_of_file<A: Allocator + Copy, C: OnImages<A>, F: ImageFile, W: Write, E: 
     };
     let mut input = Input::new(reader);
     let status = each_image(alloc, command, &mut input, output, errors);
-    file.end(status != 0 && !output.has_failed());
+    file.end(input.into_reader(), status != 0 && !output.has_failed());
     status
 }
 

@@ -1,4 +1,4 @@
-use Rattle.std.proofs.Common.{inl, refl, sym, ◌∙◌}
+use Rattle.std.proofs.Common.{refl, sym, ◌∙◌}
 use Rattle.relay.specs.Program.{at_none, at_path}
 use Rattle.relay.proofs.system.System.do_here.Goals as goal
 
@@ -9,9 +9,9 @@ returns-in_default g c = record {
   done = c.do_between-done.result.standard;
   between = c.do_between-done.ensures;
   is_at = at_none c.in_default.ensures.path refl;
-  input = refl;
-  output = refl;
-  errors = inl refl;
+  input = c.noted-standard.ensures.input;
+  output = c.noted-standard.ensures.output;
+  errors = c.noted-standard.ensures.errors;
 }
 
 pub returns : goal.returns
@@ -22,7 +22,7 @@ returns g c = record {
   between = c.do_between-done-2.ensures;
   is_at = rw (sym c.in-Some.ensures.path) (at_path c.in-Ok.ensures.there c.close-note.ensures.there
       (λ other is_other. c.close-note.ensures.others other is_other ∙ c.open.ensures.others other is_other));
-  input = c.noted-standard.ensures.input;
-  output = c.noted-standard.ensures.output;
-  errors = c.noted-standard.ensures.errors;
+  input = c.noted-standard-2.ensures.input;
+  output = c.noted-standard-2.ensures.output;
+  errors = c.noted-standard-2.ensures.errors;
 }
