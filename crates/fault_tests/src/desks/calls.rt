@@ -1,10 +1,9 @@
 // A desk whose set stops at each of the device calls, under both ends of a stopped save, and a desk to which each
-// growth of memory is refused in turn. A call that was refused for lack of memory has changed nothing, and is done
-// when it is made again. After a save that failed the desk is opened again: what was answered is held, and the call
-// that stopped has left the old or the new, and is then made again.
+// growth of memory is refused in turn. A call that was refused for lack of memory is done when it is made again; after
+// a save that failed each such call is refused, and what is saved is what was answered, or one save more.
 use super::{FIRST, FULL, THIRD, WHOLE};
 use dm_append_label::{FileId, Page, seal};
-use dm_assembly_desk::{Desk, ExportFault, Kind};
+use dm_assembly_desk::{Desk, DeskFault, Kind};
 use dm_encodation::Scheme;
 use dm_finder_frame::Grid;
 use dm_size::Size;
@@ -15,18 +14,11 @@ use test_helpers::Refusing;
 
 type Memory = Refusing<Global>;
 
-// A set in memory that stops after some calls, and a desk over it.
-type FusedSet<'a> = FuseSet<MemSet<&'a Memory>>;
-
-type FusedDesk<'a> = Desk<FusedSet<'a>, &'a Memory>;
-
-type Label<'a> = Grid<&'a Memory>;
-
 // A call on a desk that holds the page 3 of the document 9.
+#[derive(Clone, Copy)]
 enum Call {
-    // The two labels of the document 0.
-    ScanFirst,
-    ScanSecond,
+    // The label of a page of the document 0.
+    Scan(u8),
     // The document 0, its file, and the list of all.
     Document,
     Export,
@@ -36,30 +28,36 @@ enum Call {
     Forget,
 }
 
-// The files of the documents 0 and 9, where no bytes stand for a document that is not held.
-type Files = [&'static [u8]; 2];
-
-// A call, its answer, its answer again after a save that was made but failed, and what is held after it.
-type Row = (Call, &'static str, &'static str, Files);
-
-const ROWS: &[Row] = &[
-    (Call::ScanFirst, "new", "again", [FIRST, THIRD]),
-    (Call::ScanSecond, "complete", "again", [WHOLE, THIRD]),
-    (Call::Document, "done", "", [WHOLE, THIRD]),
-    (Call::Export, "done", "", [WHOLE, THIRD]),
-    (Call::List, "done", "", [WHOLE, THIRD]),
-    (Call::Import(FULL), "complete", "again", [WHOLE, FULL]),
-    (Call::Forget, "done", "NotHeld", [WHOLE, b""]),
-    (Call::Import(THIRD), "new", "again", [WHOLE, THIRD]),
+// The calls, one after another, and what is answered to each.
+const CALLS: [(Call, &str); 8] = [
+    (Call::Scan(1), "new"),
+    (Call::Scan(2), "complete"),
+    (Call::Document, "done"),
+    (Call::Export, "done"),
+    (Call::List, "done"),
+    (Call::Import(FULL), "complete"),
+    (Call::Forget, "done"),
+    (Call::Import(THIRD), "new"),
 ];
 
-// The rows that save, in order.
-const SAVES: [usize; 5] = [0, 1, 5, 6, 7];
+// The files of the documents 0 and 9, where no bytes stand for a document that has none.
+type Files = [&'static [u8]; 2];
 
-// The device calls of opening: the keys, a load of one file, and the settle of what was found.
-const OPENING: u32 = 3;
+// What is saved where the set stops after so many device calls. It is opened by three: the keys, a load of one file,
+// and the settle of what was found. Then the save that it stops at has kept the old files, or the new ones.
+const STOPS: [(Files, Files); 9] = [
+    ([b"", THIRD], [b"", THIRD]),
+    ([b"", THIRD], [b"", THIRD]),
+    ([b"", THIRD], [b"", THIRD]),
+    ([b"", THIRD], [FIRST, THIRD]),
+    ([FIRST, THIRD], [WHOLE, THIRD]),
+    ([WHOLE, THIRD], [WHOLE, FULL]),
+    ([WHOLE, FULL], [WHOLE, b""]),
+    ([WHOLE, b""], [WHOLE, THIRD]),
+    ([WHOLE, THIRD], [WHOLE, THIRD]),
+];
 
-// More growths than all calls together ask for, and more device calls than they make.
+// More growths than all calls together ask for.
 const MANY: u32 = 3000;
 
 fn name_of(kind: Kind) -> &'static str {
@@ -74,170 +72,137 @@ fn done_if(is_right: bool) -> &'static str {
     if is_right { "done" } else { "another answer" }
 }
 
-// How the rows are tried: the memory of the desk, what a stopped save leaves, the documents 0 and 9, and the two labels
-// of the former.
-#[derive(Drop)]
-struct Way<'a> {
-    memory: &'a Memory,
-    kept: Kept,
-    zero: FileId,
-    nine: FileId,
-    first: Label<'a>,
-    second: Label<'a>,
+// The label of the page m of the two of the document 0.
+fn sealed(memory: &Memory, m: u8) -> Option<Grid<&Memory>> {
+    let bytes = if m == 1 { b"12" } else { b"34" };
+    let page = Page::new(FileId::of_number(0)?, m, 2, bytes.to_vec(memory).ok()?)?;
+    seal(memory, &page, Size::Side12, Scheme::Ascii).ok()
 }
 
-fn scanned<'a>(desk: &mut FusedDesk<'a>, label: &Label<'a>) -> &'static str {
-    match desk.accept(label) {
+// What is answered to the label of a page, which is sealed again where that was refused.
+fn scanned<'a, S: StoreSet>(
+    desk: &mut Desk<S, &'a Memory>,
+    memory: &'a Memory,
+    m: u8,
+) -> &'static str {
+    let Some(label) = sealed(memory, m).or_else(|| sealed(memory, m)) else {
+        return "no label";
+    };
+    match desk.accept(&label) {
         Ok(accepted) => name_of(accepted.kind),
         Err(fault) => fault.name(),
     }
 }
 
-// Whether a desk holds this file of a document, or none where no bytes are given.
-fn holds(desk: &FusedDesk<'_>, id: FileId, file: &[u8]) -> &'static str {
-    match desk.export(id) {
-        Ok(bytes) => done_if(bytes.as_slice() == file),
-        Err(ExportFault::NotHeld) => done_if(file.is_empty()),
+// What is answered where the document 0 is asked for, or its file.
+fn given<S: StoreSet>(desk: &Desk<S, &Memory>, id: FileId, is_file: bool) -> &'static str {
+    if is_file {
+        return match desk.export(id) {
+            Ok(bytes) => done_if(bytes.as_slice() == WHOLE),
+            Err(fault) => fault.name(),
+        };
+    }
+    match desk.document(id) {
+        Ok(document) => done_if(document.as_slice() == b"1234".as_slice()),
         Err(fault) => fault.name(),
     }
 }
 
-// Whether a desk holds these files.
-fn holds_both(desk: &FusedDesk<'_>, way: &Way<'_>, files: &Files) -> bool {
-    let [zero, nine] = *files;
-    holds(desk, way.zero, zero) == "done" && holds(desk, way.nine, nine) == "done"
-}
-
 // What is answered to a call.
-fn made<'a>(desk: &mut FusedDesk<'a>, way: &Way<'a>, call: &Call) -> &'static str {
+fn made<'a, S: StoreSet>(
+    desk: &mut Desk<S, &'a Memory>,
+    memory: &'a Memory,
+    call: Call,
+) -> &'static str {
+    let (Some(zero), Some(nine)) = (FileId::of_number(0), FileId::of_number(9)) else {
+        return "no ID";
+    };
     match call {
-        Call::ScanFirst => scanned(desk, &way.first),
-        Call::ScanSecond => scanned(desk, &way.second),
-        Call::Document => match desk.document(way.zero) {
-            Ok(document) => done_if(document.as_slice() == b"1234".as_slice()),
-            Err(fault) => fault.name(),
-        },
-        Call::Export => holds(desk, way.zero, WHOLE),
+        Call::Scan(m) => scanned(desk, memory, m),
+        Call::Document => given(desk, zero, false),
+        Call::Export => given(desk, zero, true),
         Call::List => match desk.held() {
             Ok(held) => done_if(held.len() == 2),
             Err(_) => "Memory",
         },
-        Call::Import(file) => match desk.import(*file) {
+        Call::Import(file) => match desk.import(file) {
             Ok(imported) => name_of(imported.kind),
             Err(fault) => fault.name(),
         },
-        Call::Forget => match desk.forget(way.nine) {
+        Call::Forget => match desk.forget(nine) {
             Ok(()) => "done",
             Err(fault) => fault.name(),
         },
     }
 }
 
-// The desk over what a set holds, which stops no more.
-fn opened<'a>(rt: &impl Abort, memory: &'a Memory, set: FusedSet<'a>) -> FusedDesk<'a> {
-    match Desk::open(memory, FuseSet::new(set.into_inner(), MANY, Kept::Old), 4) {
-        Ok(desk) => Some(desk),
-        Err(refused) => {
-            let _set = refused.store;
-            None
-        }
-    }
-    .expect(rt, "it is opened")
-}
-
-// The desk after a row whose call had this other answer at first, and before which these files were held.
-fn made_again<'a>(
-    rt: &impl Abort,
-    way: &Way<'a>,
-    mut desk: FusedDesk<'a>,
-    (call, wanted, again, after): &Row,
-    before: &Files,
-    answer: &str,
-) -> FusedDesk<'a> {
-    assert!(rt; holds_both(&desk, way, before));
-    if answer == "Save" {
-        assert!(rt; made(&mut desk, way, call) == "Failed");
-        desk = opened(rt, way.memory, desk.close());
-    } else {
-        assert!(rt; answer == "Memory");
-    }
-    let is_saved = answer == "Save" && way.kept == Kept::New;
-    assert!(rt; holds_both(&desk, way, if is_saved { after } else { before }));
-    assert!(rt; made(&mut desk, way, call) == if is_saved { *again } else { *wanted });
-    desk
-}
-
-// A desk over a set that holds the document 9 and stops after that many device calls, opened again where that failed.
-fn begun<'a>(rt: &impl Abort, memory: &'a Memory, kept: Kept, passes: u32) -> FusedDesk<'a> {
+// A set that holds the document 9. It is filled again where that was refused.
+fn filled<'a>(rt: &impl Abort, memory: &'a Memory) -> MemSet<&'a Memory> {
     let mut set = MemSet::new(memory);
     assert!(rt; set.replace(9, THIRD).is_ok() || set.replace(9, THIRD).is_ok());
-    match Desk::open(memory, FuseSet::new(set, passes, kept), 4) {
-        Ok(desk) => desk,
-        Err(refused) => {
-            let name = refused.fault.name();
-            assert!(rt; name == "Device" && passes < OPENING || name == "Memory");
-            opened(rt, memory, refused.store)
+    set
+}
+
+// Whether a set has these files.
+fn has(set: &MemSet<&Memory>, [zero, nine]: Files) -> bool {
+    set.content(0).unwrap_or(b"") == zero && set.content(9).unwrap_or(b"") == nine
+}
+
+// The set of a desk after all calls, or after the first that was stopped.
+fn used<'a, S: StoreSet>(rt: &impl Abort, memory: &'a Memory, mut desk: Desk<S, &'a Memory>) -> S {
+    for (call, wanted) in CALLS {
+        let answer = made(&mut desk, memory, call);
+        if answer != wanted {
+            assert!(rt; answer == "Save" && made(&mut desk, memory, call) == "Failed");
+            break;
         }
     }
+    desk.close()
 }
 
-// All calls over a set that stops after that many device calls: the place of the row that was not done at first, if
-// there is one.
-fn run(rt: &impl Abort, way: &Way<'_>, passes: u32) -> Option<usize> {
-    let mut desk = begun(rt, way.memory, way.kept, passes);
-    let mut before = [b"".as_slice(), THIRD];
-    let mut stopped = None;
-    for (place, row) in ROWS.iter().enumerate() {
-        let (call, wanted, _, after) = row;
-        let answer = made(&mut desk, way, call);
-        if answer != *wanted {
-            stopped = Some(place);
-            desk = made_again(rt, way, desk, row, &before, answer);
-        }
-        before = *after;
-    }
-    let set = desk.close().into_inner();
-    assert!(rt; set.content(0) == Some(WHOLE) && set.content(9) == Some(THIRD));
-    stopped
-}
-
-// The label of the page m of the two of the document 0.
-fn sealed(memory: &Memory, m: u8) -> Option<Label<'_>> {
-    let bytes = if m == 1 { b"12" } else { b"34" };
-    let page = Page::new(FileId::of_number(0)?, m, 2, bytes.to_vec(memory).ok()?)?;
-    seal(memory, &page, Size::Side12, Scheme::Ascii).ok()
-}
-
-// The same, made again where one growth was refused.
-fn label<'a>(rt: &impl Abort, memory: &'a Memory, m: u8) -> Label<'a> {
-    let label = sealed(memory, m).or_else(|| sealed(memory, m));
-    label.expect(rt, "a label")
-}
-
-fn way_of<'a>(rt: &impl Abort, memory: &'a Memory, kept: Kept) -> Way<'a> {
-    Way {
-        memory,
-        kept,
-        zero: FileId::of_number(0).expect(rt, "a number"),
-        nine: FileId::of_number(9).expect(rt, "a number"),
-        first: label(rt, memory, 1),
-        second: label(rt, memory, 2),
-    }
+// Whether these files are saved in a set that stops after so many device calls.
+fn are_saved(rt: &impl Abort, memory: &Memory, passes: u32, kept: Kept, files: Files) -> bool {
+    let set = FuseSet::new(filled(rt, memory), passes, kept);
+    let set = match Desk::open(memory, set, 4) {
+        Ok(desk) => used(rt, memory, desk),
+        Err(refused) => refused.store,
+    };
+    set.spent() == (passes < 8) && has(&set.into_inner(), files)
 }
 
 #[test]
 fn the_set_stops_at_each_call(rt: HostRuntime) {
     let memory = Refusing::new(rt.alloc(), u64::MAX);
-    for kept in [Kept::Old, Kept::New] {
-        let way = way_of(&rt, &memory, kept);
-        for passes in 0..OPENING {
-            assert!(rt; run(&rt, &way, passes).is_none());
-        }
-        for (passes, place) in (OPENING..MANY).zip(SAVES) {
-            assert!(rt; run(&rt, &way, passes) == Some(place));
-        }
-        assert!(rt; run(&rt, &way, MANY).is_none());
+    for (passes, (old, new)) in (0..9u32).zip(STOPS) {
+        assert!(rt; are_saved(&rt, &memory, passes, Kept::Old, old), "{passes}");
+        assert!(rt; are_saved(&rt, &memory, passes, Kept::New, new), "{passes}");
     }
+}
+
+// A desk over a set that holds the document 9, opened again where it was refused.
+fn opened<'a>(rt: &impl Abort, memory: &'a Memory) -> Desk<MemSet<&'a Memory>, &'a Memory> {
+    match Desk::open(memory, filled(rt, memory), 4) {
+        Ok(desk) => desk,
+        Err(refused) => {
+            assert!(rt; refused.fault == DeskFault::Memory);
+            let opened = Desk::open(memory, refused.store, 4);
+            opened.ok().expect(rt, "it is opened")
+        }
+    }
+}
+
+// Makes all calls, each again where it was refused, and counts the refusals of each.
+fn count_refusals(rt: &impl Abort, memory: &Memory, refusals: &mut [u32; 8]) {
+    let mut desk = opened(rt, memory);
+    for ((call, wanted), count) in CALLS.iter().zip(refusals.iter_mut()) {
+        let answer = made(&mut desk, memory, *call);
+        if answer != *wanted {
+            assert!(rt; answer == "Memory" && memory.is_spent());
+            assert!(rt; made(&mut desk, memory, *call) == *wanted);
+            *count = count.saturating_add(1);
+        }
+    }
+    assert!(rt; has(&desk.close(), [WHOLE, THIRD]));
 }
 
 #[test]
@@ -246,40 +211,13 @@ fn each_growth_is_refused(rt: HostRuntime) {
     for passes in 0..=MANY {
         assert!(rt; passes < MANY);
         let memory = Refusing::new(rt.alloc(), u64::from(passes));
-        let way = way_of(&rt, &memory, Kept::Old);
-        if let Some(place) = run(&rt, &way, MANY) {
-            assert!(rt; memory.is_spent());
-            if let Some(count) = refusals.get_mut(place) {
-                *count = count.saturating_add(1);
-            }
-        }
+        count_refusals(&rt, &memory, &mut refusals);
         if !memory.is_spent() {
             break;
         }
     }
-    let [first, second, document, export, list, import, forget, new] = refusals;
-    assert!(rt; first > 0 && second > 0 && document > 0 && export > 0 && list > 0 && import > 0);
-    assert!(rt; forget == 0 && new > 0, "a forget takes no memory");
-}
-
-// Memory for what is held is asked for last, and a set is settled after all loads: a damaged file is named first, also
-// over a set that stops right after its load.
-#[test]
-fn damage_is_named_where_memory_is_refused(rt: HostRuntime) {
-    for passes in 0..=MANY {
-        assert!(rt; passes < MANY);
-        // The set has memory of its own, so that it is a growth of the desk that is refused.
-        let mut set = MemSet::new(rt.alloc());
-        assert!(rt; set.replace(0, WHOLE).is_ok() && set.replace(9, b"DMPG\x02").is_ok());
-        let memory = Refusing::new(rt.alloc(), u64::from(passes));
-        let name = match Desk::open(&memory, FuseSet::new(set, 3, Kept::Old), 4) {
-            Ok(_) => "opened",
-            Err(refused) => refused.fault.name(),
-        };
-        assert!(rt; name == "Damaged");
-        if !memory.is_spent() {
-            assert!(rt; passes > 0);
-            break;
-        }
+    // A forget takes no memory.
+    for (place, count) in refusals.iter().enumerate() {
+        assert!(rt; (*count == 0) == (place == 6), "{place}");
     }
 }

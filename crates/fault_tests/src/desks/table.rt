@@ -28,25 +28,8 @@ pub fn id_at(document: &[u8]) -> u32 {
     }
 }
 
-// The bytes of the page m of a sound document, if it is held.
-pub fn page(document: &[u8], m: u8) -> Option<&[u8]> {
-    let mut mask = number(document, 3);
-    let mut at = 5usize;
-    for _ in 1..m {
-        if mask % 2 == 1 {
-            at = at.saturating_add(2 + number(document, at) as usize);
-        }
-        mask /= 2;
-    }
-    if mask % 2 == 0 {
-        return None;
-    }
-    let from = at.saturating_add(2);
-    document.get(from..from.saturating_add(number(document, at) as usize))
-}
-
 // How many bytes a document has that stands at the front of these, if one does.
-pub fn length_of(bytes: &[u8]) -> Option<usize> {
+fn length_of(bytes: &[u8]) -> Option<usize> {
     let count = *bytes.get(2)?;
     let mut mask = number(bytes, 3);
     if id_at(bytes) > 65_535 || count < 2 || count > 16 || mask == 0 {

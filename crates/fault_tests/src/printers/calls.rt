@@ -1,23 +1,20 @@
 // A printer whose store stops at each of the device calls, under both ends of a stopped save, and a printer to which
-// each growth of memory is refused in turn. A call that was refused for lack of memory has changed nothing, and is done
-// when it is made again, by the same printer or by one that is opened on what is saved. After a save that failed the
-// printer is opened again, and goes on: no ID is given twice.
+// each growth of memory is refused in turn. A call that was refused for lack of memory is done when it is made again;
+// after a save that failed each call is refused, and what is saved is what was answered, or one save more.
 use dm_encodation::Scheme;
-use dm_print_ledger::{CreateFault, Printer, Range, Ticket};
+use dm_print_ledger::{CreateFault, OpenFault, Printer, Range, Ticket};
 use dm_size::Size;
-use dm_store::{FuseStore, Kept, MemStore};
+use dm_store::{FuseStore, Kept, MemStore, Store};
 use std::alloc::Global;
 use std::process::Abort;
 use test_helpers::Refusing;
 
 type Memory = Refusing<Global>;
 
-// A store in memory that stops after some calls, and a printer over it.
 type FusedStore<'a> = FuseStore<MemStore<&'a Memory>>;
 
-type FusedPrinter<'a> = Printer<FusedStore<'a>, &'a Memory>;
-
 // A call on the printer 0 of the numbers 0 to 9.
+#[derive(Clone, Copy)]
 enum Call {
     // A print of a document of two labels, which is to get this number.
     Print(u16),
@@ -27,9 +24,7 @@ enum Call {
     Take,
 }
 
-// A call, what is answered to it again where its save was made but failed, and what is saved after it. A document whose
-// print failed so is not printed again here: its number is lost.
-type Row = (Call, Option<&'static str>, &'static [u8]);
+const CALLS: [Call; 4] = [Call::Print(0), Call::Give, Call::Take, Call::Print(1)];
 
 const RANGE: Range = Range { first: 0, last: 9 };
 
@@ -52,21 +47,14 @@ const SECOND_PRINT: &[u8] =
     b"DMLG\x02\x00\x00\x00\x01\x03\x00\x02\x00\x04\x00\x07\x00\x09\x00\x14\x00\x15\
     \x01\x00\x01\x00\x00\xff\xf7";
 
-const ROWS: &[Row] = &[
-    (Call::Print(0), None, FIRST_PRINT),
-    (Call::Give, Some("NotFree"), AFTER_GIVE),
-    (Call::Take, Some("Old"), AFTER_TAKE),
-    (Call::Print(1), None, SECOND_PRINT),
-];
-
 // More growths than all calls together ask for, and more device calls than they make.
 const MANY: u32 = 1000;
 
 // What is answered to a call.
-fn made(printer: &mut FusedPrinter<'_>, call: &Call) -> &'static str {
+fn made<S: Store>(printer: &mut Printer<S, &Memory>, call: Call) -> &'static str {
     match call {
         Call::Print(id) => match printer.print(b"1234", Size::Side12, Scheme::Ascii) {
-            Ok(job) if job.id().number() == *id => "done",
+            Ok(job) if job.id().number() == id => "done",
             Ok(_) => "another number",
             Err(fault) => fault.name(),
         },
@@ -83,143 +71,108 @@ fn made(printer: &mut FusedPrinter<'_>, call: &Call) -> &'static str {
     }
 }
 
-// The printer over what is saved, which is to be this, in a store that stops no more.
-fn opened<'a>(
-    rt: &impl Abort,
-    memory: &'a Memory,
-    store: FusedStore<'a>,
-    saved: &[u8],
-) -> FusedPrinter<'a> {
-    let store = store.into_inner();
-    assert!(rt; store.content() == Some(saved));
-    match Printer::open(memory, FuseStore::new(store, MANY, Kept::Old), 0) {
-        Ok(printer) => Some(printer),
-        Err(refused) => {
-            let _store = refused.store;
-            None
-        }
-    }
-    .expect(rt, "it is opened")
-}
+// What is saved by a printer whose store stops after so many device calls: where the save that it stops at has kept the
+// old ledger, and where it has kept the new one.
+const STOPS: [(Option<&[u8]>, Option<&[u8]>); 7] = [
+    (None, None),
+    (None, Some(CREATED)),
+    (Some(CREATED), Some(FIRST_PRINT)),
+    (Some(FIRST_PRINT), Some(AFTER_GIVE)),
+    (Some(AFTER_GIVE), Some(AFTER_TAKE)),
+    (Some(AFTER_TAKE), Some(SECOND_PRINT)),
+    (Some(SECOND_PRINT), Some(SECOND_PRINT)),
+];
 
-// The printer is created, again where it was refused; where the first ledger was saved although that failed, another is
-// refused, and it is opened.
-fn created<'a>(
-    rt: &impl Abort,
-    memory: &'a Memory,
-    store: FusedStore<'a>,
-    is_saved: bool,
-) -> FusedPrinter<'a> {
-    let refused = match Printer::create(memory, store, 0, RANGE) {
-        Ok(printer) => return printer,
-        Err(refused) => refused,
-    };
-    assert!(rt; !is_saved || refused.fault == CreateFault::Device);
-    assert!(rt; refused.store.spent() == (refused.fault == CreateFault::Device));
-    let store = refused.store.into_inner();
-    assert!(rt; store.content() == is_saved.then_some(CREATED));
-    match Printer::create(memory, FuseStore::new(store, MANY, Kept::Old), 0, RANGE) {
-        Ok(printer) => {
-            assert!(rt; !is_saved);
-            printer
-        }
-        Err(again) => {
-            assert!(rt; is_saved && again.fault == CreateFault::Exists);
-            opened(rt, memory, again.store, CREATED)
-        }
-    }
-}
-
-// How a row is tried: the memory of its printer, what a stopped save leaves, and whether a printer that was refused
-// memory is opened again too.
-type Way<'a> = (&'a Memory, Kept, bool);
-
-// The printer after a row whose call had this other answer at first, and before which this was saved.
-fn made_again<'a>(
-    rt: &impl Abort,
-    (memory, kept, is_reopened): Way<'a>,
-    mut printer: FusedPrinter<'a>,
-    (call, again, after): &Row,
-    before: &[u8],
-    answer: &str,
-) -> FusedPrinter<'a> {
-    let is_save = answer == "Save";
-    let is_saved = is_save && kept == Kept::New;
-    if is_save {
-        assert!(rt; made(&mut printer, call) == "Failed");
-    } else {
-        assert!(rt; answer == "Memory");
-    }
-    if is_save || is_reopened {
-        let saved = if is_saved { *after } else { before };
-        printer = opened(rt, memory, printer.close(), saved);
-    }
-    let wanted = if is_saved { *again } else { Some("done") };
-    if let Some(wanted) = wanted {
-        assert!(rt; made(&mut printer, call) == wanted);
-    }
-    printer
-}
-
-// All calls over a store that stops after that many device calls: the place of the row that was not done at first, if
-// there is one.
-fn run(rt: &impl Abort, way: Way<'_>, passes: u32) -> Option<usize> {
-    let (memory, kept, _) = way;
-    let store = FuseStore::new(MemStore::new(memory), passes, kept);
-    let printer = created(rt, memory, store, passes == 1 && kept == Kept::New);
-    let mut printer = match Printer::open(memory, printer.close(), 0) {
-        Ok(printer) => printer,
-        Err(refused) => opened(rt, memory, refused.store, CREATED),
-    };
-    let mut before = CREATED;
-    let mut stopped = None;
-    for (place, row) in ROWS.iter().enumerate() {
-        let (call, _, after) = row;
+// The store of a printer after all calls, or after the first that was stopped.
+fn used<'a>(rt: &impl Abort, mut printer: Printer<FusedStore<'a>, &'a Memory>) -> FusedStore<'a> {
+    for call in CALLS {
         let answer = made(&mut printer, call);
         if answer != "done" {
-            stopped = Some(place);
-            printer = made_again(rt, way, printer, row, before, answer);
+            assert!(rt; answer == "Save" && made(&mut printer, call) == "Failed");
+            break;
         }
-        before = *after;
     }
-    assert!(rt; printer.close().into_inner().content() == Some(before));
-    stopped
+    printer.close()
+}
+
+// Whether this is saved in a store that stops after so many device calls.
+fn is_saved(
+    rt: &impl Abort,
+    memory: &Memory,
+    passes: u32,
+    kept: Kept,
+    wanted: Option<&[u8]>,
+) -> bool {
+    let store = FuseStore::new(MemStore::new(memory), passes, kept);
+    let store = match Printer::create(memory, store, 0, RANGE) {
+        Ok(printer) => used(rt, printer),
+        Err(refused) => refused.store,
+    };
+    store.spent() == (passes < 6) && store.into_inner().content() == wanted
 }
 
 #[test]
 fn the_store_stops_at_each_call(rt: HostRuntime) {
     let memory = Refusing::new(rt.alloc(), u64::MAX);
-    for kept in [Kept::Old, Kept::New] {
-        let way = (&memory, kept, false);
-        for passes in 0..3 {
-            assert!(rt; run(&rt, way, passes).is_none());
-        }
-        for place in 0..ROWS.len() {
-            assert!(rt; run(&rt, way, 3 + place as u32) == Some(place));
-        }
-        assert!(rt; run(&rt, way, MANY).is_none());
+    for (passes, (old, new)) in (0..7u32).zip(STOPS) {
+        assert!(rt; is_saved(&rt, &memory, passes, Kept::Old, old), "{passes}");
+        assert!(rt; is_saved(&rt, &memory, passes, Kept::New, new), "{passes}");
     }
+}
+
+type MemPrinter<'a> = Printer<MemStore<&'a Memory>, &'a Memory>;
+
+// The printer over an empty store, created again where it was refused.
+fn created<'a>(rt: &impl Abort, memory: &'a Memory) -> MemPrinter<'a> {
+    match Printer::create(memory, MemStore::new(memory), 0, RANGE) {
+        Ok(printer) => printer,
+        Err(refused) => {
+            assert!(rt; refused.fault == CreateFault::Memory);
+            let created = Printer::create(memory, refused.store, 0, RANGE);
+            created.ok().expect(rt, "it is created")
+        }
+    }
+}
+
+// The printer over what is saved, opened again where it was refused.
+fn opened<'a>(rt: &impl Abort, memory: &'a Memory, store: MemStore<&'a Memory>) -> MemPrinter<'a> {
+    match Printer::open(memory, store, 0) {
+        Ok(printer) => printer,
+        Err(refused) => {
+            assert!(rt; refused.fault == OpenFault::Memory);
+            let opened = Printer::open(memory, refused.store, 0);
+            opened.ok().expect(rt, "it is opened")
+        }
+    }
+}
+
+// Makes all calls, each again where it was refused, and counts the refusals of each.
+fn count_refusals(rt: &impl Abort, memory: &Memory, refusals: &mut [u32; 4]) {
+    let printer = created(rt, memory);
+    let mut printer = opened(rt, memory, printer.close());
+    for (call, count) in CALLS.iter().zip(refusals.iter_mut()) {
+        let answer = made(&mut printer, *call);
+        if answer != "done" {
+            assert!(rt; answer == "Memory" && memory.is_spent());
+            assert!(rt; made(&mut printer, *call) == "done");
+            *count = count.saturating_add(1);
+        }
+    }
+    assert!(rt; printer.close().content() == Some(SECOND_PRINT));
 }
 
 #[test]
 fn each_growth_is_refused(rt: HostRuntime) {
-    for is_reopened in [false, true] {
-        let mut refusals = [0u32; 4];
-        for passes in 0..=MANY {
-            assert!(rt; passes < MANY);
-            let memory = Refusing::new(rt.alloc(), u64::from(passes));
-            if let Some(place) = run(&rt, (&memory, Kept::Old, is_reopened), MANY) {
-                assert!(rt; memory.is_spent());
-                if let Some(count) = refusals.get_mut(place) {
-                    *count = count.saturating_add(1);
-                }
-            }
-            if !memory.is_spent() {
-                break;
-            }
+    let mut refusals = [0u32; 4];
+    for passes in 0..=MANY {
+        assert!(rt; passes < MANY);
+        let memory = Refusing::new(rt.alloc(), u64::from(passes));
+        count_refusals(&rt, &memory, &mut refusals);
+        if !memory.is_spent() {
+            break;
         }
-        // Each call takes memory, and a print much more of it than the others.
-        let [print, give, take, again] = refusals;
-        assert!(rt; print > give && give > 0 && take > 0 && again > 0);
     }
+    // Each call takes memory, and a print much more of it than the others.
+    let [print, give, take, again] = refusals;
+    assert!(rt; print > give && give > 0 && take > 0 && again > 0);
 }

@@ -25,7 +25,7 @@ pub fn number(bytes: &[u8], at: usize) -> u32 {
 }
 
 // The place of the byte that counts the givers of a ledger.
-pub fn givers_at(ledger: &[u8]) -> usize {
+fn givers_at(ledger: &[u8]) -> usize {
     let ranges = ledger.get(9).copied().unwrap_or(0);
     10 + 4 * ranges as usize
 }
