@@ -1,19 +1,17 @@
-//! Desks over sets in memory: labels that are scanned, pages that come and go, and what is held. Sets on which a desk is
-//! opened, and on which none is. Joint files of the first version, whose documents are moved to files of their own.
+//! Desks over sets in memory: labels that are scanned, pages that come and go, and what is held. Sets of several files on
+//! which a desk is opened, and on which none is.
 
 use crate::labels::page_of_bytes;
 use dm_append_label::{FileId, seal};
 use dm_assembly_desk::{
-    Accepted, AskFault, Desk, ForgetFault, ImportFault, Imported, Kind, MoveFault, ScanFault,
-    move_pages,
+    Accepted, AskFault, Desk, ForgetFault, ImportFault, Imported, Kind, ScanFault,
 };
 use dm_encodation::Scheme;
 use dm_finder_frame::Grid;
 use dm_size::Size;
-use dm_store::{MemSet, MemStore, NextSave, StoreSet};
+use dm_store::{MemSet, StoreSet};
 use std::alloc::Global;
 use std::process::Abort;
-use std::test::Fail;
 
 type MemDesk = Desk<MemSet>;
 
@@ -115,27 +113,6 @@ fn holds_second(desk: &MemDesk, id: FileId) -> bool {
     }
 }
 
-// A scan whose save fails, and what follows.
-fn save_fails(rt: &impl Abort, alloc: Global, next: NextSave, kind: Kind) {
-    let (id, scan) = (id_of(rt, 0), (0, 2, 2, b"34".as_slice()));
-    let mut desk = opened(rt, alloc, MemSet::new(alloc), 4);
-    desk.set_next(next);
-    assert!(rt; answers(alloc, &mut desk, scan, Err(ScanFault::Save)));
-    assert!(rt; desk.pages(id).is_none());
-    assert!(rt; answers(alloc, &mut desk, scan, Err(ScanFault::Failed)));
-    let mut desk = opened(rt, alloc, desk.close(), 4);
-    assert!(rt; answers(alloc, &mut desk, scan, Ok(kind)));
-    assert!(rt; holds_second(&desk, id));
-    assert!(rt; matches!(desk.document(id), Err(AskFault::Incomplete { missing: 1 })));
-}
-
-// A save that fails, and the answer to its label once the desk is opened again.
-#[test]
-fn saves_fail(rt: HostRuntime) {
-    save_fails(&rt, rt.alloc(), NextSave::FaultNew, Kind::Again);
-    save_fails(&rt, rt.alloc(), NextSave::FaultOld, Kind::New);
-}
-
 // The imports of files of the document 0, one after another, to a desk with room for one: how many pages are new, or
 // the refusal.
 #[rattlefmt::skip]
@@ -161,7 +138,7 @@ fn imports(desk: &mut MemDesk, bytes: &[u8], answer: Result<(u16, Kind), ImportF
 }
 
 #[test]
-fn pages_come_and_go(rt: HostRuntime) -> Result<(), Fail> {
+fn pages_come_and_go(rt: HostRuntime) {
     let id = id_of(&rt, 0);
     let mut desk = opened(&rt, rt.alloc(), MemSet::new(rt.alloc()), 1);
     for (bytes, answer) in IMPORTS {
@@ -170,9 +147,8 @@ fn pages_come_and_go(rt: HostRuntime) -> Result<(), Fail> {
     assert!(rt; exports(&desk, id, WHOLE) && gives(&desk, id, b"1234"));
     assert!(rt; desk.forget(id) == Ok(()) && desk.forget(id) == Err(ForgetFault::NotHeld));
     assert!(rt; answers(rt.alloc(), &mut desk, (0, 2, 2, b"34"), Ok(Kind::New)));
-    let set = desk.close();
-    assert!(rt; set.content(0) == Some(SECOND));
-    Ok(())
+    assert!(rt; holds_second(&desk, id));
+    assert!(rt; desk.close().content(0) == Some(SECOND));
 }
 
 // Why no desk is opened on a set with these files, each under its key; or `opened`.
@@ -194,7 +170,7 @@ const OTHER: &[u8] = b"DMPG\x02\x01\x02\x02\x00\x02\x00\x0234";
 
 // The files of a set, a capacity, and what is answered; the first file that is none decides.
 #[rattlefmt::skip]
-const SETS: [(&[(u16, &[u8])], u16, &str); 29] = [
+const SETS: [(&[(u16, &[u8])], u16, &str); 14] = [
     (&[], 0, "Capacity"),
     (&[], 1, "opened"),
     (&[], 1024, "opened"),
@@ -209,23 +185,6 @@ const SETS: [(&[(u16, &[u8])], u16, &str); 29] = [
     (&[(0, b"DMPG\x01"), (1, b"")], 3, "Version"),
     (&[(0, WHOLE), (64_516, SECOND)], 3, "Damaged"),
     (&[(0, WHOLE), (65_535, b"DMPG\x03")], 3, "Version"),
-    (&[(0, b"DMP")], 4, "NotPages"),
-    (&[(0, b"DMLG\x02")], 4, "NotPages"),
-    (&[(0, b"dmpg\x02\x01\x01\x02\x00\x02\x00\x0234")], 4, "NotPages"),
-    (&[(0, b"DMPG\x01\x00\x00")], 4, "Version"),
-    (&[(0, b"DMPG\x03\x01\x01\x02\x00\x02\x00\x0234")], 4, "Version"),
-    (&[(0, b"DMPG")], 4, "Damaged"),
-    (&[(0, b"DMPG\x02")], 4, "Damaged"),
-    // No page, a page 3 of 2, 17 pages, 1 page, an ID with a codeword 0 or 255.
-    (&[(0, b"DMPG\x02\x01\x01\x02\x00\x00")], 4, "Damaged"),
-    (&[(0, b"DMPG\x02\x01\x01\x02\x00\x04\x00\x00")], 4, "Damaged"),
-    (&[(0, b"DMPG\x02\x01\x01\x11\x00\x01\x00\x00")], 4, "Damaged"),
-    (&[(0, b"DMPG\x02\x01\x01\x01\x00\x01\x00\x00")], 4, "Damaged"),
-    (&[(0, b"DMPG\x02\x00\xff\x02\x00\x01\x00\x00")], 4, "Damaged"),
-    // One byte more, and one byte less.
-    (&[(0, b"DMPG\x02\x01\x01\x02\x00\x02\x00\x02345")], 4, "Damaged"),
-    (&[(0, b"DMPG\x02\x01\x01\x02\x00\x02\x00\x023")], 4, "Damaged"),
-    (&[(0, b"DMPG\x02\x01\x01\x02\x00\x03\x00\x0212\x00\x02")], 4, "Damaged"),
 ];
 
 #[test]
@@ -234,40 +193,4 @@ fn sets_are_refused(rt: HostRuntime) {
         let found = answer_to(rt.alloc(), files, capacity);
         assert!(rt; found == answer, "{files:?} {capacity}");
     }
-}
-
-// Joint files, and how many documents are moved, or the refusal; the last of them has the documents 0 and 2.
-#[rattlefmt::skip]
-const JOINT_FILES: [(&[u8], Result<u16, MoveFault>); 10] = [
-    (b"", Err(MoveFault::NotPages)),
-    (b"DMLG\x01\x00\x00", Err(MoveFault::NotPages)),
-    (SECOND, Err(MoveFault::Version)),
-    (b"DMPG", Err(MoveFault::Damaged)),
-    (b"DMPG\x01\x00", Err(MoveFault::Damaged)),
-    (b"DMPG\x01\x00\x00\x00", Err(MoveFault::Damaged)),
-    (b"DMPG\x01\x00\x02\x01\x01\x02\x00\x02\x00\x0234", Err(MoveFault::Damaged)),
-    // One document twice, and falling IDs.
-    (b"DMPG\x01\x00\x02\x01\x01\x02\x00\x02\x00\x0234\x01\x01\x02\x00\x02\x00\x0234", Err(MoveFault::Damaged)),
-    (b"DMPG\x01\x00\x02\x01\x02\x02\x00\x02\x00\x0234\x01\x01\x02\x00\x02\x00\x0234", Err(MoveFault::Damaged)),
-    (b"DMPG\x01\x00\x02\x01\x01\x02\x00\x02\x00\x0234\x01\x03\x02\x00\x03\x00\x025\x06\x00\x00", Ok(2)),
-];
-
-// As `move_pages`, without its contract, so that what makes many such calls is proved in little time.
-fn moved(alloc: Global, old: &mut MemStore, set: &mut MemSet) -> Result<u16, MoveFault> {
-    move_pages(alloc, old, set)
-}
-
-#[test]
-fn joint_files_are_moved(rt: HostRuntime) -> Result<(), Fail> {
-    let mut set = MemSet::new(rt.alloc());
-    for (bytes, answer) in JOINT_FILES {
-        assert!(rt; set.keys(9)?.is_empty());
-        let mut old = MemStore::with(rt.alloc(), bytes.to_vec(rt.alloc())?);
-        let found = moved(rt.alloc(), &mut old, &mut set);
-        assert!(rt; found == answer, "{bytes:?}");
-    }
-    assert!(rt; set.content(0) == Some(SECOND));
-    let desk = opened(&rt, rt.alloc(), set, 2);
-    assert!(rt; gives(&desk, id_of(&rt, 2), b"5\x06"));
-    Ok(())
 }

@@ -27,25 +27,3 @@ fn adds_a_multiple(rt: HostRuntime) {
     add_multiple(&mut target, &[0, 128, 1], 2);
     assert!(rt; target == [1, 128 ^ 45, 5]);
 }
-
-// The product of two elements bit by bit, as it is defined.
-fn product_by_bits(a: u8, b: u8) -> u8 {
-    let (mut sum, mut shifted) = (0, a);
-    for bit in 0..8u8 {
-        if (b >> bit) & 1 == 1 {
-            sum ^= shifted;
-        }
-        shifted = (shifted << 1) ^ if shifted < 128 { 0 } else { 45 };
-    }
-    sum
-}
-
-#[test]
-fn tables_give_the_product_bit_by_bit(rt: HostRuntime) {
-    for a in 0..=255u8 {
-        for b in 0..=255u8 {
-            let product = Gf(a).mul(Gf(b)).0;
-            assert!(rt; product == product_by_bits(a, b), "{a} times {b}");
-        }
-    }
-}

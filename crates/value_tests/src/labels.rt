@@ -1,9 +1,7 @@
 //! Labels, the parts of documents, heads, and labels that are damaged.
 
 use crate::worked::flip_all;
-use dm_append_label::{
-    FileId, LabelFault, Page, SealFault, cut, open_label, seal, seal_with, still_near,
-};
+use dm_append_label::{FileId, LabelFault, Page, SealFault, cut, open_label, seal};
 use dm_encodation::{DecodeFault, Scheme};
 use dm_finder_frame::Grid;
 use dm_placement::Layout;
@@ -132,56 +130,22 @@ fn heads_are_told_apart(rt: HostRuntime) -> Result<(), Fail> {
     Ok(())
 }
 
-// Of the first label of `1234` in side 12 one module of each of three codewords is turned over, then of a fourth.
-#[test]
-#[tactic(auto, unfolding(dm_size::specs::Sizes::row))]
-fn three_words_are_near_and_four_are_not(rt: HostRuntime) -> Result<(), Fail> {
-    let label = sealed(rt.alloc(), ONE)?;
-    assert!(rt; label.side() == 12);
-    assert!(rt; still_near(rt.alloc(), &label, &[(1, 9), (4, 6), (8, 3)])?);
-    assert!(rt; !still_near(rt.alloc(), &label, &[(1, 9), (4, 6), (8, 3), (9, 8)])?);
-    Ok(())
-}
-
-// A layout of the size seals the same label.
-#[test]
-fn labels_are_sealed_by_a_layout(rt: HostRuntime) -> Result<(), Fail> {
-    let alloc = rt.alloc();
-    let layout = Layout::of_size(alloc, Size::Side12)?;
-    let page = page_of_bytes(alloc, 0, 1, 2, b"12").expect(&rt, "a page");
-    let one = seal(alloc, &page, Size::Side12, Scheme::Ascii)?;
-    let other = seal_with(alloc, &page, &layout, Scheme::Ascii)?;
-    assert!(rt; one.side() == 12 && other.side() == 12);
-    for row in 0..12u16 {
-        assert!(rt; one.row(row) == other.row(row));
-    }
-    Ok(())
-}
-
 // How many codewords of a label were corrected, and how many modules on its frame are wrong.
 fn wear(alloc: Global, label: &Grid) -> Result<(u16, u16), LabelFault> {
     let opened = open_label(alloc, label)?;
     Ok((opened.corrected, opened.wrong))
 }
 
+// Five modules on the frame, and one of each of three codewords.
+#[rattlefmt::skip]
+const WORN: [(u16, u16); 8] = [(0, 0), (0, 1), (0, 2), (0, 3), (0, 4), (1, 9), (4, 6), (8, 3)];
+
 // Of side 12 an eighth of the 44 modules on the frame are 5, and a block with 7 error correction codewords has at most
 // 3 wrong codewords.
 #[test]
 fn labels_are_worn(rt: HostRuntime) -> Result<(), Fail> {
     let mut label = sealed(rt.alloc(), ONE)?;
-    flip_all(
-        &mut label,
-        &[
-            (0, 0),
-            (0, 1),
-            (0, 2),
-            (0, 3),
-            (0, 4),
-            (1, 9),
-            (4, 6),
-            (8, 3),
-        ],
-    );
+    flip_all(&mut label, &WORN);
     assert!(rt; wear(rt.alloc(), &label) == Ok((3, 5)));
     flip_all(&mut label, &[(9, 8)]);
     assert!(rt; wear(rt.alloc(), &label) == Err(LabelFault::Block { block: 0 }));
