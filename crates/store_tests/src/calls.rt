@@ -30,9 +30,6 @@ impl Call {
 // The allocator of a call.
 pub type Memory = Refusing<Global>;
 
-// Files under a script, and the allocator that the names of a folder are given in.
-type Files<'a> = (&'a Scripted, Global);
-
 // These bytes, if they are a text that the tests save, or the beginning of one.
 pub fn text_of(bytes: &[u8]) -> &'static str {
     for text in ["one", "three", "on", "o"] {
@@ -70,12 +67,7 @@ fn done(answer: Result<(), StoreFault>) -> &'static str {
 }
 
 // The answer to a call on the store in the file of the key 1 of a folder. Its path takes memory too.
-fn of_store<A: Allocator + Copy>(
-    files: &Scripted,
-    memory: A,
-    folder: &str,
-    call: Call,
-) -> &'static str {
+fn of_store(files: &Scripted, memory: &Memory, folder: &str, call: Call) -> &'static str {
     let Ok(path) = format!(in memory; "{folder}/0001") else {
         return "Memory";
     };
@@ -86,36 +78,38 @@ fn of_store<A: Allocator + Copy>(
     }
 }
 
-// The same of the set in a folder.
-fn of_set<A: Allocator + Copy>(
-    files: &Files<'_>,
-    memory: A,
-    folder: &str,
-    call: Call,
-) -> &'static str {
-    let Ok(path) = String::from_str(memory, folder) else {
-        return "Memory";
-    };
-    let mut set = FileSet::new(RealDisk::new(memory, files), path);
+// Lists the keys first.
+fn replaced_listed<S: StoreSet>(set: &mut S) -> &'static str {
+    match set.keys(9) {
+        Ok(_) => done(set.replace(1, b"three")),
+        Err(fault) => done(Err(fault)),
+    }
+}
+
+// The answer of any set: what is over that of a system is proved in more time.
+fn of_any_set<S: StoreSet>(mut set: S, call: Call) -> &'static str {
     match call {
         Call::LoadKey(limit) => loaded(set.load(1, limit)),
         Call::RemoveKey => done(set.remove(1)),
         Call::Settle => done(set.settle()),
         Call::Keys(limit, wanted) => listed(set.keys(limit), wanted),
-        Call::ReplaceKey(true) => match set.keys(9) {
-            Ok(_) => done(set.replace(1, b"three")),
-            Err(fault) => done(Err(fault)),
-        },
+        Call::ReplaceKey(true) => replaced_listed(&mut set),
         _ => done(set.replace(1, b"three")),
     }
 }
 
 // The answer to a call over files under a script.
 pub fn answer(files: &Scripted, memory: &Memory, folder: &str, call: Call) -> &'static str {
-    match call {
-        Call::Load(_) | Call::Replace => of_store(files, memory, folder, call),
-        _ => of_set(&(files, files.alloc()), memory, folder, call),
+    if matches!(&call, Call::Load(_) | Call::Replace) {
+        return of_store(files, memory, folder, call);
     }
+    let Ok(path) = String::from_str(memory, folder) else {
+        return "Memory";
+    };
+    of_any_set(
+        FileSet::new(RealDisk::new(memory, &(files, files.alloc())), path),
+        call,
+    )
 }
 
 #[test]

@@ -33,12 +33,30 @@ fn what_is_left(disk: &MemDisk) -> Option<Leaves> {
     }
 }
 
+// A store in the file of a disk.
+fn store_over<D: Disk>(alloc: Global, disk: D) -> Result<FileStore<D>, AllocError> {
+    Ok(FileStore::new(disk, String::from_str(alloc, "ledger")?))
+}
+
 // A disk on which a store has saved the old content, if it could, and whose machine stops at the call after so many.
 fn stopping(alloc: Global, passes: u32, kept: Kept) -> Result<Stopping<MemDisk>, AllocError> {
-    let path = String::from_str(alloc, "ledger")?;
-    let mut store = FileStore::new(MemDisk::new(alloc), path);
+    let mut store = store_over(alloc, MemDisk::new(alloc))?;
     let _ended = store.replace(b"old");
     Ok(Stopping::new(store.into_disk(), passes, kept))
+}
+
+// Whether a store saves the new content on a disk that stops, and the disk then.
+fn saved(alloc: Global, passes: u32, kept: Kept) -> Result<(bool, MemDisk), AllocError> {
+    let mut store = store_over(alloc, stopping(alloc, passes, kept)?)?;
+    let is_done = store.replace(b"new").is_ok();
+    Ok((is_done, store.into_disk().into_inner()))
+}
+
+// Whether a load gives the new content, and the disk then.
+fn loaded(alloc: Global, disk: MemDisk) -> Result<(bool, MemDisk), AllocError> {
+    let mut store = store_over(alloc, disk)?;
+    let is_new = matches!(store.load(9), Ok(Some(bytes)) if bytes.as_slice() == b"new".as_slice());
+    Ok((is_new, store.into_disk()))
 }
 
 // A save of four calls: how many of them pass; whether the call after these is still made; and what may be left.
@@ -58,72 +76,53 @@ const STOPS: &[(u32, Kept, Leaves)] = &[
 #[test]
 fn a_stop_leaves_the_old_or_the_new(rt: HostRuntime) -> Result<(), Fail> {
     for (passes, kept, wanted) in STOPS.iter() {
-        let path = String::from_str(rt.alloc(), "ledger")?;
-        let disk = stopping(rt.alloc(), *passes, *kept)?;
-        let mut store = FileStore::new(disk, path);
-        let answer = store.replace(b"new");
-        assert!(rt; answer.err() == (*passes < 4).then_some(StoreFault::Device));
-        let disk = store.into_disk().into_inner();
-        assert!(rt; what_is_left(&disk) == Some(*wanted));
-        let mut store = FileStore::new(disk, String::from_str(rt.alloc(), "ledger")?);
-        let is_new =
-            matches!(store.load(9), Ok(Some(bytes)) if bytes.as_slice() == b"new".as_slice());
+        let (is_done, disk) = saved(rt.alloc(), *passes, *kept)?;
+        assert!(rt; is_done == (*passes == 4) && what_is_left(&disk) == Some(*wanted));
+        let (is_new, disk) = loaded(rt.alloc(), disk)?;
         let left = if is_new { Leaves::New } else { Leaves::Old };
-        assert!(rt; what_is_left(&store.into_disk()) == Some(left));
+        assert!(rt; what_is_left(&disk) == Some(left));
         assert!(rt; is_new || *wanted != Leaves::New);
     }
     Ok(())
 }
 
-// Ways to save that a stop can spoil.
+// A call of a save.
 #[derive(Clone, Copy)]
-enum Wrong {
-    InPlace,
-    NoSync,
-    SyncAfterRename,
-    NoSyncOfFolder,
+enum Step {
+    Write(&'static str),
+    Sync(&'static str),
+    Rename,
+    SyncEntry,
 }
 
-fn save_wrong<D: Disk>(disk: &mut D, wrong: Wrong) -> Result<(), StoreFault> {
-    match wrong {
-        Wrong::InPlace => {
-            disk.write("ledger", b"new")?;
-            disk.sync("ledger")?;
-            disk.sync_entry("ledger")
-        }
-        Wrong::NoSync => {
-            disk.write("ledger.new", b"new")?;
-            disk.rename("ledger.new", "ledger")?;
-            disk.sync_entry("ledger")
-        }
-        Wrong::SyncAfterRename => {
-            disk.write("ledger.new", b"new")?;
-            disk.rename("ledger.new", "ledger")?;
-            disk.sync("ledger")?;
-            disk.sync_entry("ledger")
-        }
-        Wrong::NoSyncOfFolder => {
-            disk.write("ledger.new", b"new")?;
-            disk.sync("ledger.new")?;
-            disk.rename("ledger.new", "ledger")
+fn save_by<D: Disk>(disk: &mut D, steps: &[Step]) -> Result<(), StoreFault> {
+    for step in steps {
+        match *step {
+            Step::Write(name) => disk.write(name, b"new")?,
+            Step::Sync(name) => disk.sync(name)?,
+            Step::Rename => disk.rename("ledger.new", "ledger")?,
+            Step::SyncEntry => disk.sync_entry("ledger")?,
         }
     }
+    Ok(())
 }
 
-// A wrong way, how many of its calls pass, whether it is done then, and what may be left: within the save or after it
-// anything, or the old content after it.
-const WRONG: &[(Wrong, u32, bool, Leaves)] = &[
-    (Wrong::InPlace, 1, false, Leaves::Anything),
-    (Wrong::SyncAfterRename, 2, false, Leaves::Anything),
-    (Wrong::NoSync, 9, true, Leaves::Anything),
-    (Wrong::NoSyncOfFolder, 9, true, Leaves::Either),
+// A wrong way to save, how many of its calls pass, whether it is done then, and what may be left: within the save or
+// after it anything, or the old content after it.
+#[rattlefmt::skip]
+const WRONG: &[(&[Step], u32, bool, Leaves)] = &[
+    // In place; synced after the rename; not synced; with no sync of the folder.
+    (&[Step::Write("ledger"), Step::Sync("ledger"), Step::SyncEntry], 1, false, Leaves::Anything),
+    (&[Step::Write("ledger.new"), Step::Rename, Step::Sync("ledger"), Step::SyncEntry], 2, false, Leaves::Anything),
+    (&[Step::Write("ledger.new"), Step::Rename, Step::SyncEntry], 9, true, Leaves::Anything),
+    (&[Step::Write("ledger.new"), Step::Sync("ledger.new"), Step::Rename], 9, true, Leaves::Either),
 ];
 
 #[test]
 fn a_stop_spoils_a_wrong_save(rt: HostRuntime) -> Result<(), Fail> {
-    for (wrong, passes, is_done, wanted) in WRONG.iter() {
+    for (steps, passes, is_done, wanted) in WRONG.iter() {
         let mut disk = stopping(rt.alloc(), *passes, Kept::Old)?;
-        assert!(rt; save_wrong(&mut disk, *wrong).is_ok() == *is_done);
+        assert!(rt; save_by(&mut disk, steps).is_ok() == *is_done);
         assert!(rt; what_is_left(&disk.into_inner()) == Some(*wanted));
     }
     Ok(())

@@ -3,7 +3,7 @@
 //! makes of the names that a folder lists.
 
 use crate::calls::{Call, Memory, answer, text_of};
-use crate::scripted::{Listed, Scripted, Steps};
+use crate::scripted::{Plan, Scripted};
 use dm_store::{FileStore, RealDisk, Store, StoreFault};
 use std::fs::Permissions;
 use std::io::ErrorKind;
@@ -18,41 +18,51 @@ const MOST_GROWTHS: u64 = 100;
 
 type Text = &'static str;
 
-// A call, what its file holds before and after it, what is answered, the calls on the file system, and how many of
-// them leave the file as it was.
-type Case = (Call, Text, Text, Text, Steps, usize);
+// A call, what its file holds before and after it, what is answered, how many of the calls on the file system leave the
+// file as it was, and these calls; or nothing, where another case has them.
+type Case = (Call, Text, Text, Text, usize, Text);
 
 #[rattlefmt::skip]
 const CASES: &[Case] = &[
-    (Call::Load(9), "one", "one", "one", Steps::Load, 9),
-    (Call::LoadKey(9), "one", "one", "one", Steps::LoadKey, 9),
-    (Call::Keys(9, &[1]), "one", "one", "done", Steps::Keys, 9),
-    (Call::Settle, "one", "one", "done", Steps::Settle, 9),
-    (Call::Settle, "nothing", "nothing", "done", Steps::Any, 9),
-    (Call::Load(usize::MAX), "one", "one", "one", Steps::Any, 9),
-    (Call::Load(2), "one", "one", "one", Steps::Any, 9),
-    (Call::Load(1), "one", "one", "on", Steps::Any, 9),
-    (Call::LoadKey(0), "one", "one", "o", Steps::Any, 9),
-    (Call::Load(9), "nothing", "nothing", "nothing", Steps::LoadNothing, 9),
-    (Call::Replace, "one", "three", "done", Steps::Replace, 7),
-    (Call::ReplaceKey(false), "one", "three", "done", Steps::ReplaceKey, 10),
-    (Call::ReplaceKey(true), "one", "three", "done", Steps::ReplaceListed, 10),
-    (Call::ReplaceKey(true), "nothing", "three", "done", Steps::ReplaceNothing, 10),
-    (Call::RemoveKey, "one", "nothing", "done", Steps::Remove, 1),
-    (Call::RemoveKey, "nothing", "nothing", "done", Steps::RemoveNothing, 0),
+    // A load sees what is there before it opens it and after. It takes two bytes at a time, and then none. Then a store
+    // syncs the folder; a set does that in a call of its own.
+    (Call::Load(9), "one", "one", "one", 9,
+        "look pages/0001, open pages/0001, look, read, read, read, open above/pages/, sync"),
+    (Call::LoadKey(9), "one", "one", "one", 9, "look pages/0001, open pages/0001, look, read, read, read"),
+    (Call::Load(usize::MAX), "one", "one", "one", 9, ""),
+    (Call::Load(2), "one", "one", "one", 9, ""),
+    (Call::Load(1), "one", "one", "on", 9, ""),
+    (Call::LoadKey(0), "one", "one", "o", 9, ""),
+    (Call::Load(9), "nothing", "nothing", "nothing", 9, "look pages/0001"),
+    // The names are taken until there are none.
+    (Call::Keys(9, &[1]), "one", "one", "done", 9, "list above/pages/, names, names"),
+    (Call::Settle, "one", "one", "done", 9, "open above/pages/, sync"),
+    (Call::Settle, "nothing", "nothing", "done", 9, ""),
+    // The new bytes go to a file beside, which gets the mode of the old one, two at a time. It is synced, and takes the
+    // name; then the folder is synced.
+    (Call::Replace, "one", "three", "done", 7,
+        "look pages/0001, open pages/0001.new, mode, write, write, write, sync, rename pages/0001.new, \
+        open above/pages/, sync"),
+    // A set makes the folder first, whether it is there or not, and syncs the one above it, but not where it has listed
+    // a key.
+    (Call::ReplaceKey(false), "one", "three", "done", 10,
+        "make above/pages, open above/, sync, look pages/0001, open pages/0001.new, mode, write, write, write, sync, \
+        rename pages/0001.new, open above/pages/, sync"),
+    (Call::ReplaceKey(true), "one", "three", "done", 10,
+        "list above/pages/, names, names, look pages/0001, open pages/0001.new, mode, write, write, write, sync, \
+        rename pages/0001.new, open above/pages/, sync"),
+    (Call::ReplaceKey(true), "nothing", "three", "done", 10,
+        "list above/pages/, make above/pages, open above/, sync, look pages/0001, open pages/0001.new, write, write, \
+        write, sync, rename pages/0001.new, open above/pages/, sync"),
+    // A draft goes first. If neither the file nor its folder is there, the folder above is synced.
+    (Call::RemoveKey, "one", "nothing", "done", 1,
+        "remove pages/0001.new, remove pages/0001, open above/pages/, sync"),
+    (Call::RemoveKey, "nothing", "nothing", "done", 0,
+        "remove pages/0001.new, remove pages/0001, open above/pages/, open above/, sync"),
 ];
 
-// Makes the folder anew, with the file in it, or takes it away where the file is to hold nothing.
-fn make(rt: &HostRuntime, folder: &str, file: &str, held: &str) -> io::Result<()> {
-    if fs::exists(rt, folder)? {
-        fs::remove_dir_all(rt, folder)?;
-    }
-    if held == "nothing" {
-        return Ok(());
-    }
-    fs::create_dir(rt, folder)?;
-    fs::write(rt, file, held)
-}
+// Any calls may come.
+const ANY_CALLS: Plan = ("", 0, ErrorKind::PermissionDenied);
 
 // What a file holds.
 fn held(rt: &HostRuntime, file: &str) -> &'static str {
@@ -62,18 +72,28 @@ fn held(rt: &HostRuntime, file: &str) -> &'static str {
     }
 }
 
-// Where the cases are tried: the system's files and those under a script, and the paths of the folder and of the file.
+// Where the cases are tried: the system's files and those under a script, and the paths of the folder, of the file and
+// of its draft.
 #[derive(Drop)]
 struct Place<'a> {
     rt: &'a HostRuntime,
     files: &'a Scripted,
     folder: &'a str,
     file: &'a str,
+    draft: &'a str,
 }
 
 impl Place<'_> {
+    // Makes the folder anew, with the file in it, or takes it away where the file is to hold nothing.
     fn make(&self, content: &str) -> io::Result<()> {
-        make(self.rt, self.folder, self.file, content)
+        if fs::exists(self.rt, self.folder)? {
+            fs::remove_dir_all(self.rt, self.folder)?;
+        }
+        if content == "nothing" {
+            return Ok(());
+        }
+        fs::create_dir(self.rt, self.folder)?;
+        fs::write(self.rt, self.file, content)
     }
 
     // What is answered to a call, and what the file holds then.
@@ -85,28 +105,26 @@ impl Place<'_> {
     // The call of a case with each call on the file system failing, which leaves no draft, and with none; and where the
     // system syncs no folders, which is the last that a call does.
     fn fail_each(&self, rt: &impl Abort, case: &Case) -> io::Result<()> {
-        let (call, before, after, done, steps, leaves) = *case;
+        let (call, before, after, done, leaves, steps) = *case;
         let memory = Refusing::new(self.files.alloc(), u64::MAX);
-        let count = steps.text().split(',').count();
-        let draft = format!(in self.files.alloc(); "{}.new", self.file)?;
+        let count = steps.split(',').count();
         for passes in 0..=count {
             self.make(before)?;
-            self.files.begin(steps, passes, ErrorKind::PermissionDenied);
-            if passes < count && steps != Steps::Any {
+            self.files
+                .begin((steps, passes, ErrorKind::PermissionDenied));
+            if passes < count && !steps.is_empty() {
                 let content = if passes <= leaves { before } else { after };
-                assert!(rt;
-                    self.tried(call, &memory) == ("Device", content),
-                    "{passes}"
-                );
-                assert!(rt; held(self.rt, draft.as_str()) == "nothing");
-                self.files.begin(Steps::Any, 0, ErrorKind::PermissionDenied);
+                let tried = self.tried(call, &memory);
+                assert!(rt; tried == ("Device", content), "{passes}");
+                assert!(rt; held(self.rt, self.draft) == "nothing");
+                self.files.begin(ANY_CALLS);
             }
             assert!(rt; self.tried(call, &memory) == (done, after), "{passes}");
         }
-        if steps.text().ends_with("sync") {
+        if steps.ends_with("sync") {
             self.make(before)?;
             let last = count.saturating_sub(1);
-            self.files.begin(steps, last, ErrorKind::InvalidInput);
+            self.files.begin((steps, last, ErrorKind::InvalidInput));
             let answer = if call.is_load() { done } else { "Device" };
             assert!(rt; self.tried(call, &memory) == (answer, after));
         }
@@ -116,7 +134,7 @@ impl Place<'_> {
     // The call of a case with each growth refused, until none is, if that comes.
     fn refuse_each(&self, rt: &impl Abort, case: &Case) -> io::Result<bool> {
         let (call, before, after, done, _, _) = *case;
-        self.files.begin(Steps::Any, 0, ErrorKind::PermissionDenied);
+        self.files.begin(ANY_CALLS);
         for passes in 0..MOST_GROWTHS {
             self.make(before)?;
             let memory = Refusing::new(self.files.alloc(), passes);
@@ -145,16 +163,16 @@ fn path_of(rt: &HostRuntime, name: &str) -> io::Result<String> {
 #[test]
 fn each_call_fails_and_is_refused(rt: HostRuntime) -> Result<(), Fail> {
     let above = path_of(&rt, "above")?;
-    make(&rt, above.as_str(), "", "nothing")?;
     fs::create_dir(&rt, above.as_str())?;
     let folder = format!(in rt.alloc(); "{above}/pages")?;
-    let file = format!(in rt.alloc(); "{above}/pages/0001")?;
-    let files = Scripted::new(rt.clone()?)?;
+    let file = format!(in rt.alloc(); "{folder}/0001")?;
+    let draft = format!(in rt.alloc(); "{file}.new")?;
     let place = Place {
         rt: &rt,
-        files: &files,
+        files: &Scripted::new(rt.clone()?)?,
         folder: folder.as_str(),
         file: file.as_str(),
+        draft: draft.as_str(),
     };
     for case in CASES.iter() {
         place.fail_each(&rt, case)?;
@@ -164,17 +182,25 @@ fn each_call_fails_and_is_refused(rt: HostRuntime) -> Result<(), Fail> {
     Ok(())
 }
 
+// Replaces what a file holds; a new file may be one that has to be new.
+fn replace(rt: &HostRuntime, file: &str, bytes: &[u8], is_new: bool) -> Result<(), StoreFault> {
+    let path = String::from_str(rt.alloc(), file)?;
+    let disk = if is_new {
+        RealDisk::of_new_files(rt.alloc(), rt)
+    } else {
+        RealDisk::new(rt.alloc(), rt)
+    };
+    FileStore::new(disk, path).replace(bytes)
+}
+
 // A file that came to the path of a new one stays, and no draft is left.
 #[test]
 fn a_new_file_takes_the_place_of_nothing(rt: HostRuntime) -> Result<(), Fail> {
     let path = path_of(&rt, "new")?;
     let draft = format!(in rt.alloc(); "{path}.new")?;
-    let disk = RealDisk::of_new_files(rt.alloc(), &rt);
-    let mut store = FileStore::new(disk, path.clone()?);
-    assert!(rt; store.replace(b"one") == Ok(()));
-    assert!(rt; store.replace(b"three") == Err(StoreFault::Device));
-    assert!(rt; held(&rt, path.as_str()) == "one");
-    assert!(rt; held(&rt, draft.as_str()) == "nothing");
+    assert!(rt; replace(&rt, path.as_str(), b"one", true) == Ok(()));
+    assert!(rt; replace(&rt, path.as_str(), b"three", true) == Err(StoreFault::Device));
+    assert!(rt; held(&rt, path.as_str()) == "one" && held(&rt, draft.as_str()) == "nothing");
     fs::remove_file(&rt, path.as_str())?;
     Ok(())
 }
@@ -184,26 +210,30 @@ fn a_save_keeps_the_mode(rt: HostRuntime) -> Result<(), Fail> {
     let path = path_of(&rt, "mode")?;
     fs::write(&rt, path.as_str(), "one")?;
     fs::set_permissions(&rt, path.as_str(), Permissions::from_mode(0o606))?;
-    let mut store = FileStore::new(RealDisk::new(rt.alloc(), &rt), path.clone()?);
-    assert!(rt; store.replace(b"three") == Ok(()));
+    assert!(rt; replace(&rt, path.as_str(), b"three", false) == Ok(()));
     assert!(rt; held(&rt, path.as_str()) == "three");
     assert!(rt; fs::metadata(&rt, path.as_str())?.permissions().mode() & 0o777 == 0o606);
     fs::remove_file(&rt, path.as_str())?;
     Ok(())
 }
 
+const FOUR_KEYS: &[u8] = b"0003\0ffff\0other\00001\00002\0";
+
+const AMONG_OTHERS: &[u8] = b"00AB\0000g\000ab\0001\000001\00002.new\0\xc3\xa9t\xc3\xa9\0";
+
 // What a folder lists, how often, and what `keys` answers then.
 #[rattlefmt::skip]
-const LISTINGS: &[(Listed, u32, Call, &str)] = &[
-    (Listed::FourKeys, 1, Call::Keys(9, &[1, 2, 3, 65_535]), "done"),
-    (Listed::FourKeys, 1, Call::Keys(3, &[1, 2, 3, 65_535]), "done"),
-    (Listed::FourKeys, 1, Call::Keys(1, &[1, 2]), "done"),
-    (Listed::FourKeys, 1, Call::Keys(0, &[1]), "done"),
-    (Listed::AmongOthers, 1, Call::Keys(9, &[0xab]), "done"),
-    (Listed::NoTextLast, 1, Call::Keys(9, &[]), "Device"),
-    (Listed::NoTextFirst, 1, Call::Keys(9, &[]), "Device"),
-    (Listed::Other, 131_072, Call::Keys(9, &[]), "done"),
-    (Listed::Other, 131_073, Call::Keys(9, &[]), "Device"),
+const LISTINGS: &[(&[u8], u32, Call, &str)] = &[
+    (FOUR_KEYS, 1, Call::Keys(9, &[1, 2, 3, 65_535]), "done"),
+    (FOUR_KEYS, 1, Call::Keys(3, &[1, 2, 3, 65_535]), "done"),
+    (FOUR_KEYS, 1, Call::Keys(1, &[1, 2]), "done"),
+    (FOUR_KEYS, 1, Call::Keys(0, &[1]), "done"),
+    (AMONG_OTHERS, 1, Call::Keys(9, &[0xab]), "done"),
+    // Names that are no text.
+    (b"0003\0\xff\xfe\0", 1, Call::Keys(9, &[]), "Device"),
+    (b"\xff\xfe\00003\0", 1, Call::Keys(9, &[]), "Device"),
+    (b"other\0", 131_072, Call::Keys(9, &[]), "done"),
+    (b"other\0", 131_073, Call::Keys(9, &[]), "Device"),
 ];
 
 #[test]

@@ -12,114 +12,25 @@ use std::rt::Files;
 // How many bytes a read or a write moves.
 const MOST_BYTES: usize = 2;
 
-// The calls that are to come, each with the end of the path that it names.
-#[derive(Clone, Copy, PartialEq, Eq)]
-pub enum Steps {
-    Any,
-    // A load sees what is there before it opens it and after. It takes two bytes at a time, and then none. Then a
-    // store syncs the folder; a set does that in a call of its own.
-    Load,
-    LoadKey,
-    LoadNothing,
-    // The new bytes go to a file beside, which gets the mode of the old one, two at a time. It is synced, and takes the
-    // name; then the folder is synced.
-    Replace,
-    // A set makes the folder first, whether it is there or not, and syncs the one above it.
-    ReplaceKey,
-    // But not where it has listed a key.
-    ReplaceListed,
-    ReplaceNothing,
-    // A draft goes first.
-    Remove,
-    // If neither the file nor its folder is there, the folder above is synced.
-    RemoveNothing,
-    // The names are taken until there are none.
-    Keys,
-    Settle,
-}
+// The calls that are to come, each with the end of the path that it names, or nothing where any may come; how many of
+// them pass before one fails; and by which error.
+pub type Plan = (&'static str, usize, ErrorKind);
 
-impl Steps {
-    pub fn text(self) -> &'static str {
-        match self {
-            Steps::Any => "",
-            Steps::Load => {
-                "look pages/0001, open pages/0001, look, read, read, read, open above/pages/, sync"
-            }
-            Steps::LoadKey => "look pages/0001, open pages/0001, look, read, read, read",
-            Steps::LoadNothing => "look pages/0001",
-            Steps::Replace => {
-                "look pages/0001, open pages/0001.new, mode, write, write, write, sync, \
-                rename pages/0001.new, open above/pages/, sync"
-            }
-            Steps::ReplaceKey => {
-                "make above/pages, open above/, sync, look pages/0001, open pages/0001.new, mode, \
-                write, write, write, sync, rename pages/0001.new, open above/pages/, sync"
-            }
-            Steps::ReplaceListed => {
-                "list above/pages/, names, names, look pages/0001, open pages/0001.new, mode, \
-                write, write, write, sync, rename pages/0001.new, open above/pages/, sync"
-            }
-            Steps::ReplaceNothing => {
-                "list above/pages/, make above/pages, open above/, sync, look pages/0001, \
-                open pages/0001.new, write, write, write, sync, rename pages/0001.new, \
-                open above/pages/, sync"
-            }
-            Steps::Remove => { "remove pages/0001.new, remove pages/0001, open above/pages/, sync" }
-            Steps::RemoveNothing => {
-                "remove pages/0001.new, remove pages/0001, open above/pages/, open above/, sync"
-            }
-            Steps::Keys => "list above/pages/, names, names",
-            Steps::Settle => "open above/pages/, sync",
-        }
-    }
-}
-
-// What a folder lists.
-#[derive(Clone, Copy)]
-pub enum Listed {
-    OneKey,
-    FourKeys,
-    AmongOthers,
-    Other,
-    NoTextLast,
-    NoTextFirst,
-}
-
-impl Listed {
-    // The names, each ended by a NUL.
-    fn names(self) -> &'static [u8] {
-        match self {
-            Listed::OneKey => b"0001\0",
-            Listed::FourKeys => b"0003\0ffff\0other\00001\00002\0",
-            Listed::AmongOthers => b"00AB\0000g\000ab\0001\000001\00002.new\0\xc3\xa9t\xc3\xa9\0",
-            Listed::Other => b"other\0",
-            Listed::NoTextLast => b"0003\0\xff\xfe\0",
-            Listed::NoTextFirst => b"\xff\xfe\00003\0",
-        }
-    }
-}
-
-// The calls that are to come; the one that fails, by its place, and its error; and what a folder lists.
+// What is to come, and how many calls came; and the names that each folder lists, each ended by a NUL, and how often.
 #[derive(Drop)]
 struct Script {
-    steps: Cell<Steps>,
+    plan: Cell<Plan>,
     came: Cell<usize>,
-    passes: Cell<usize>,
-    error: Cell<ErrorKind>,
-    // The names of each folder, and how often they are listed.
-    names: Cell<Listed>,
-    times: Cell<u32>,
+    names: Cell<(&'static [u8], u32)>,
 }
 
 impl Script {
     // Whether this call may come now. A draft may be removed after the call that failed.
     fn comes(&self, call: &str, path: &str) -> io::Result<()> {
+        let (steps, passes, error) = self.plan.get();
         let place = self.came.get();
         self.came.set(place.saturating_add(1));
-        if place > self.passes.get() && call == "remove" && path.ends_with(".new") {
-            return Ok(());
-        }
-        let steps = self.steps.get().text();
+        let is_of_draft = call == "remove" && path.ends_with(".new");
         let is_right = match steps.split(',').nth(place) {
             Some(step) => {
                 let (name, end) = step.trim().split_once(' ').unwrap_or((step.trim(), ""));
@@ -127,10 +38,10 @@ impl Script {
             }
             None => false,
         };
-        if steps.is_empty() || is_right && place != self.passes.get() {
+        if steps.is_empty() || place > passes && is_of_draft || place != passes && is_right {
             Ok(())
         } else {
-            Err(io::Error::from(self.error.get()))
+            Err(io::Error::from(error))
         }
     }
 }
@@ -146,12 +57,9 @@ impl Scripted {
     // The system's files: any call may come, and each folder lists the key 1.
     pub fn new(system: HostRuntime) -> io::Result<Scripted> {
         let script = Script {
-            steps: Cell::new(Steps::Any),
+            plan: Cell::new(("", 0, ErrorKind::PermissionDenied)),
             came: Cell::new(0),
-            passes: Cell::new(usize::MAX),
-            error: Cell::new(ErrorKind::PermissionDenied),
-            names: Cell::new(Listed::OneKey),
-            times: Cell::new(1),
+            names: Cell::new((b"0001\0", 1)),
         };
         let script = Rc::new(system.alloc(), script)?;
         Ok(Scripted { system, script })
@@ -161,18 +69,15 @@ impl Scripted {
         self.system.alloc()
     }
 
-    // From now on these calls are to come, and the one after that many fails by the error.
-    pub fn begin(&self, steps: Steps, passes: usize, error: ErrorKind) {
-        self.script.steps.set(steps);
+    // From now on this is to come.
+    pub fn begin(&self, plan: Plan) {
+        self.script.plan.set(plan);
         self.script.came.set(0);
-        self.script.passes.set(passes);
-        self.script.error.set(error);
     }
 
     // From now on each folder lists these names that often.
-    pub fn list(&self, names: Listed, times: u32) {
-        self.script.names.set(names);
-        self.script.times.set(times);
+    pub fn list(&self, names: &'static [u8], times: u32) {
+        self.script.names.set((names, times));
     }
 }
 
@@ -198,7 +103,7 @@ fn unsupported<T>() -> io::Result<T> {
 impl Read for Names {
     fn read(&mut self, buf: &mut [u8]) -> io::Result<usize> {
         self.script.comes("names", "")?;
-        let names = self.script.names.get().names();
+        let (names, _) = self.script.names.get();
         let count = names.len();
         if self.left == 0 || buf.len() < count {
             return Ok(0);
@@ -224,15 +129,13 @@ impl Write for ScriptedFile {
         self.system.write(&buf[..count])
     }
 
-    fn flush(&mut self) -> io::Result<()> {
-        unsupported()
-    }
+    #[rattlefmt::skip]
+    fn flush(&mut self) -> io::Result<()> { unsupported() }
 }
 
 impl Seek for ScriptedFile {
-    fn seek(&mut self, _to: SeekFrom) -> io::Result<u64> {
-        unsupported()
-    }
+    #[rattlefmt::skip]
+    fn seek(&mut self, _to: SeekFrom) -> io::Result<u64> { unsupported() }
 }
 
 impl OpenFile for ScriptedFile {
@@ -241,18 +144,16 @@ impl OpenFile for ScriptedFile {
         self.system.metadata()
     }
 
-    fn set_len(&self, _size: u64) -> io::Result<()> {
-        unsupported()
-    }
+    #[rattlefmt::skip]
+    fn set_len(&self, _size: u64) -> io::Result<()> { unsupported() }
 
     fn sync_all(&self) -> io::Result<()> {
         self.script.comes("sync", "")?;
         self.system.sync_all()
     }
 
-    fn sync_data(&self) -> io::Result<()> {
-        unsupported()
-    }
+    #[rattlefmt::skip]
+    fn sync_data(&self) -> io::Result<()> { unsupported() }
 
     fn set_permissions(&self, mode: Permissions) -> io::Result<()> {
         self.script.comes("mode", "")?;
@@ -278,7 +179,7 @@ impl Files for Scripted {
         self.system.metadata(path)?;
         Ok(Names {
             script: self.script.clone()?,
-            left: self.script.times.get(),
+            left: self.script.names.get().1,
         })
     }
 
@@ -287,13 +188,11 @@ impl Files for Scripted {
         self.system.metadata(path)
     }
 
-    fn symlink_metadata(&self, _path: &str) -> io::Result<Metadata> {
-        unsupported()
-    }
+    #[rattlefmt::skip]
+    fn symlink_metadata(&self, _path: &str) -> io::Result<Metadata> { unsupported() }
 
-    fn copy(&self, _from: &str, _to: &str) -> io::Result<u64> {
-        unsupported()
-    }
+    #[rattlefmt::skip]
+    fn copy(&self, _from: &str, _to: &str) -> io::Result<u64> { unsupported() }
 
     fn rename(&self, from: &str, to: &str) -> io::Result<()> {
         self.script.comes("rename", from)?;
@@ -310,11 +209,9 @@ impl Files for Scripted {
         self.system.create_dir(path)
     }
 
-    fn remove_dir(&self, _path: &str) -> io::Result<()> {
-        unsupported()
-    }
+    #[rattlefmt::skip]
+    fn remove_dir(&self, _path: &str) -> io::Result<()> { unsupported() }
 
-    fn remove_dir_all<B: Allocator>(&self, _alloc: B, _path: &str) -> io::Result<()> {
-        unsupported()
-    }
+    #[rattlefmt::skip]
+    fn remove_dir_all<B: Allocator>(&self, _alloc: B, _path: &str) -> io::Result<()> { unsupported() }
 }
