@@ -11,8 +11,6 @@ mod left_files;
 #[cfg(test)]
 mod machine;
 #[cfg(test)]
-mod refused_calls;
-#[cfg(test)]
 mod refused_commands;
 #[cfg(test)]
 mod stops;

@@ -59,6 +59,7 @@ impl<'a> MachineDisk<'a> {
     }
 }
 
+#[rattlefmt::skip]
 impl Disk for MachineDisk<'_> {
     ghost use Rattle.dm_store.specs.Disk.{unclaimed};
 
@@ -69,38 +70,19 @@ impl Disk for MachineDisk<'_> {
     fn read(&mut self, name: &str, limit: usize) -> Result<Option<Vec<u8>>, StoreFault> {
         self.lent()?.read(name, limit)
     }
-
-    fn write(&mut self, name: &str, bytes: &[u8]) -> Result<(), StoreFault> {
-        self.lent()?.write(name, bytes)
-    }
-
-    fn sync(&mut self, name: &str) -> Result<(), StoreFault> {
-        self.lent()?.sync(name)
-    }
-
-    fn rename(&mut self, from: &str, to: &str) -> Result<(), StoreFault> {
-        self.lent()?.rename(from, to)
-    }
-
-    fn remove(&mut self, name: &str) -> Result<(), StoreFault> {
-        self.lent()?.remove(name)
-    }
-
-    fn sync_entry(&mut self, name: &str) -> Result<(), StoreFault> {
-        self.lent()?.sync_entry(name)
-    }
+    fn write(&mut self, name: &str, bytes: &[u8]) -> Result<(), StoreFault> { self.lent()?.write(name, bytes) }
+    fn sync(&mut self, name: &str) -> Result<(), StoreFault> { self.lent()?.sync(name) }
+    fn rename(&mut self, from: &str, to: &str) -> Result<(), StoreFault> { self.lent()?.rename(from, to) }
+    fn remove(&mut self, name: &str) -> Result<(), StoreFault> { self.lent()?.remove(name) }
+    fn sync_entry(&mut self, name: &str) -> Result<(), StoreFault> { self.lent()?.sync_entry(name) }
 }
 
+#[rattlefmt::skip]
 impl Folders for MachineDisk<'_> {
-    fn make_folder(&mut self, folder: &str) -> Result<(), StoreFault> {
-        self.lent()?.make_folder(folder)
-    }
+    fn make_folder(&mut self, folder: &str) -> Result<(), StoreFault> { self.lent()?.make_folder(folder) }
 
     fn keys(&mut self, folder: &str, limit: usize) -> Result<Vec<u16>, StoreFault> {
         self.lent()?.keys(folder, limit)
     }
-
-    fn settle_folder(&mut self, folder: &str) -> Result<(), StoreFault> {
-        self.lent()?.settle_folder(folder)
-    }
+    fn settle_folder(&mut self, folder: &str) -> Result<(), StoreFault> { self.lent()?.settle_folder(folder) }
 }

@@ -1,7 +1,10 @@
-//! Each command over memory that is refused, growth by growth.
+//! Each command over memory that is refused, growth by growth. And the texts of refusals that no command writes.
 
 use crate::calls::{CALLS, Call, NEW_LEDGER, Whole, alone, alone_whole, is_whole, streams_of};
+use dm_append_label::LabelFault;
+use dm_encodation::DecodeFault;
 use relay_printer_commands::audit_command;
+use relay_symbol_commands::{ReadRefusal, SymbolRefusal};
 use std::alloc::Global;
 use std::process::Abort;
 use std::test::Fail;
@@ -44,24 +47,19 @@ fn refusals_of(rt: &impl Abort, alloc: Global, call: Call) -> Result<u64, Fail> 
     Err("growths without end".into())
 }
 
-// `ledger`, `give`, `take`, `left`, `ticket` and `held` take no memory of their own. The growths of a world are refused
-// in a test of another crate.
+// Whether a command takes no memory of its own.
+#[rattlefmt::skip]
+fn takes_none(call: Call) -> bool {
+    matches!(call, Call::Ticket | Call::Ledger | Call::Give | Call::GiveLast | Call::Take | Call::Left | Call::Held(_))
+}
+
+// The growths of a world are refused in a test of another crate.
 #[test]
 fn commands_are_refused_by_name(rt: HostRuntime) -> Result<(), Fail> {
     for call in CALLS {
         if !matches!(call, Call::World) {
             let refusals = refusals_of(&rt, rt.alloc(), call)?;
-            let takes_none = matches!(
-                call,
-                Call::Ticket
-                    | Call::Ledger
-                    | Call::Give
-                    | Call::GiveLast
-                    | Call::Take
-                    | Call::Left
-                    | Call::Held(_)
-            );
-            assert!(rt; (refusals == 0) == takes_none, "{call:?} {refusals}");
+            assert!(rt; (refusals == 0) == takes_none(call), "{call:?} {refusals}");
         }
     }
     Ok(())
@@ -88,4 +86,26 @@ fn an_audit_is_refused_by_name(rt: HostRuntime) -> Result<(), Fail> {
         );
     }
     Err("growths without end".into())
+}
+
+const TEXTS: &str = "\
+the side is not that of a symbol
+the input could not be read
+the document does not fit the symbol
+out of memory
+the image has not the shape of a symbol
+the symbol is not a label
+what begins at position 3 is cut off
+out of memory";
+
+#[rattlefmt::skip]
+#[test]
+fn refusals_say_what_is_wrong(rt: HostRuntime) -> Result<(), Fail> {
+    let texts = format!(in rt.alloc(); "{}\n{}\n{}\n{}\n{}\n{}\n{}\n{}",
+        SymbolRefusal::Side, SymbolRefusal::Read, SymbolRefusal::TooLong, SymbolRefusal::Memory,
+        ReadRefusal::Shape, ReadRefusal::Label(LabelFault::NotAppended),
+        ReadRefusal::Text(DecodeFault::Cut { at: 3 }), ReadRefusal::Memory,
+    )?;
+    assert!(rt; texts.as_str() == TEXTS);
+    Ok(())
 }

@@ -67,7 +67,12 @@ fn done(answer: Result<(), StoreFault>) -> &'static str {
 }
 
 // The answer to a call on the store in the file of the key 1 of a folder. Its path takes memory too.
-fn of_store(files: &Scripted, memory: &Memory, folder: &str, call: Call) -> &'static str {
+fn of_store<A: Allocator + Copy>(
+    files: &Scripted,
+    memory: A,
+    folder: &str,
+    call: Call,
+) -> &'static str {
     let Ok(path) = format!(in memory; "{folder}/0001") else {
         return "Memory";
     };
@@ -78,38 +83,55 @@ fn of_store(files: &Scripted, memory: &Memory, folder: &str, call: Call) -> &'st
     }
 }
 
-// Lists the keys first.
-fn replaced_listed<S: StoreSet>(set: &mut S) -> &'static str {
-    match set.keys(9) {
-        Ok(_) => done(set.replace(1, b"three")),
-        Err(fault) => done(Err(fault)),
-    }
+// Calls on any set, without their contracts, so that what makes them is proved in little time.
+fn load_key<S: StoreSet>(
+    set: &mut S,
+    limit: usize,
+) -> Result<Option<Vec<u8, S::Memory>>, StoreFault> {
+    set.load(1, limit)
 }
 
-// The answer of any set: what is over that of a system is proved in more time.
-fn of_any_set<S: StoreSet>(mut set: S, call: Call) -> &'static str {
+fn keys_of<S: StoreSet>(set: &mut S, limit: usize) -> Result<Vec<u16, S::Memory>, StoreFault> {
+    set.keys(limit)
+}
+
+fn replace_key<S: StoreSet>(set: &mut S, is_listed: bool) -> Result<(), StoreFault> {
+    if is_listed {
+        set.keys(9)?;
+    }
+    set.replace(1, b"three")
+}
+
+fn remove_key<S: StoreSet>(set: &mut S) -> Result<(), StoreFault> {
+    set.remove(1)
+}
+
+// The same of the set in a folder. The names in it are given in an allocator of its own.
+fn of_set<A: Allocator + Copy>(
+    files: &(&Scripted, Global),
+    memory: A,
+    folder: &str,
+    call: Call,
+) -> &'static str {
+    let Ok(path) = String::from_str(memory, folder) else {
+        return "Memory";
+    };
+    let mut set = FileSet::new(RealDisk::new(memory, files), path);
     match call {
-        Call::LoadKey(limit) => loaded(set.load(1, limit)),
-        Call::RemoveKey => done(set.remove(1)),
-        Call::Settle => done(set.settle()),
-        Call::Keys(limit, wanted) => listed(set.keys(limit), wanted),
-        Call::ReplaceKey(true) => replaced_listed(&mut set),
-        _ => done(set.replace(1, b"three")),
+        Call::LoadKey(limit) => loaded(load_key(&mut set, limit)),
+        Call::Keys(limit, wanted) => listed(keys_of(&mut set, limit), wanted),
+        Call::ReplaceKey(is_listed) => done(replace_key(&mut set, is_listed)),
+        Call::RemoveKey => done(remove_key(&mut set)),
+        _ => done(set.settle()),
     }
 }
 
 // The answer to a call over files under a script.
 pub fn answer(files: &Scripted, memory: &Memory, folder: &str, call: Call) -> &'static str {
-    if matches!(&call, Call::Load(_) | Call::Replace) {
-        return of_store(files, memory, folder, call);
+    match call {
+        Call::Load(_) | Call::Replace => of_store(files, memory, folder, call),
+        _ => of_set(&(files, files.alloc()), memory, folder, call),
     }
-    let Ok(path) = String::from_str(memory, folder) else {
-        return "Memory";
-    };
-    of_any_set(
-        FileSet::new(RealDisk::new(memory, &(files, files.alloc())), path),
-        call,
-    )
 }
 
 #[test]

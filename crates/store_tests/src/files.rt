@@ -61,8 +61,13 @@ const CASES: &[Case] = &[
         "remove pages/0001.new, remove pages/0001, open above/pages/, open above/, sync"),
 ];
 
+// The calls of the case at a place.
+pub fn steps_of(place: usize) -> &'static str {
+    CASES.get(place).map_or("", |case| case.5)
+}
+
 // Any calls may come.
-const ANY_CALLS: Plan = ("", 0, ErrorKind::PermissionDenied);
+const ANY_CALLS: Plan = (usize::MAX, 0, ErrorKind::PermissionDenied);
 
 // What a file holds.
 fn held(rt: &HostRuntime, file: &str) -> &'static str {
@@ -104,14 +109,14 @@ impl Place<'_> {
 
     // The call of a case with each call on the file system failing, which leaves no draft, and with none; and where the
     // system syncs no folders, which is the last that a call does.
-    fn fail_each(&self, rt: &impl Abort, case: &Case) -> io::Result<()> {
+    fn fail_each(&self, rt: &impl Abort, number: usize, case: &Case) -> io::Result<()> {
         let (call, before, after, done, leaves, steps) = *case;
         let memory = Refusing::new(self.files.alloc(), u64::MAX);
         let count = steps.split(',').count();
         for passes in 0..=count {
             self.make(before)?;
             self.files
-                .begin((steps, passes, ErrorKind::PermissionDenied));
+                .begin((number, passes, ErrorKind::PermissionDenied));
             if passes < count && !steps.is_empty() {
                 let content = if passes <= leaves { before } else { after };
                 let tried = self.tried(call, &memory);
@@ -124,7 +129,7 @@ impl Place<'_> {
         if steps.ends_with("sync") {
             self.make(before)?;
             let last = count.saturating_sub(1);
-            self.files.begin((steps, last, ErrorKind::InvalidInput));
+            self.files.begin((number, last, ErrorKind::InvalidInput));
             let answer = if call.is_load() { done } else { "Device" };
             assert!(rt; self.tried(call, &memory) == (answer, after));
         }
@@ -174,8 +179,8 @@ fn each_call_fails_and_is_refused(rt: HostRuntime) -> Result<(), Fail> {
         file: file.as_str(),
         draft: draft.as_str(),
     };
-    for case in CASES.iter() {
-        place.fail_each(&rt, case)?;
+    for (number, case) in CASES.iter().enumerate() {
+        place.fail_each(&rt, number, case)?;
         assert!(rt; place.refuse_each(&rt, case)?);
     }
     fs::remove_dir_all(&rt, above.as_str())?;
@@ -221,9 +226,10 @@ const FOUR_KEYS: &[u8] = b"0003\0ffff\0other\00001\00002\0";
 
 const AMONG_OTHERS: &[u8] = b"00AB\0000g\000ab\0001\000001\00002.new\0\xc3\xa9t\xc3\xa9\0";
 
-// What a folder lists, how often, and what `keys` answers then.
+// What a folder lists, each name ended by a NUL, how often, and what `keys` answers then.
 #[rattlefmt::skip]
 const LISTINGS: &[(&[u8], u32, Call, &str)] = &[
+    (b"0001\0", 1, Call::Keys(9, &[1]), "done"),
     (FOUR_KEYS, 1, Call::Keys(9, &[1, 2, 3, 65_535]), "done"),
     (FOUR_KEYS, 1, Call::Keys(3, &[1, 2, 3, 65_535]), "done"),
     (FOUR_KEYS, 1, Call::Keys(1, &[1, 2]), "done"),
@@ -236,13 +242,19 @@ const LISTINGS: &[(&[u8], u32, Call, &str)] = &[
     (b"other\0", 131_073, Call::Keys(9, &[]), "Device"),
 ];
 
+// The names of the listing at a place, and how often they come.
+pub fn listing_of(place: usize) -> (&'static [u8], u32) {
+    LISTINGS.get(place).map_or((b"", 0), |row| (row.0, row.1))
+}
+
 #[test]
 fn a_set_takes_the_names_in_any_order(rt: HostRuntime) -> Result<(), Fail> {
     let memory = Refusing::new(rt.alloc(), u64::MAX);
     let files = Scripted::new(rt.clone()?)?;
-    for (names, times, keys, wanted) in LISTINGS.iter() {
-        files.list(*names, *times);
-        assert!(rt; answer(&files, &memory, ".", *keys) == *wanted);
+    for (place, (_, _, keys, wanted)) in LISTINGS.iter().enumerate() {
+        files.list(place);
+        let listed = answer(&files, &memory, ".", *keys);
+        assert!(rt; listed == *wanted, "{place}");
     }
     Ok(())
 }

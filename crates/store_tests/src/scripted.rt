@@ -1,6 +1,7 @@
 //! A file system over the system's own that knows which calls are to come: the first other call fails, and so does the
 //! one that a test chooses. It moves few bytes at a time, and lists the names that a test makes up.
 
+use crate::files::{listing_of, steps_of};
 use std::alloc::{Allocator, Global};
 use std::cell::Cell;
 use std::fs::{File, Metadata, OpenFile, OpenOptions, Permissions};
@@ -12,22 +13,23 @@ use std::rt::Files;
 // How many bytes a read or a write moves.
 const MOST_BYTES: usize = 2;
 
-// The calls that are to come, each with the end of the path that it names, or nothing where any may come; how many of
-// them pass before one fails; and by which error.
-pub type Plan = (&'static str, usize, ErrorKind);
+// The case whose calls are to come, by its place among all, or any other number where any call may come; how many calls
+// pass before one fails; and by which error.
+pub type Plan = (usize, usize, ErrorKind);
 
-// What is to come, and how many calls came; and the names that each folder lists, each ended by a NUL, and how often.
+// The plan, how many calls came, and what each folder lists, by its place among all listings.
 #[derive(Drop)]
 struct Script {
     plan: Cell<Plan>,
     came: Cell<usize>,
-    names: Cell<(&'static [u8], u32)>,
+    listing: Cell<usize>,
 }
 
 impl Script {
     // Whether this call may come now. A draft may be removed after the call that failed.
     fn comes(&self, call: &str, path: &str) -> io::Result<()> {
-        let (steps, passes, error) = self.plan.get();
+        let (case, passes, error) = self.plan.get();
+        let steps = steps_of(case);
         let place = self.came.get();
         self.came.set(place.saturating_add(1));
         let is_of_draft = call == "remove" && path.ends_with(".new");
@@ -54,12 +56,12 @@ pub struct Scripted {
 }
 
 impl Scripted {
-    // The system's files: any call may come, and each folder lists the key 1.
+    // The system's files: any call may come, and each folder has the first listing.
     pub fn new(system: HostRuntime) -> io::Result<Scripted> {
         let script = Script {
-            plan: Cell::new(("", 0, ErrorKind::PermissionDenied)),
+            plan: Cell::new((usize::MAX, 0, ErrorKind::PermissionDenied)),
             came: Cell::new(0),
-            names: Cell::new((b"0001\0", 1)),
+            listing: Cell::new(0),
         };
         let script = Rc::new(system.alloc(), script)?;
         Ok(Scripted { system, script })
@@ -75,9 +77,9 @@ impl Scripted {
         self.script.came.set(0);
     }
 
-    // From now on each folder lists these names that often.
-    pub fn list(&self, names: &'static [u8], times: u32) {
-        self.script.names.set((names, times));
+    // From now on each folder has this listing.
+    pub fn list(&self, listing: usize) {
+        self.script.listing.set(listing);
     }
 }
 
@@ -103,7 +105,7 @@ fn unsupported<T>() -> io::Result<T> {
 impl Read for Names {
     fn read(&mut self, buf: &mut [u8]) -> io::Result<usize> {
         self.script.comes("names", "")?;
-        let (names, _) = self.script.names.get();
+        let (names, _) = listing_of(self.script.listing.get());
         let count = names.len();
         if self.left == 0 || buf.len() < count {
             return Ok(0);
@@ -179,7 +181,7 @@ impl Files for Scripted {
         self.system.metadata(path)?;
         Ok(Names {
             script: self.script.clone()?,
-            left: self.script.names.get().1,
+            left: listing_of(self.script.listing.get()).1,
         })
     }
 

@@ -3,7 +3,7 @@
 // a save that failed each such call is refused, and what is saved is what was answered, or one save more.
 use super::{FIRST, FULL, THIRD, WHOLE};
 use dm_append_label::{FileId, Page, seal};
-use dm_assembly_desk::{Desk, DeskFault, Kind};
+use dm_assembly_desk::{Desk, Kind};
 use dm_encodation::Scheme;
 use dm_finder_frame::Grid;
 use dm_size::Size;
@@ -179,21 +179,26 @@ fn the_set_stops_at_each_call(rt: HostRuntime) {
     }
 }
 
+type MemDesk<'a> = Desk<MemSet<&'a Memory>, &'a Memory>;
+
 // A desk over a set that holds the document 9, opened again where it was refused.
-fn opened<'a>(rt: &impl Abort, memory: &'a Memory) -> Desk<MemSet<&'a Memory>, &'a Memory> {
-    match Desk::open(memory, filled(rt, memory), 4) {
-        Ok(desk) => desk,
+fn opened<'a>(memory: &'a Memory, set: MemSet<&'a Memory>) -> Option<MemDesk<'a>> {
+    let set = match Desk::open(memory, set, 4) {
+        Ok(desk) => return Some(desk),
+        Err(refused) => refused.store,
+    };
+    match Desk::open(memory, set, 4) {
+        Ok(desk) => Some(desk),
         Err(refused) => {
-            assert!(rt; refused.fault == DeskFault::Memory);
-            let opened = Desk::open(memory, refused.store, 4);
-            opened.ok().expect(rt, "it is opened")
+            let _set = refused.store;
+            None
         }
     }
 }
 
 // Makes all calls, each again where it was refused, and counts the refusals of each.
 fn count_refusals(rt: &impl Abort, memory: &Memory, refusals: &mut [u32; 8]) {
-    let mut desk = opened(rt, memory);
+    let mut desk = opened(memory, filled(rt, memory)).expect(rt, "it is opened");
     for ((call, wanted), count) in CALLS.iter().zip(refusals.iter_mut()) {
         let answer = made(&mut desk, memory, *call);
         if answer != *wanted {

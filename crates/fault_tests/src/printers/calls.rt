@@ -2,7 +2,7 @@
 // each growth of memory is refused in turn. A call that was refused for lack of memory is done when it is made again;
 // after a save that failed each call is refused, and what is saved is what was answered, or one save more.
 use dm_encodation::Scheme;
-use dm_print_ledger::{CreateFault, OpenFault, Printer, Range, Ticket};
+use dm_print_ledger::{Printer, Range, Ticket};
 use dm_size::Size;
 use dm_store::{FuseStore, Kept, MemStore, Store};
 use std::alloc::Global;
@@ -123,33 +123,39 @@ fn the_store_stops_at_each_call(rt: HostRuntime) {
 type MemPrinter<'a> = Printer<MemStore<&'a Memory>, &'a Memory>;
 
 // The printer over an empty store, created again where it was refused.
-fn created<'a>(rt: &impl Abort, memory: &'a Memory) -> MemPrinter<'a> {
-    match Printer::create(memory, MemStore::new(memory), 0, RANGE) {
-        Ok(printer) => printer,
+fn created<'a>(memory: &'a Memory) -> Option<MemPrinter<'a>> {
+    let store = match Printer::create(memory, MemStore::new(memory), 0, RANGE) {
+        Ok(printer) => return Some(printer),
+        Err(refused) => refused.store,
+    };
+    match Printer::create(memory, store, 0, RANGE) {
+        Ok(printer) => Some(printer),
         Err(refused) => {
-            assert!(rt; refused.fault == CreateFault::Memory);
-            let created = Printer::create(memory, refused.store, 0, RANGE);
-            created.ok().expect(rt, "it is created")
+            let _store = refused.store;
+            None
         }
     }
 }
 
 // The printer over what is saved, opened again where it was refused.
-fn opened<'a>(rt: &impl Abort, memory: &'a Memory, store: MemStore<&'a Memory>) -> MemPrinter<'a> {
+fn opened<'a>(memory: &'a Memory, store: MemStore<&'a Memory>) -> Option<MemPrinter<'a>> {
+    let store = match Printer::open(memory, store, 0) {
+        Ok(printer) => return Some(printer),
+        Err(refused) => refused.store,
+    };
     match Printer::open(memory, store, 0) {
-        Ok(printer) => printer,
+        Ok(printer) => Some(printer),
         Err(refused) => {
-            assert!(rt; refused.fault == OpenFault::Memory);
-            let opened = Printer::open(memory, refused.store, 0);
-            opened.ok().expect(rt, "it is opened")
+            let _store = refused.store;
+            None
         }
     }
 }
 
 // Makes all calls, each again where it was refused, and counts the refusals of each.
 fn count_refusals(rt: &impl Abort, memory: &Memory, refusals: &mut [u32; 4]) {
-    let printer = created(rt, memory);
-    let mut printer = opened(rt, memory, printer.close());
+    let printer = created(memory).expect(rt, "it is created");
+    let mut printer = opened(memory, printer.close()).expect(rt, "it is opened");
     for (call, count) in CALLS.iter().zip(refusals.iter_mut()) {
         let answer = made(&mut printer, *call);
         if answer != "done" {

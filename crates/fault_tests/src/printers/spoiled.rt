@@ -38,8 +38,10 @@ fn left_in(ledger: &[u8]) -> u32 {
 fn open(alloc: Global, ledger: &[u8]) -> Result<&'static str, AllocError> {
     let store = MemStore::with(alloc, ledger.to_vec(alloc)?);
     Ok(match Printer::open(alloc, store, 7) {
-        Ok(printer) if printer.left() == left_in(ledger) => "opened",
-        Ok(_) => "another ledger",
+        Ok(printer) => {
+            let has_all = printer.left() == left_in(ledger);
+            if has_all { "opened" } else { "another ledger" }
+        }
         Err(refused) => refused.fault.name(),
     })
 }
