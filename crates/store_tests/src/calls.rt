@@ -16,8 +16,8 @@ pub enum Call {
     ReplaceKey(bool),
     RemoveKey,
     Settle,
-    // The keys under a limit, and those that are wanted.
-    Keys(usize, &'static [u16]),
+    // The keys under a limit.
+    Keys(usize),
 }
 
 impl Call {
@@ -40,98 +40,87 @@ pub fn text_of(bytes: &[u8]) -> &'static str {
     "other bytes"
 }
 
-fn loaded<A: Allocator>(answer: Result<Option<Vec<u8, A>>, StoreFault>) -> &'static str {
+// Keys that the tests list, and their names.
+#[rattlefmt::skip]
+const LISTS: [(&[u16], &str); 5] =
+    [(&[], "none"), (&[1], "1"), (&[1, 2], "1 2"), (&[1, 2, 3, 65_535], "1 2 3 ffff"), (&[0xab], "ab")];
+
+fn name_of(keys: &[u16]) -> &'static str {
+    for (list, name) in LISTS {
+        if list == keys {
+            return name;
+        }
+    }
+    "other keys"
+}
+
+// What a call gives.
+#[derive(Drop)]
+enum Given<A: Allocator> {
+    Bytes(Option<Vec<u8, A>>),
+    Keys(Vec<u16, A>),
+    Done,
+}
+
+fn named<A: Allocator>(answer: Result<Given<A>, StoreFault>) -> &'static str {
     match answer {
-        Ok(Some(bytes)) => text_of(bytes.as_slice()),
-        Ok(None) => "nothing",
+        Ok(Given::Bytes(Some(bytes))) => text_of(bytes.as_slice()),
+        Ok(Given::Bytes(None)) => "nothing",
+        Ok(Given::Keys(keys)) => name_of(keys.as_slice()),
+        Ok(Given::Done) => "done",
         Err(StoreFault::Device) => "Device",
         Err(StoreFault::Memory) => "Memory",
     }
 }
 
-fn listed<A: Allocator>(answer: Result<Vec<u16, A>, StoreFault>, wanted: &[u16]) -> &'static str {
-    match answer {
-        Ok(keys) if keys.as_slice() == wanted => "done",
-        Ok(_) => "other keys",
-        Err(StoreFault::Device) => "Device",
-        Err(StoreFault::Memory) => "Memory",
-    }
-}
-
-fn done(answer: Result<(), StoreFault>) -> &'static str {
-    match answer {
-        Ok(()) => "done",
-        Err(StoreFault::Device) => "Device",
-        Err(StoreFault::Memory) => "Memory",
-    }
-}
-
-// The answer to a call on the store in the file of the key 1 of a folder. Its path takes memory too.
-fn of_store<A: Allocator + Copy>(
-    files: &Scripted,
-    memory: A,
-    folder: &str,
-    call: Call,
-) -> &'static str {
-    let Ok(path) = format!(in memory; "{folder}/0001") else {
-        return "Memory";
-    };
-    let mut store = FileStore::new(RealDisk::new(memory, files), path);
+// The answer of any store, and of any set: what is over those of a system is proved in more time.
+fn of_any_store<S: Store>(mut store: S, call: Call) -> Result<Given<S::Memory>, StoreFault> {
     match call {
-        Call::Load(limit) => loaded(store.load(limit)),
-        _ => done(store.replace(b"three")),
+        Call::Load(limit) => return Ok(Given::Bytes(store.load(limit)?)),
+        _ => store.replace(b"three")?,
     }
+    Ok(Given::Done)
 }
 
-// Calls on any set, without their contracts, so that what makes them is proved in little time.
-fn load_key<S: StoreSet>(
-    set: &mut S,
-    limit: usize,
-) -> Result<Option<Vec<u8, S::Memory>>, StoreFault> {
-    set.load(1, limit)
-}
-
-fn keys_of<S: StoreSet>(set: &mut S, limit: usize) -> Result<Vec<u16, S::Memory>, StoreFault> {
-    set.keys(limit)
-}
-
-fn replace_key<S: StoreSet>(set: &mut S, is_listed: bool) -> Result<(), StoreFault> {
-    if is_listed {
-        set.keys(9)?;
+fn of_any_set<S: StoreSet>(mut set: S, call: Call) -> Result<Given<S::Memory>, StoreFault> {
+    match call {
+        Call::LoadKey(limit) => return Ok(Given::Bytes(set.load(1, limit)?)),
+        Call::Keys(limit) => return Ok(Given::Keys(set.keys(limit)?)),
+        Call::RemoveKey => set.remove(1)?,
+        Call::Settle => set.settle()?,
+        Call::ReplaceKey(true) => {
+            set.keys(9)?;
+            set.replace(1, b"three")?;
+        }
+        _ => set.replace(1, b"three")?,
     }
-    set.replace(1, b"three")
+    Ok(Given::Done)
 }
 
-fn remove_key<S: StoreSet>(set: &mut S) -> Result<(), StoreFault> {
-    set.remove(1)
-}
-
-// The same of the set in a folder. The names in it are given in an allocator of its own.
-fn of_set<A: Allocator + Copy>(
+// The answer to a call on the store in the file of the key 1 of a folder, or on the set in the folder, whose names are
+// given in an allocator of their own. The path takes memory too.
+fn answered<A: Allocator + Copy>(
     files: &(&Scripted, Global),
     memory: A,
     folder: &str,
     call: Call,
-) -> &'static str {
-    let Ok(path) = String::from_str(memory, folder) else {
-        return "Memory";
-    };
-    let mut set = FileSet::new(RealDisk::new(memory, files), path);
+) -> Result<Given<A>, StoreFault> {
+    let disk = RealDisk::new(memory, files);
     match call {
-        Call::LoadKey(limit) => loaded(load_key(&mut set, limit)),
-        Call::Keys(limit, wanted) => listed(keys_of(&mut set, limit), wanted),
-        Call::ReplaceKey(is_listed) => done(replace_key(&mut set, is_listed)),
-        Call::RemoveKey => done(remove_key(&mut set)),
-        _ => done(set.settle()),
+        Call::Load(_) | Call::Replace => {
+            let path = format!(in memory; "{folder}/0001")?;
+            of_any_store(FileStore::new(disk, path), call)
+        }
+        _ => {
+            let path = String::from_str(memory, folder)?;
+            of_any_set(FileSet::new(disk, path), call)
+        }
     }
 }
 
 // The answer to a call over files under a script.
 pub fn answer(files: &Scripted, memory: &Memory, folder: &str, call: Call) -> &'static str {
-    match call {
-        Call::Load(_) | Call::Replace => of_store(files, memory, folder, call),
-        _ => of_set(&(files, files.alloc()), memory, folder, call),
-    }
+    named(answered(&(files, files.alloc()), memory, folder, call))
 }
 
 #[test]

@@ -35,7 +35,7 @@ const CASES: &[Case] = &[
     (Call::LoadKey(0), "one", "one", "o", 9, ""),
     (Call::Load(9), "nothing", "nothing", "nothing", 9, "look pages/0001"),
     // The names are taken until there are none.
-    (Call::Keys(9, &[1]), "one", "one", "done", 9, "list above/pages/, names, names"),
+    (Call::Keys(9), "one", "one", "1", 9, "list above/pages/, names, names"),
     (Call::Settle, "one", "one", "done", 9, "open above/pages/, sync"),
     (Call::Settle, "nothing", "nothing", "done", 9, ""),
     // The new bytes go to a file beside, which gets the mode of the old one, two at a time. It is synced, and takes the
@@ -226,20 +226,20 @@ const FOUR_KEYS: &[u8] = b"0003\0ffff\0other\00001\00002\0";
 
 const AMONG_OTHERS: &[u8] = b"00AB\0000g\000ab\0001\000001\00002.new\0\xc3\xa9t\xc3\xa9\0";
 
-// What a folder lists, each name ended by a NUL, how often, and what `keys` answers then.
+// What a folder lists, each name ended by a NUL, how often, a limit, and what `keys` answers then.
 #[rattlefmt::skip]
-const LISTINGS: &[(&[u8], u32, Call, &str)] = &[
-    (b"0001\0", 1, Call::Keys(9, &[1]), "done"),
-    (FOUR_KEYS, 1, Call::Keys(9, &[1, 2, 3, 65_535]), "done"),
-    (FOUR_KEYS, 1, Call::Keys(3, &[1, 2, 3, 65_535]), "done"),
-    (FOUR_KEYS, 1, Call::Keys(1, &[1, 2]), "done"),
-    (FOUR_KEYS, 1, Call::Keys(0, &[1]), "done"),
-    (AMONG_OTHERS, 1, Call::Keys(9, &[0xab]), "done"),
+const LISTINGS: &[(&[u8], u32, usize, &str)] = &[
+    (b"0001\0", 1, 9, "1"),
+    (FOUR_KEYS, 1, 9, "1 2 3 ffff"),
+    (FOUR_KEYS, 1, 3, "1 2 3 ffff"),
+    (FOUR_KEYS, 1, 1, "1 2"),
+    (FOUR_KEYS, 1, 0, "1"),
+    (AMONG_OTHERS, 1, 9, "ab"),
     // Names that are no text.
-    (b"0003\0\xff\xfe\0", 1, Call::Keys(9, &[]), "Device"),
-    (b"\xff\xfe\00003\0", 1, Call::Keys(9, &[]), "Device"),
-    (b"other\0", 131_072, Call::Keys(9, &[]), "done"),
-    (b"other\0", 131_073, Call::Keys(9, &[]), "Device"),
+    (b"0003\0\xff\xfe\0", 1, 9, "Device"),
+    (b"\xff\xfe\00003\0", 1, 9, "Device"),
+    (b"other\0", 131_072, 9, "none"),
+    (b"other\0", 131_073, 9, "Device"),
 ];
 
 // The names of the listing at a place, and how often they come.
@@ -251,9 +251,9 @@ pub fn listing_of(place: usize) -> (&'static [u8], u32) {
 fn a_set_takes_the_names_in_any_order(rt: HostRuntime) -> Result<(), Fail> {
     let memory = Refusing::new(rt.alloc(), u64::MAX);
     let files = Scripted::new(rt.clone()?)?;
-    for (place, (_, _, keys, wanted)) in LISTINGS.iter().enumerate() {
+    for (place, (_, _, limit, wanted)) in LISTINGS.iter().enumerate() {
         files.list(place);
-        let listed = answer(&files, &memory, ".", *keys);
+        let listed = answer(&files, &memory, ".", Call::Keys(*limit));
         assert!(rt; listed == *wanted, "{place}");
     }
     Ok(())

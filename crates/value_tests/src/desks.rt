@@ -82,26 +82,26 @@ const SCANS: [(Scan, Result<Kind, ScanFault>); 14] = [
     ((5, 2, 3, b""), Ok(Kind::Again)),
 ];
 
-// Whether a desk lists the documents 3 and 5, complete.
+// Whether a desk lists the documents 3 and 5, complete, and gives them.
 fn holds_both(desk: &MemDesk, third: FileId, fifth: FileId) -> bool {
     let Ok(held) = desk.held() else {
         return false;
     };
     let told = |at: usize| held.get(at).map(|one| (one.id, one.n, one.mask));
     (told(0), told(1), told(2)) == (Some((third, 2, 3)), Some((fifth, 3, 7)), None)
+        && gives(desk, third, b"7890")
+        && gives(desk, fifth, b"1256")
 }
 
 #[test]
 fn documents_are_scanned(rt: HostRuntime) {
     let mut desk = opened(&rt, rt.alloc(), MemSet::new(rt.alloc()), 2);
-    for (scan, answer) in SCANS {
-        let is_so = answers(rt.alloc(), &mut desk, scan, answer);
-        assert!(rt; is_so, "{scan:?}");
+    for (place, (scan, answer)) in SCANS.iter().enumerate() {
+        let is_so = answers(rt.alloc(), &mut desk, *scan, *answer);
+        assert!(rt; is_so, "{place}");
     }
     let desk = opened(&rt, rt.alloc(), desk.close(), 2);
-    let (third, fifth) = (id_of(&rt, 3), id_of(&rt, 5));
-    assert!(rt; gives(&desk, third, b"7890") && gives(&desk, fifth, b"1256"));
-    assert!(rt; holds_both(&desk, third, fifth));
+    assert!(rt; holds_both(&desk, id_of(&rt, 3), id_of(&rt, 5)));
 }
 
 // Whether the second page of two is all that a desk holds of a document.
@@ -141,8 +141,8 @@ fn imports(desk: &mut MemDesk, bytes: &[u8], answer: Result<(u16, Kind), ImportF
 fn pages_come_and_go(rt: HostRuntime) {
     let id = id_of(&rt, 0);
     let mut desk = opened(&rt, rt.alloc(), MemSet::new(rt.alloc()), 1);
-    for (bytes, answer) in IMPORTS {
-        assert!(rt; imports(&mut desk, bytes, answer), "{bytes:?}");
+    for (place, (bytes, answer)) in IMPORTS.iter().enumerate() {
+        assert!(rt; imports(&mut desk, bytes, *answer), "{place}");
     }
     assert!(rt; exports(&desk, id, WHOLE) && gives(&desk, id, b"1234"));
     assert!(rt; desk.forget(id) == Ok(()) && desk.forget(id) == Err(ForgetFault::NotHeld));
@@ -189,8 +189,10 @@ const SETS: [(&[(u16, &[u8])], u16, &str); 14] = [
 
 #[test]
 fn sets_are_refused(rt: HostRuntime) {
-    for (files, capacity, answer) in SETS {
-        let found = answer_to(rt.alloc(), files, capacity);
-        assert!(rt; found == answer, "{files:?} {capacity}");
+    for (place, (files, capacity, answer)) in SETS.iter().enumerate() {
+        assert!(rt;
+            answer_to(rt.alloc(), files, *capacity) == *answer,
+            "{place}"
+        );
     }
 }

@@ -59,11 +59,11 @@ fn is_read(alloc: Global, (words, text, fault): Reading) -> bool {
 
 #[test]
 fn texts_are_written_and_read(rt: HostRuntime) {
-    for row in TEXTS {
-        assert!(rt; is_written(rt.alloc(), row), "{row:?}");
+    for (place, row) in TEXTS.iter().enumerate() {
+        assert!(rt; is_written(rt.alloc(), *row), "{place}");
     }
-    for row in READINGS {
-        assert!(rt; is_read(rt.alloc(), row), "{row:?}");
+    for (place, row) in READINGS.iter().enumerate() {
+        assert!(rt; is_read(rt.alloc(), *row), "{place}");
     }
 }
 

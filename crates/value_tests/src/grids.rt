@@ -5,6 +5,7 @@ use crate::worked::{WORDS, is_worked_example, worked_modules};
 use dm_finder_frame::{FrameFault, Grid, GridFault, cell_of, frame, unframe};
 use dm_placement::{Layout, lift, lift_with, place, place_with};
 use dm_size::Size;
+use std::alloc::{AllocError, Global};
 use std::test::Fail;
 
 // A codeword in a corner's shape, and the cells of its bits.
@@ -43,30 +44,43 @@ fn cells_are_free_or_on_no_finder_pattern(rt: HostRuntime) -> Result<(), Fail> {
     Ok(())
 }
 
-// The codewords of the standard's example are placed as it draws them, with a layout made before and without.
-#[test]
-fn the_words_give_the_drawn_modules(rt: HostRuntime) -> Result<(), Fail> {
-    let alloc = rt.alloc();
-    let layout = Layout::of_size(alloc, Size::Side10)?;
-    assert!(rt; layout.size() == Size::Side10);
+// Whether the codewords of the standard's example are placed as it draws them, without a layout made before.
+fn is_placed(alloc: Global) -> Result<bool, AllocError> {
     let placed = place(alloc, Size::Side10, &WORDS)?;
-    assert!(rt; is_worked_example(&frame(alloc, Size::Side10, &placed)?));
-    let placed = place_with(alloc, &layout, &WORDS)?;
-    assert!(rt; is_worked_example(&frame(alloc, Size::Side10, &placed)?));
-    Ok(())
+    Ok(is_worked_example(&frame(alloc, Size::Side10, &placed)?))
 }
 
-// The modules that it draws give them back.
-#[test]
-fn the_drawn_modules_hold_the_words(rt: HostRuntime) -> Result<(), Fail> {
-    let alloc = rt.alloc();
-    let drawn = Grid::of_modules(alloc, 10, &worked_modules())?;
-    assert!(rt; is_worked_example(&drawn));
-    let framed = unframe(alloc, &drawn)?;
-    assert!(rt; framed.size == Size::Side10 && framed.wrong == 0);
+// The same with a layout.
+fn is_placed_with(alloc: Global, layout: &Layout) -> Result<bool, AllocError> {
+    if layout.size() != Size::Side10 {
+        return Ok(false);
+    }
+    let placed = place_with(alloc, layout, &WORDS)?;
+    Ok(is_worked_example(&frame(alloc, Size::Side10, &placed)?))
+}
+
+// Whether the modules that it draws give them back, without a layout.
+fn is_lifted(alloc: Global, drawn: &Grid) -> Result<bool, Fail> {
+    let framed = unframe(alloc, drawn)?;
+    let words = lift(alloc, framed.size, &framed.matrix)?;
+    Ok(framed.wrong == 0 && words.as_slice() == WORDS.as_slice())
+}
+
+// The same with a layout.
+fn is_lifted_with(alloc: Global, drawn: &Grid) -> Result<bool, Fail> {
+    let framed = unframe(alloc, drawn)?;
     let layout = Layout::of_size(alloc, framed.size)?;
-    assert!(rt; lift(alloc, framed.size, &framed.matrix)?.as_slice() == WORDS.as_slice());
-    assert!(rt; lift_with(alloc, &layout, &framed.matrix)?.as_slice() == WORDS.as_slice());
+    Ok(lift_with(alloc, &layout, &framed.matrix)?.as_slice() == WORDS.as_slice())
+}
+
+#[test]
+fn words_are_placed_and_lifted(rt: HostRuntime) -> Result<(), Fail> {
+    let alloc = rt.alloc();
+    assert!(rt;
+        is_placed(alloc)? && is_placed_with(alloc, &Layout::of_size(alloc, Size::Side10)?)?
+    );
+    let drawn = Grid::of_modules(alloc, 10, &worked_modules())?;
+    assert!(rt; is_lifted(alloc, &drawn)? && is_lifted_with(alloc, &drawn)?);
     Ok(())
 }
 

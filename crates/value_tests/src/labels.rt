@@ -58,11 +58,10 @@ fn opens(alloc: Global, grid: &Grid, (m, n, bytes, _, _): Label) -> bool {
 
 #[test]
 fn labels_are_sealed_and_opened(rt: HostRuntime) -> Result<(), Fail> {
-    for (label, words) in LABELS {
-        let grid = sealed(rt.alloc(), label)?;
-        let symbol = correct_grid(&grid)?;
-        assert!(rt; symbol.data().starts_with(words), "{label:?}");
-        assert!(rt; opens(rt.alloc(), &grid, label), "{label:?}");
+    for (place, (label, words)) in LABELS.iter().enumerate() {
+        let grid = sealed(rt.alloc(), *label)?;
+        assert!(rt; correct_grid(&grid)?.data().starts_with(words), "{place}");
+        assert!(rt; opens(rt.alloc(), &grid, *label), "{place}");
     }
     let fault = sealed(rt.alloc(), (1, 2, &[233], Scheme::Ascii, Size::Side12)).err();
     assert!(rt; fault == Some(SealFault::TooLong));

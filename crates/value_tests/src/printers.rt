@@ -120,9 +120,9 @@ const LEDGERS: [(&[u8], Result<u32, OpenFault>); 13] = [
 
 #[test]
 fn ledgers_of_both_versions(rt: HostRuntime) -> Result<(), Fail> {
-    for (bytes, answer) in LEDGERS {
+    for (place, (bytes, answer)) in LEDGERS.iter().enumerate() {
         let store = MemStore::with(rt.alloc(), bytes.to_vec(rt.alloc())?);
-        assert!(rt; opened(rt.alloc(), store) == answer, "{bytes:?}");
+        assert!(rt; opened(rt.alloc(), store) == *answer, "{place}");
     }
     let mut store = MemStore::new(rt.alloc());
     store.set_load(true);
