@@ -3,7 +3,7 @@
 
 use dm_assembly_desk::{AskFault, DeskFault, ExportFault, Kind, ScanFault};
 use dm_event_history::{Event, Reply};
-use dm_event_world::World;
+use dm_event_world::{World, is_honest};
 use dm_print_ledger::{GiveFault, OpenFault, PrintFault, TakeFault};
 use relay_script::{Script, ScriptFault, read_script};
 use std::alloc::Allocator;
@@ -90,14 +90,17 @@ pub fn told<A: Allocator>(reply: &Reply<A>) -> &'static str {
 // More refusals than one event meets.
 const MOST_TIMES: u32 = 4;
 
-// Gives an event until it is not refused for memory. After a restart that was refused, what the event after it names is
-// down.
+// Looks at an event and gives it, until neither is refused for memory. After a restart that was refused, what the event
+// after it names is down.
 fn given<A: Allocator + Copy>(
     world: &mut World<A>,
     event: &Event<A>,
     next: &Event<A>,
 ) -> &'static str {
     for _time in 0..MOST_TIMES {
+        if is_honest(world, event).is_err() {
+            continue;
+        }
         let word = told(&world.step(event));
         if word == "not restarted" && told(&world.step(next)) != "down" {
             return "not down";

@@ -1,7 +1,7 @@
 //! One call on a store in a file or on a set in a folder, and the name of its answer.
 
 use crate::scripted::Scripted;
-use dm_store::{FileSet, FileStore, RealDisk, Store, StoreFault, StoreSet};
+use dm_store::{FileSet, FileStore, Folders, RealDisk, Store, StoreFault, StoreSet};
 use std::alloc::{Allocator, Global};
 use test_helpers::{Refusing, says};
 
@@ -73,7 +73,7 @@ fn named<A: Allocator>(answer: Result<Given<A>, StoreFault>) -> &'static str {
     }
 }
 
-// The answer of any store, and of any set: what is over those of a system is proved in more time.
+// The answer of any store, of any set, and over any disk: what is over those of a system is proved in more time.
 fn of_any_store<S: Store>(mut store: S, call: Call) -> Result<Given<S::Memory>, StoreFault> {
     match call {
         Call::Load(limit) => return Ok(Given::Bytes(store.load(limit)?)),
@@ -97,30 +97,38 @@ fn of_any_set<S: StoreSet>(mut set: S, call: Call) -> Result<Given<S::Memory>, S
     Ok(Given::Done)
 }
 
-// The answer to a call on the store in the file of the key 1 of a folder, or on the set in the folder, whose names are
-// given in an allocator of their own. The path takes memory too.
-fn answered<A: Allocator + Copy>(
-    files: &(&Scripted, Global),
-    memory: A,
+// The answer to a call on the store in the file of the key 1 of a folder, or on the set in the folder.
+fn of_any_disk<D: Folders>(
+    alloc: Global,
+    disk: D,
     folder: &str,
     call: Call,
-) -> Result<Given<A>, StoreFault> {
-    let disk = RealDisk::new(memory, files);
+) -> Result<Given<D::Memory>, StoreFault> {
     match call {
         Call::Load(_) | Call::Replace => {
-            let path = format!(in memory; "{folder}/0001")?;
+            let path = format!(in alloc; "{folder}/0001")?;
             of_any_store(FileStore::new(disk, path), call)
         }
         _ => {
-            let path = String::from_str(memory, folder)?;
+            let path = String::from_str(alloc, folder)?;
             of_any_set(FileSet::new(disk, path), call)
         }
     }
 }
 
-// The answer to a call over files under a script.
+// The answer to a call over files under a script. The names of a folder are given in an allocator of their own.
+fn of_files<A: Allocator + Copy>(
+    files: &(&Scripted, Global),
+    memory: A,
+    folder: &str,
+    call: Call,
+) -> Result<Given<A>, StoreFault> {
+    of_any_disk(files.1, RealDisk::new(memory, files), folder, call)
+}
+
+// The text of the answer.
 pub fn answer(files: &Scripted, memory: &Memory, folder: &str, call: Call) -> &'static str {
-    named(answered(&(files, files.alloc()), memory, folder, call))
+    named(of_files(&(files, files.alloc()), memory, folder, call))
 }
 
 #[test]

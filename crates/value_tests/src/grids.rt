@@ -36,7 +36,6 @@ fn cells_are_free_or_on_no_finder_pattern(rt: HostRuntime) -> Result<(), Fail> {
     assert!(rt; matrix.side() == 10);
     assert!(rt; matrix.module(9, 9) && matrix.module(8, 8));
     assert!(rt; !matrix.module(8, 9) && !matrix.module(9, 8));
-    assert!(rt; lift(rt.alloc(), Size::Side12, &matrix)?.as_slice() == [0; 12].as_slice());
     assert!(rt; cell_of(Size::Side10, 0, 0) == None);
     assert!(rt; cell_of(Size::Side10, 1, 1) == Some((0, 0)));
     assert!(rt; cell_of(Size::Side132, 131, 0) == None);
@@ -84,11 +83,11 @@ fn words_are_placed_and_lifted(rt: HostRuntime) -> Result<(), Fail> {
     Ok(())
 }
 
-// Of the 36 modules on the frame of side 10 27 are dark. No size has 11 modules along a side.
+// Of the 36 modules on the frame of side 10 nine are light. No size has 11 modules along a side.
 #[test]
 fn grids_without_a_frame_are_refused(rt: HostRuntime) -> Result<(), Fail> {
-    let light = Grid::of_modules(rt.alloc(), 10, &[false; 100])?;
-    assert!(rt; unframe(rt.alloc(), &light).err() == Some(FrameFault::Border { wrong: 27 }));
+    let dark = Grid::of_modules(rt.alloc(), 10, &[true; 100])?;
+    assert!(rt; unframe(rt.alloc(), &dark).err() == Some(FrameFault::Border { wrong: 9 }));
     assert!(rt; Grid::of_modules(rt.alloc(), 11, &[true; 121]).err() == Some(GridFault::Side));
     assert!(rt; Grid::of_modules(rt.alloc(), 10, &[true; 99]).err() == Some(GridFault::Side));
     Ok(())

@@ -56,16 +56,22 @@ fn opens(alloc: Global, grid: &Grid, (m, n, bytes, _, _): Label) -> bool {
         && page.bytes() == bytes
 }
 
+// Whether a label has these data codewords first, and opens.
+fn is_sealed(alloc: Global, label: Label, words: &[u8]) -> bool {
+    let Ok(grid) = sealed(alloc, label) else {
+        return false;
+    };
+    let begins = correct_grid(&grid).is_ok_and(|symbol| symbol.data().starts_with(words));
+    begins && opens(alloc, &grid, label)
+}
+
 #[test]
-fn labels_are_sealed_and_opened(rt: HostRuntime) -> Result<(), Fail> {
+fn labels_are_sealed_and_opened(rt: HostRuntime) {
     for (place, (label, words)) in LABELS.iter().enumerate() {
-        let grid = sealed(rt.alloc(), *label)?;
-        assert!(rt; correct_grid(&grid)?.data().starts_with(words), "{place}");
-        assert!(rt; opens(rt.alloc(), &grid, *label), "{place}");
+        assert!(rt; is_sealed(rt.alloc(), *label, words), "{place}");
     }
     let fault = sealed(rt.alloc(), (1, 2, &[233], Scheme::Ascii, Size::Side12)).err();
     assert!(rt; fault == Some(SealFault::TooLong));
-    Ok(())
 }
 
 // A document, the size and the encodation of its labels, and where its parts end; or none, if it has too many.
@@ -95,12 +101,13 @@ fn documents_are_cut(rt: HostRuntime) {
     }
 }
 
-// The grid of a symbol with these data codewords.
-fn drawn_of_data(alloc: Global, size: Size, data: &[u8]) -> Result<Grid, AllocError> {
+// Why a symbol with these data codewords is no label, if it is none.
+fn fault_of(alloc: Global, size: Size, data: &[u8]) -> Result<Option<LabelFault>, AllocError> {
     if data.len() != size.data_words() {
-        return Err(AllocError);
+        return Ok(None);
     }
-    draw_symbol(alloc, &Layout::of_size(alloc, size)?, data)
+    let grid = draw_symbol(alloc, &Layout::of_size(alloc, size)?, data)?;
+    Ok(open_label(alloc, &grid).err())
 }
 
 // Data codewords, a size, and why such a symbol is no label.
@@ -118,10 +125,11 @@ const NO_LABELS: [(&[u8], Size, LabelFault); 8] = [
 
 #[test]
 fn heads_are_told_apart(rt: HostRuntime) -> Result<(), Fail> {
-    for (data, size, fault) in NO_LABELS {
-        let grid = drawn_of_data(rt.alloc(), size, data)?;
-        let found = open_label(rt.alloc(), &grid).err();
-        assert!(rt; found == Some(fault), "{data:?}");
+    for (place, (data, size, fault)) in NO_LABELS.iter().enumerate() {
+        assert!(rt;
+            fault_of(rt.alloc(), *size, data)? == Some(*fault),
+            "{place}"
+        );
     }
     assert!(rt; FileId::of_words(255, 1) == None);
     assert!(rt; FileId::of_words(254, 254).map(|id| id.number()) == Some(64_515));

