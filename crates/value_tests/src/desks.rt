@@ -1,5 +1,5 @@
-//! Desks over sets in memory: labels that are scanned, pages that come and go, and what is held. Sets of several files on
-//! which a desk is opened, and on which none is.
+//! Desks over sets in memory: labels that are scanned, pages that come and go, and what is held. Sets of several files
+//! on which a desk is opened, and on which none is.
 
 use crate::labels::page_of_bytes;
 use dm_append_label::{FileId, seal};

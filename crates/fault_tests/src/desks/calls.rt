@@ -43,8 +43,8 @@ const CALLS: [(Call, &str); 8] = [
 // The files of the documents 0 and 9, where no bytes stand for a document that has none.
 type Files = [&'static [u8]; 2];
 
-// What is saved where the set stops after so many device calls. It is opened by three: the keys, a load of one file,
-// and the settle of what was found. Then the save that it stops at has kept the old files, or the new ones.
+// What is saved where the set stops after 0, 1, 2 and more device calls. It is opened by three: the keys, a load of one
+// file, and the settle of what was found. Then the save that it stops at has kept the old files, or the new ones.
 const STOPS: [(Files, Files); 9] = [
     ([b"", THIRD], [b"", THIRD]),
     ([b"", THIRD], [b"", THIRD]),
@@ -160,7 +160,7 @@ fn used<'a, S: StoreSet>(rt: &impl Abort, memory: &'a Memory, mut desk: Desk<S, 
     desk.close()
 }
 
-// Whether these files are saved in a set that stops after so many device calls.
+// Whether these files are saved in a set that stops after this number of device calls.
 fn are_saved(rt: &impl Abort, memory: &Memory, passes: u32, kept: Kept, files: Files) -> bool {
     let set = FuseSet::new(filled(rt, memory), passes, kept);
     let set = match Desk::open(memory, set, 4) {

@@ -71,8 +71,8 @@ fn made<S: Store>(printer: &mut Printer<S, &Memory>, call: Call) -> &'static str
     }
 }
 
-// What is saved by a printer whose store stops after so many device calls: where the save that it stops at has kept the
-// old ledger, and where it has kept the new one.
+// What is saved by a printer whose store stops after 0, 1, 2 and more device calls: where the save that it stops at has
+// kept the old ledger, and where it has kept the new one.
 const STOPS: [(Option<&[u8]>, Option<&[u8]>); 7] = [
     (None, None),
     (None, Some(CREATED)),
@@ -95,7 +95,7 @@ fn used<'a>(rt: &impl Abort, mut printer: Printer<FusedStore<'a>, &'a Memory>) -
     printer.close()
 }
 
-// Whether this is saved in a store that stops after so many device calls.
+// Whether this is saved in a store that stops after this number of device calls.
 fn is_saved(
     rt: &impl Abort,
     memory: &Memory,

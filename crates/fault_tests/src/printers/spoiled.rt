@@ -1,7 +1,7 @@
 // Ledgers and tickets of which one byte is changed or added, or the end is cut off. Each ledger is refused by the name
 // that the table of the format says, or is another sound ledger, with as many free numbers as it says. Each ticket is
-// none, by the table of the format, or is another ticket; and a printer takes that one, or refuses it by the name of the
-// first of its rules that applies.
+// none, by the table of the format, or is another ticket; and a printer takes that one, or refuses it by the name of
+// the first of its rules that applies.
 use super::table::{answer, number};
 use dm_print_ledger::{Printer, Ticket};
 use dm_store::MemStore;
