@@ -4,7 +4,7 @@ use crate::left_files::{Files, PAGES, SET, STORE, files_on, keep};
 use crate::machine::Machine;
 use dm_encodation::Scheme;
 use dm_print_ledger::Range;
-use dm_store::{FileSet, FileStore, Store, StoreSet};
+use dm_store::{FileSet, FileStore, Folders, Store, StoreSet};
 use relay_desk_commands::{
     CopyOptions, copy_command, deliver_command, export_command, forget_command, held_command,
     import_command, scan_command,
@@ -123,14 +123,19 @@ impl Call {
         }
     }
 
+    // Whether it is on a printer.
+    #[rattlefmt::skip]
+    fn is_of_printer(self) -> bool {
+        matches!(self, Call::Ledger | Call::Print | Call::PrintAuto | Call::Give | Call::GiveLast)
+            || matches!(self, Call::Take | Call::Left)
+    }
+
     // A disk with the file that it is made over alone.
     fn disk(self, alloc: Global) -> Result<MemDisk, Fail> {
         let mut disk = MemDisk::new(alloc);
         match self {
-            Call::Print | Call::PrintAuto | Call::Give | Call::GiveLast | Call::Take | Call::Left =>
-                {
-                    keep(&mut disk, STORE, NEW_LEDGER)?;
-                }
+            Call::Ledger => {}
+            _ if self.is_of_printer() => keep(&mut disk, STORE, NEW_LEDGER)?,
             Call::Scan(_) | Call::Import(_) | Call::Held(_) => keep(&mut disk, PAGES, PAGE_2)?,
             Call::Deliver | Call::Forget(_) | Call::Export(_) | Call::Copy => {
                 keep(&mut disk, PAGES, BOTH)?;
@@ -150,8 +155,43 @@ impl Call {
     }
 }
 
-// A call on a printer or a desk: over any store and set, since what is over those of a machine is proved in more time.
-fn filed<A: Allocator + Copy, S: Store, T: StoreSet, R: Read, W: Write, E: Write>(
+// A call that looks at no file.
+fn of_streams<A: Allocator + Copy, R: Read, W: Write, E: Write>(
+    memory: A,
+    streams: &mut Streams<R, W, E>,
+    call: Call,
+) -> u8 {
+    match call {
+        Call::Words => words_command(memory, streams, FORM),
+        Call::Draw(is_plain) => draw_command(memory, streams, FORM, is_plain),
+        Call::Read => read_command(memory, &NO_IMAGES, streams),
+        Call::Plan => plan_command(memory, streams, Scheme::Ascii),
+        Call::Ticket => ticket_command(streams, TICKET),
+        _ => world_command(memory, streams),
+    }
+}
+
+// A call on a printer: over any store, since what is over that of a machine is proved in more time.
+fn of_printer<A: Allocator + Copy, S: Store, R: Read, W: Write, E: Write>(
+    memory: A,
+    store: S,
+    streams: &mut Streams<R, W, E>,
+    call: Call,
+) -> u8 {
+    let labels = match call {
+        Call::Ledger => return ledger_command(memory, store, streams, 0, NUMBERS).status,
+        Call::Give => return give_command(memory, store, streams, 0, 1, GIVEN).status,
+        Call::GiveLast => return give_last_command(memory, store, streams, 0, 1, 5).status,
+        Call::Take => return take_command(memory, store, streams, 0, TICKET).status,
+        Call::Left => return left_command(store, streams).status,
+        Call::PrintAuto => Labels::AtMost(2),
+        _ => Labels::OfSide(12),
+    };
+    print_command(memory, store, streams, 0, labels, Scheme::Ascii).status
+}
+
+// A call on a desk, over any store and set.
+fn of_desk<A: Allocator + Copy, S: Store, T: StoreSet, R: Read, W: Write, E: Write>(
     memory: A,
     mut store: S,
     set: T,
@@ -159,19 +199,6 @@ fn filed<A: Allocator + Copy, S: Store, T: StoreSet, R: Read, W: Write, E: Write
     call: Call,
 ) -> u8 {
     match call {
-        Call::Ledger => ledger_command(memory, store, streams, 0, NUMBERS).status,
-        Call::Print => {
-            let labels = Labels::OfSide(12);
-            print_command(memory, store, streams, 0, labels, Scheme::Ascii).status
-        }
-        Call::PrintAuto => {
-            let labels = Labels::AtMost(2);
-            print_command(memory, store, streams, 0, labels, Scheme::Ascii).status
-        }
-        Call::Give => give_command(memory, store, streams, 0, 1, GIVEN).status,
-        Call::GiveLast => give_last_command(memory, store, streams, 0, 1, 5).status,
-        Call::Take => take_command(memory, store, streams, 0, TICKET).status,
-        Call::Left => left_command(store, streams).status,
         Call::Scan(_) => scan_command(memory, store, set, &NO_IMAGES, streams, CAPACITY).status,
         Call::Deliver => deliver_command(memory, store, set, streams, ID).status,
         Call::Forget(id) => forget_command(memory, store, set, streams, id).status,
@@ -183,30 +210,24 @@ fn filed<A: Allocator + Copy, S: Store, T: StoreSet, R: Read, W: Write, E: Write
     }
 }
 
-// Does a command over the disk of a machine, this memory and these streams.
-fn status_of<A: Allocator + Copy, R: Read, W: Write, E: Write>(
+// Does a command over any disk, this memory and these streams. A desk has its store and its set on two disks, which
+// may be one.
+fn status_of<A: Allocator + Copy, D: Folders, R: Read, W: Write, E: Write>(
     memory: A,
     alloc: Global,
-    machine: &Machine,
+    (disk, disk_of_set): (D, D),
     streams: &mut Streams<R, W, E>,
     call: Call,
 ) -> Result<u8, AllocError> {
-    let status = match call {
-        Call::Words => words_command(memory, streams, FORM),
-        Call::Draw(is_plain) => draw_command(memory, streams, FORM, is_plain),
-        Call::Read => read_command(memory, &NO_IMAGES, streams),
-        Call::Plan => plan_command(memory, streams, Scheme::Ascii),
-        Call::Ticket => ticket_command(streams, TICKET),
-        Call::World => world_command(memory, streams),
-        _ => {
-            let path = String::from_str(alloc, STORE)?;
-            let store = FileStore::new(machine.disk(), path);
-            let folder = String::from_str(alloc, SET)?;
-            let set = FileSet::new(machine.disk(), folder);
-            filed(memory, store, set, streams, call)
+    let store = FileStore::new(disk, String::from_str(alloc, STORE)?);
+    let set = FileSet::new(disk_of_set, String::from_str(alloc, SET)?);
+    Ok(match call {
+        Call::Words | Call::Draw(_) | Call::Read | Call::Plan | Call::Ticket | Call::World => {
+            of_streams(memory, streams, call)
         }
-    };
-    Ok(status)
+        _ if call.is_of_printer() => of_printer(memory, store, streams, call),
+        _ => of_desk(memory, store, set, streams, call),
+    })
 }
 
 /// How a call ended: its status, the rest of its input, what it wrote, whether the machine does no call more, the files
@@ -274,7 +295,8 @@ pub fn made_over<A: Allocator + Copy, R: Read + Drop, W: Write + Drop, E: Write 
     mut streams: Streams<R, W, E>,
     call: Call,
 ) -> Result<CallEnd<R, W, E>, Fail> {
-    let status = status_of(memory, alloc, &machine, &mut streams, call)?;
+    let disks = (machine.disk(), machine.disk());
+    let status = status_of(memory, alloc, disks, &mut streams, call)?;
     let has_stopped = machine.has_stopped();
     let (mut disk, old) = machine.into_disk();
     let files = files_on(alloc, &mut disk)?;
