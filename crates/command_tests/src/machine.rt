@@ -31,8 +31,8 @@ impl Machine {
     }
 
     /// Its disk, lent to a store.
-    pub fn disk(&self) -> MachineDisk<'_> {
-        MachineDisk { disk: &self.disk }
+    pub fn disk(&self) -> SharedDisk<'_, Stopping<MemDisk>> {
+        SharedDisk { disk: &self.disk }
     }
 
     /// Whether it has stopped, or stops at this call.
@@ -46,28 +46,28 @@ impl Machine {
     }
 }
 
-/// The disk of a machine, which several stores have. It claims nothing, since no contract sees into a cell.
+/// A disk that several stores have. It claims nothing, since no contract sees into a cell.
 #[derive(Drop)]
-pub struct MachineDisk<'a> {
-    disk: &'a RefCell<Stopping<MemDisk>>,
+pub struct SharedDisk<'a, D> {
+    disk: &'a RefCell<D>,
 }
 
-impl<'a> MachineDisk<'a> {
-    // The disk of the machine, for a call.
-    fn lent(&self) -> Result<RefMut<'a, Stopping<MemDisk>>, StoreFault> {
+impl<'a, D> SharedDisk<'a, D> {
+    // The disk, for a call.
+    fn lent(&self) -> Result<RefMut<'a, D>, StoreFault> {
         self.disk.try_borrow_mut().map_err(|_| StoreFault::Device)
     }
 }
 
 #[rattlefmt::skip]
-impl Disk for MachineDisk<'_> {
+impl<D: Disk> Disk for SharedDisk<'_, D> {
     ghost use Rattle.dm_store.specs.Disk.{unclaimed};
 
-    type Memory = Global;
+    type Memory = D::Memory;
 
     ghost state = { λ _. unclaimed };
 
-    fn read(&mut self, name: &str, limit: usize) -> Result<Option<Vec<u8>>, StoreFault> {
+    fn read(&mut self, name: &str, limit: usize) -> Result<Option<Vec<u8, D::Memory>>, StoreFault> {
         self.lent()?.read(name, limit)
     }
     fn write(&mut self, name: &str, bytes: &[u8]) -> Result<(), StoreFault> { self.lent()?.write(name, bytes) }
@@ -78,10 +78,10 @@ impl Disk for MachineDisk<'_> {
 }
 
 #[rattlefmt::skip]
-impl Folders for MachineDisk<'_> {
+impl<D: Folders> Folders for SharedDisk<'_, D> {
     fn make_folder(&mut self, folder: &str) -> Result<(), StoreFault> { self.lent()?.make_folder(folder) }
 
-    fn keys(&mut self, folder: &str, limit: usize) -> Result<Vec<u16>, StoreFault> {
+    fn keys(&mut self, folder: &str, limit: usize) -> Result<Vec<u16, D::Memory>, StoreFault> {
         self.lent()?.keys(folder, limit)
     }
     fn settle_folder(&mut self, folder: &str) -> Result<(), StoreFault> { self.lent()?.settle_folder(folder) }
