@@ -7,28 +7,37 @@ use crate::calls::{
 use crate::machine::Machine;
 use dm_store::Kept;
 use relay_shared::Streams;
+use std::alloc::Global;
 use std::io::Read;
 use std::test::Fail;
 use test_helpers::{Faulty, FaultyWriter, MemDisk};
+
+// Whether a command whose read is interrupted ends as over its whole input.
+fn reads_again(alloc: Global, call: Call, passes: usize, whole: &Whole) -> Result<bool, Fail> {
+    let streams = streams_of(alloc, Faulty::interrupted(call.input(), passes));
+    let ended = alone(alloc, alloc, streams, call)?;
+    Ok(is_whole(&ended, ended.writer.as_slice(), whole))
+}
+
+// Whether a command whose read fails is refused, and has saved nothing.
+fn is_unread(alloc: Global, call: Call, passes: usize) -> Result<bool, Fail> {
+    let streams = streams_of(alloc, Faulty::failing(call.input(), passes));
+    let ended = alone(alloc, alloc, streams, call)?;
+    Ok(ended.is_refused(call, b"refused Read\n"))
+}
 
 // A read that is interrupted is made again: nothing tells of it. Of a reader that fails, before the end of a label or a
 // document, the one line names the fault, and nothing is saved.
 #[test]
 fn readers_are_interrupted_or_fail(rt: HostRuntime) -> Result<(), Fail> {
-    let alloc = rt.alloc();
     for call in CALLS {
-        let whole = alone_whole(alloc, call)?;
+        let whole = alone_whole(rt.alloc(), call)?;
         assert!(rt; whole.status == 0 && !whole.writer.is_empty(), "{call:?}");
-        let input = call.input();
-        for passes in 0..=input.len() {
-            let streams = streams_of(alloc, Faulty::interrupted(input, passes));
-            let ended = alone(alloc, alloc, streams, call)?;
-            let taken = ended.writer.as_slice();
-            assert!(rt; is_whole(&ended, taken, &whole), "{call:?} {passes}");
-            let streams = streams_of(alloc, Faulty::failing(input, passes));
-            let ended = alone(alloc, alloc, streams, call)?;
-            let is_refused = ended.is_refused(call, b"refused Read\n");
-            assert!(rt; is_refused || passes == input.len(), "{call:?} {passes}");
+        let length = call.input().len();
+        for passes in 0..=length {
+            let is_right = reads_again(rt.alloc(), call, passes, &whole)?
+                && (passes == length || is_unread(rt.alloc(), call, passes)?);
+            assert!(rt; is_right, "{call:?} {passes}");
         }
     }
     Ok(())
@@ -51,46 +60,69 @@ fn has_prefix<R: Read + Drop>(
         && ended.errors.strip_prefix(whole.errors.as_slice()) == Some(told)
 }
 
+// Makes a command over an output.
+fn written(
+    alloc: Global,
+    call: Call,
+    writer: FaultyWriter,
+) -> Result<CallEnd<&'static [u8], FaultyWriter, Vec<u8>>, Fail> {
+    alone(
+        alloc,
+        alloc,
+        Streams::new(call.input(), writer, Vec::new(alloc)),
+        call,
+    )
+}
+
 // A write that is interrupted is made again, too.
 #[test]
 fn writers_are_interrupted_or_fail(rt: HostRuntime) -> Result<(), Fail> {
-    let alloc = rt.alloc();
     for call in CALLS {
-        let whole = alone_whole(alloc, call)?;
+        let whole = alone_whole(rt.alloc(), call)?;
         for passes in 0..whole.writer.len() {
-            let writer = Faulty::interrupted(Vec::new(alloc), passes);
-            let streams = Streams::new(call.input(), writer, Vec::new(alloc));
-            let ended = alone(alloc, alloc, streams, call)?;
-            let taken = ended.writer.taken();
-            assert!(rt; is_whole(&ended, taken, &whole), "{call:?} {passes}");
-            let writer = Faulty::failing_once(Vec::new(alloc), passes);
-            let streams = Streams::new(call.input(), writer, Vec::new(alloc));
-            let ended = alone(alloc, alloc, streams, call)?;
-            let is_cut = has_prefix(&ended, &whole, call, passes);
-            assert!(rt; is_cut, "{call:?} {passes}");
+            let writer = Faulty::interrupted(Vec::new(rt.alloc()), passes);
+            let again = written(rt.alloc(), call, writer)?;
+            let writer = Faulty::failing_once(Vec::new(rt.alloc()), passes);
+            let cut = written(rt.alloc(), call, writer)?;
+            let is_right = is_whole(&again, again.writer.taken(), &whole)
+                && has_prefix(&cut, &whole, call, passes);
+            assert!(rt; is_right, "{call:?} {passes}");
         }
     }
     Ok(())
+}
+
+// Whether a print whose line is cut has written no label, and saved the whole.
+fn is_cut(alloc: Global, call: Call, passes: usize, whole: &Whole) -> Result<bool, Fail> {
+    let errors = Faulty::failing_once(Vec::new(alloc), passes);
+    let streams = Streams::new(call.input(), Vec::new(alloc), errors);
+    let ended = alone(alloc, alloc, streams, call)?;
+    let has_line = whole.errors.get(..passes) == Some(ended.errors.taken());
+    let is_saved = ended.files == whole.files;
+    Ok(ended.status == 1 && ended.writer.is_empty() && has_line && is_saved)
 }
 
 // Where the line of a print can't be written no label goes out, nothing follows what is out of the line, and the
 // ID stays used.
 #[test]
 fn prints_no_label_without_its_line(rt: HostRuntime) -> Result<(), Fail> {
-    let alloc = rt.alloc();
     for call in [Call::Print, Call::PrintAuto] {
-        let whole = alone_whole(alloc, call)?;
+        let whole = alone_whole(rt.alloc(), call)?;
         for passes in 0..whole.errors.len() {
-            let errors = Faulty::failing_once(Vec::new(alloc), passes);
-            let streams = Streams::new(call.input(), Vec::new(alloc), errors);
-            let ended = alone(alloc, alloc, streams, call)?;
-            assert!(rt; ended.status == 1 && ended.writer.is_empty(), "{passes}");
-            assert!(rt; ended.files == whole.files, "{passes}");
-            let line = whole.errors.get(..passes);
-            assert!(rt; line == Some(ended.errors.taken()), "{passes}");
+            assert!(rt; is_cut(rt.alloc(), call, passes, &whole)?, "{passes}");
         }
     }
     Ok(())
+}
+
+// A scan of both labels over an empty disk, whose input fails.
+fn scanned(
+    alloc: Global,
+    passes: usize,
+) -> Result<CallEnd<Faulty<&'static [u8]>, Vec<u8>, Vec<u8>>, Fail> {
+    let machine = Machine::whole(alloc, MemDisk::new(alloc))?;
+    let streams = streams_of(alloc, Faulty::failing(LABELS, passes));
+    made_over(alloc, alloc, machine, streams, Call::Scan(LABELS))
 }
 
 // A scan whose input fails within the second image has saved the page of the first, and its last line names the fault.
@@ -103,13 +135,11 @@ fn a_scan_ends_at_a_failed_read(rt: HostRuntime) -> Result<(), Fail> {
         Call::Scan(LABEL),
     )?;
     for passes in LABEL.len()..LABELS.len() {
-        let machine = Machine::whole(alloc, MemDisk::new(alloc))?;
-        let streams = streams_of(alloc, Faulty::failing(LABELS, passes));
-        let ended = made_over(alloc, alloc, machine, streams, Call::Scan(LABELS))?;
-        assert!(rt; ended.status == 1 && ended.files == first.files, "{passes}");
+        let ended = scanned(alloc, passes)?;
         let lines = ended.writer.as_slice();
+        let is_cut = lines == b"0101 1/2 new\nrefused Read\n".as_slice();
         assert!(rt;
-            lines == b"0101 1/2 new\nrefused Read\n".as_slice(),
+            is_cut && ended.status == 1 && ended.files == first.files,
             "{passes}"
         );
     }
