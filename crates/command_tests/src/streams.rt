@@ -8,7 +8,6 @@ use crate::machine::Machine;
 use dm_store::Kept;
 use relay_shared::Streams;
 use std::alloc::Global;
-use std::io::Read;
 use std::test::Fail;
 use test_helpers::{Faulty, FaultyWriter, MemDisk};
 
@@ -43,16 +42,14 @@ fn readers_are_interrupted_or_fail(rt: HostRuntime) -> Result<(), Fail> {
     Ok(())
 }
 
+// How a command ended whose output failed.
+type Written = CallEnd<&'static [u8], FaultyWriter, Vec<u8>>;
+
 const WRITE: &[u8] = b"refused Write\n";
 
 // Whether the bytes that a failing writer took went out and no other, though it takes bytes again, what the whole
 // command saves is saved, and the command has told, at last, that its output failed, where it tells of that at all.
-fn has_prefix<R: Read + Drop>(
-    ended: &CallEnd<R, FaultyWriter, Vec<u8>>,
-    whole: &Whole,
-    call: Call,
-    passes: usize,
-) -> bool {
+fn has_prefix(ended: &Written, whole: &Whole, call: Call, passes: usize) -> bool {
     let told = if call.writes_no_lines() { WRITE } else { b"" };
     ended.status == 1
         && ended.files == whole.files
@@ -61,17 +58,9 @@ fn has_prefix<R: Read + Drop>(
 }
 
 // Makes a command over an output.
-fn written(
-    alloc: Global,
-    call: Call,
-    writer: FaultyWriter,
-) -> Result<CallEnd<&'static [u8], FaultyWriter, Vec<u8>>, Fail> {
-    alone(
-        alloc,
-        alloc,
-        Streams::new(call.input(), writer, Vec::new(alloc)),
-        call,
-    )
+fn written(alloc: Global, call: Call, writer: FaultyWriter) -> Result<Written, Fail> {
+    let streams = Streams::new(call.input(), writer, Vec::new(alloc));
+    alone(alloc, alloc, streams, call)
 }
 
 // A write that is interrupted is made again, too.
