@@ -35,25 +35,39 @@ fn hold_both(old: &MemStore<&Memory>, set: &MemSet<&Memory>) -> bool {
     is_held(0, FIRST) && is_held(9, THIRD)
 }
 
-// A move that may stop or be refused, and then another, which may be refused once: the answer to the first.
-fn moved_twice(
+// A move that may stop or be refused: the answer, and the two then.
+fn moved_once<'a>(
     rt: &impl Abort,
-    memory: &Memory,
+    memory: &'a Memory,
     (old_passes, set_passes): (u32, u32),
     kept: Kept,
-) -> &'static str {
+) -> (&'static str, MemStore<&'a Memory>, MemSet<&'a Memory>) {
     let mut old = MemStore::new(memory);
     assert!(rt; old.replace(JOINT).is_ok() || old.replace(JOINT).is_ok());
     let mut old = FuseStore::new(old, old_passes, kept);
     let mut set = FuseSet::new(MemSet::new(memory), set_passes, kept);
-    let first = moved(memory, &mut old, &mut set);
-    let (mut old, mut set) = (old.into_inner(), set.into_inner());
+    let answer = moved(memory, &mut old, &mut set);
+    (answer, old.into_inner(), set.into_inner())
+}
+
+// Whether a move, which may be refused once, ends with all documents in the set.
+fn moves_all<'a>(
+    memory: &'a Memory,
+    mut old: MemStore<&'a Memory>,
+    mut set: MemSet<&'a Memory>,
+) -> bool {
+    let is_refused = moved(memory, &mut old, &mut set) != "done";
+    let is_done = !is_refused || moved(memory, &mut old, &mut set) == "done";
+    is_done && hold_both(&old, &set) && old.content() == Some(JOINT_OF_NONE)
+}
+
+// Two moves: the answer to the first.
+fn moved_twice(rt: &impl Abort, memory: &Memory, passes: (u32, u32), kept: Kept) -> &'static str {
+    let (answer, old, set) = moved_once(rt, memory, passes, kept);
     assert!(rt; hold_both(&old, &set));
-    assert!(rt; first != "done" || old.content() == Some(JOINT_OF_NONE));
-    let again = moved(memory, &mut old, &mut set);
-    assert!(rt; again == "done" || moved(memory, &mut old, &mut set) == "done");
-    assert!(rt; hold_both(&old, &set) && old.content() == Some(JOINT_OF_NONE));
-    first
+    assert!(rt; answer != "done" || old.content() == Some(JOINT_OF_NONE));
+    assert!(rt; moves_all(memory, old, set));
+    answer
 }
 
 #[test]
