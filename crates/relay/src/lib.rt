@@ -3,18 +3,19 @@
 //! streams and the system's files. [`do_command`] does a command over its files and streams; the commands stand in
 //! crates of their own and are offered here too.
 //!
-//! Proved of a line: which command it names; that the command is done with the files at the path that it names, and
-//! every other path is as it was; that all it wrote is out where the status is 0; and where its output is saved.
+//! Proved of a line, of [`System::run_line`]: which command it names; that the command is done with the files at the
+//! path that it names, and every other path is as it was; that all it wrote is out where the status is 0; and where its
+//! output is saved.
 //!
 //! Proved, of inputs and outputs whose bytes a contract can name (slices and vectors; of the system's own streams none
 //! can): on status 0 a command has written exactly what it is for: `read` and `scan` a line for each image, `world` one
 //! for each event, `left` one for each fact of a ledger, `held` one for each document, `plan` one for each side,
-//! `ticket` two. On status 1 an output has refused a write, or the command has written the line of a refusal for which
-//! there was a reason, and nothing else, but for five commands: `read` and `scan` have answered to the images before,
-//! and go on to those after a refusal that is of one image alone; `world` goes on to the next event; `held` names the
-//! files that can't be used among its lines; and `print` may have written its line and images. What a command does to
-//! its store and its files is what the call of the printer or of the desk says. `world` plays printers and desks in
-//! memory, and carries the headline.
+//! `ticket` two, and `audit` none, since nothing is wrong. On status 1 an output has refused a write, or the command has
+//! written the line of a refusal for which there was a reason, and nothing else, but for six commands: `read` and `scan`
+//! have answered to the images before, and go on to those after a refusal that is of one image alone; `world` goes on to
+//! the next event; `held` names the files that can't be used among its lines; `audit` has a line for each thing that is
+//! wrong; and `print` may have written its line and images. What a command does to its store and its files is what the
+//! call of the printer or of the desk says. `world` plays printers and desks in memory, and carries the headline.
 //!
 //! The files of a command, in the order in which it comes to them. Nothing is opened before its first load, so what can
 //! be said without a file is said without one. Then a command that may save locks PATH.lock, or PATH.pages.lock at a
@@ -39,6 +40,7 @@ mod real_places;
 mod saved_output;
 mod standard;
 mod system;
+mod system_disk;
 mod watched;
 
 pub use commands::do_command;

@@ -118,7 +118,8 @@ impl<I: Read + Drop, O: Write + Drop, E: Write + Drop, P: Places> System<I, O, E
         command: Command,
     ) -> (Result<u8, AllocError>, Self)
         ensures { OrNothing (DoesAt Global command.entry (map F.remaining images.now))
-            (system_at self.standard (P.state self.places)) result.0 (system_at result.1.standard (P.state result.1.places)) }
+            (system_at self.standard (P.state self.places)) result.0
+            (system_at result.1.standard (P.state result.1.places)) }
     {
         let System {
             standard,
@@ -156,7 +157,8 @@ impl<I: Read + Drop, O: Write + Drop, E: Write + Drop, P: Places> System<I, O, E
     // Saves what a command has written as a new file, and gives the exit status.
     fn save_output(self, alloc: Global, path: &str, bytes: &[u8]) -> (u8, Self)
         ensures { SavesOutput path.now bytes.now
-            (system_at self.standard (P.state self.places)) result.0 (system_at result.1.standard (P.state result.1.places)) }
+            (system_at self.standard (P.state self.places)) result.0
+            (system_at result.1.standard (P.state result.1.places)) }
     {
         let System {
             standard,
@@ -175,7 +177,8 @@ impl<I: Read + Drop, O: Write + Drop, E: Write + Drop, P: Places> System<I, O, E
     // Does a command, and saves its output as a new file, if it was done.
     fn do_saved(self, alloc: Global, path: &str, command: Command) -> (Result<u8, AllocError>, Self)
         ensures { OrNothing (DoesAndSaves Global command.entry path.now)
-            (system_at self.standard (P.state self.places)) result.0 (system_at result.1.standard (P.state result.1.places)) }
+            (system_at self.standard (P.state self.places)) result.0
+            (system_at result.1.standard (P.state result.1.places)) }
     {
         let System { standard, places } = self;
         let StandardStreams(input, own, errors) = standard;
@@ -200,7 +203,8 @@ impl<I: Read + Drop, O: Write + Drop, E: Write + Drop, P: Places> System<I, O, E
     // Does the command of a line with the other files of the line.
     fn do_with(self, alloc: Global, line: &CommandLine<'_>) -> (Result<u8, AllocError>, Self)
         ensures { OrNothing (DoesFor Global (P.images self.places) line.now)
-            (system_at self.standard (P.state self.places)) result.0 (system_at result.1.standard (P.state result.1.places)) }
+            (system_at self.standard (P.state self.places)) result.0
+            (system_at result.1.standard (P.state result.1.places)) }
     {
         if let Some(path) = line.saved_as {
             return self.do_saved(alloc, path, line.command);
@@ -228,7 +232,8 @@ impl<I: Read + Drop, O: Write + Drop, E: Write + Drop, P: Places> System<I, O, E
     // Does what a line says, and gives the exit status.
     fn do_line(self, alloc: Global, line: &CommandLine<'_>) -> (u8, Self)
         ensures { DoesFor Global (P.images self.places) line.now
-            (system_at self.standard (P.state self.places)) result.0 (system_at result.1.standard (P.state result.1.places))
+            (system_at self.standard (P.state self.places)) result.0
+            (system_at result.1.standard (P.state result.1.places))
             ⊎ LacksMemory (system_at self.standard (P.state self.places)) result.0
             (system_at result.1.standard (P.state result.1.places)) }
     {
@@ -243,7 +248,8 @@ impl<I: Read + Drop, O: Write + Drop, E: Write + Drop, P: Places> System<I, O, E
     /// the command, or 2 where the line was refused, or 0 where help was asked for.
     pub fn run_line<S: AsStr>(self, alloc: Global, words: &[S]) -> (u8, Self)
         ensures { Runs Global (P.images self.places) (option_map S.text (slice_get words.now 1))
-            (system_at self.standard (P.state self.places)) result.0 (system_at result.1.standard (P.state result.1.places)) }
+            (system_at self.standard (P.state self.places)) result.0
+            (system_at result.1.standard (P.state result.1.places)) }
     {
         match command_line(alloc, words) {
             Ok(line) => self.do_line(alloc, &line),

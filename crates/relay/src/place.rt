@@ -48,7 +48,8 @@ fn gathering(capacity: u16) -> Access {
 
 /// The files that a command names, if it names any.
 pub(crate) fn named_by<'a>(command: Command<'a>) -> Option<Named<'a>>
-    ensures path { MatchOption result (path_of command.entry ≡ []) (λ named. named.file.now ≡ path_of command.entry) }
+    ensures path { MatchOption result (path_of command.entry ≡ [])
+        (λ named. named.file.now ≡ path_of command.entry) }
     ensures desk { IfSome result (λ named. named.access ≡ Makes → IsTrue named.is_desk) }
 {
     let (file, is_desk, access) = match command {

@@ -6,7 +6,8 @@ use crate::notes::{note_of_file, note_of_folder, note_of_reason};
 use crate::place::{Access, Named, Place};
 use crate::places::Places;
 use crate::saved_output::save_new;
-use dm_store::{FileSet, FileStore, RealDisk, StoreFault};
+use crate::system_disk::SystemDisk;
+use dm_store::{FileSet, FileStore, StoreFault};
 use std::alloc::AllocError;
 use std::fs::File;
 use std::rc::Rc;
@@ -29,7 +30,7 @@ impl<'a> RealPlaces<'a> {
 }
 
 // The system's disk, which asks for the lock of a command's files.
-type Gated<'a> = Locked<'a, RealDisk<'a, HostRuntime>>;
+type Gated<'a> = Locked<'a, SystemDisk<'a>>;
 
 // What the line of a refusal can't say of a command's files.
 fn note_of(rt: &HostRuntime, command_files: &CommandFiles<'_>) -> Option<String> {
@@ -49,7 +50,7 @@ fn note_of(rt: &HostRuntime, command_files: &CommandFiles<'_>) -> Option<String>
         return None;
     }
     let path = command_files.loaded.take()?;
-    note_of_file(alloc, RealDisk::new(alloc, rt), place, path.as_str())
+    note_of_file(alloc, SystemDisk::new(rt), place, path.as_str())
 }
 
 // The gate of the files that a command names.
@@ -68,9 +69,9 @@ fn file_at<'a>(
 ) -> Result<FileStore<Gated<'a>>, AllocError> {
     let path = command_files.place.file.clone()?;
     let disk = if command_files.place.access == Access::Creates {
-        RealDisk::of_new_files(rt.alloc(), rt)
+        SystemDisk::of_new_files(rt)
     } else {
-        RealDisk::new(rt.alloc(), rt)
+        SystemDisk::new(rt)
     };
     Ok(FileStore::new(Locked::new(rt, command_files.clone()?, disk), path))
 }
@@ -81,7 +82,7 @@ fn folder_at<'a>(
     command_files: &Rc<CommandFiles<'a>>,
 ) -> Result<FileSet<Gated<'a>>, AllocError> {
     let path = command_files.place.folder.clone()?;
-    let disk = RealDisk::new(rt.alloc(), rt);
+    let disk = SystemDisk::new(rt);
     Ok(FileSet::new(Locked::new(rt, command_files.clone()?, disk), path))
 }
 

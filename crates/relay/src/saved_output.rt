@@ -3,7 +3,8 @@
 use crate::locked::{Reason, has_own_ending};
 use crate::notes::{note_of_error, note_of_reason};
 use crate::place::{Access, Named, Place};
-use dm_store::{FileStore, KeepsError, RealDisk, Store, StoreFault};
+use crate::system_disk::{KeepsError, SystemDisk};
+use dm_store::{FileStore, Store, StoreFault};
 use std::alloc::AllocError;
 use std::rt::Files;
 
@@ -30,7 +31,7 @@ fn save_at(
     let Ok(path) = place.file.clone() else {
         return (Err(StoreFault::Memory), None);
     };
-    let mut store = FileStore::new(RealDisk::of_new_files(alloc, rt), path);
+    let mut store = FileStore::new(SystemDisk::of_new_files(rt), path);
     let saved = store.replace(bytes);
     let error = store.into_disk().last_error();
     let note = error.and_then(|error| note_of_error(alloc, place.file.as_str(), &error));
