@@ -3,7 +3,7 @@ use Rattle.std.proofs.Common.{false, ◌≡◌, ◌≤◌, ℕ, ◌+◌, ◌-◌
 use Rattle.std.proofs.{lemmas.List.drop-take, Math.Seq.take-append-add}
 use Rattle.std.specs.Io.KnownBytes.{Appends, append_known}
 use Rattle.relay_shared.specs.Command.{StreamsView}
-use Rattle.relay.specs.{Buffers.BufferView, Buffers.promised, Program.StandardView, Program.streams_over}
+use Rattle.relay.specs.{Buffers.BufferView, Buffers.promised, Program.streams_over}
 
 -- of the first n items none is left behind the first n
 none_behind : (n : ℕ) (xs : List ℕ) → drop n (take n xs) ≡ []

@@ -1,6 +1,6 @@
 -- What a command does, from the store and the set of the file that it names, and its streams, to the exit status, the
 -- store, the set and the streams: a line for each command. What a command does not need it leaves as it was.
-use Rattle.std.specs.Prelude.{◌≡◌, ℕ, ◌++◌, List, [], Option, Bool, true, false, not, IsTrue, IsFalse, codes, string_bytes, ◌≢◌, ◌⊎◌, map, None, Some, Result, Ok, Err}
+use Rattle.std.specs.Prelude.{◌≡◌, ℕ, List, [], Option, Bool, true, false, codes, string_bytes, ◌≢◌, ◌⊎◌, map, None, Some, Result, Ok, Err}
 use Rattle.std.specs.{Option.option_copied, Io.KnownBytes.Appends, Io.KnownBytes.Keeps}
 use Rattle.relay_command.specs.declared.command.Command.{Command}
 use Rattle.relay_command.specs.declared.command.Command.TheVariants.{Words, Draw, Read, Plan, Ticket, Ledger, Print, Give, GiveLast, Take, Left, Audit, Scan, Deliver, Forget, Export, Import, Held, Copy, World}
@@ -13,10 +13,8 @@ use Rattle.relay_world_command.specs.{declared.world.TheConstants.INPUT_BYTES, W
 use Rattle.relay_symbol_commands.specs.Symbols.{EndsWords, EndsDraw, EndsRead}
 use Rattle.relay_desk_commands.specs.Desks.{OnDesk, EndsDeliver, EndsExport, EndsForget, EndsImport, EndsScan, EndsCopy, EndsHeld, DeskFiles}
 use Rattle.relay_printer_commands.specs.Printers.{EndsLeft, OnLedger, EndsLedger, EndsAudit, EndsGive, EndsGiveLast, EndsTake, ledger_at, EndsPlan, EndsPrint, EndsTicket}
-use Rattle.dm_store.specs.Disk.{draft_of, saved_under, set_in, unclaimed}
-use Rattle.relay.specs.declared.{place.Access.Access, place.Place.Place, locked.Found.Found}
-use Rattle.relay.specs.declared.place.Access.TheVariants.{Creates, Makes, Saves, Reads, Moves, Looks}
-use Rattle.dm_store.specs.{Saved.Replaces, Saved.Saved, Saved.SavedSet, declared.store.StoreFault.StoreFault}
+use Rattle.relay_places.specs.Places.{KeepsOthers, PlacesView, SavesNew}
+use Rattle.dm_store.specs.declared.store.StoreFault.{StoreFault}
 use Rattle.relay_line.specs.Line.{HasStatus, named_images, IsFound, IsNamed, saved_path}
 use Rattle.relay_line.specs.declared.{line.CommandLine.CommandLine, fault.LineFault.LineFault}
 use Rattle.relay_line.specs.declared.fault.LineFault.TheVariants.{Line, Memory}
@@ -91,22 +89,6 @@ path_of (Held file id) = file.now
 path_of (Copy file id page side scheme) = file.now
 path_of other = []
 
--- The draft of a file is beside it, and so is the file that is locked: beside a ledger, or beside a desk's folder.
-pub record IsPlaced (place : Place) : Type 0 where
-  pub draft : string_bytes place.draft ≡ draft_of (string_bytes place.file)
-  pub of_ledger : IsFalse place.is_desk → string_bytes place.lock ≡ string_bytes place.file ++ codes ".lock"
-  pub of_desk : IsTrue place.is_desk → string_bytes place.lock ≡ string_bytes place.folder ++ codes ".lock"
-
--- A command locks its files at its first load, by what it does to them and what it finds there: to make a ledger where
--- nothing is, or a desk; to save to what is there; to move the documents of a joint file.
-abbrev pub locks : Access → Found → Bool
-locks Creates found = not found.is_any
-locks Makes found = true
-locks Saves found = found.is_any
-locks Reads found = found.has_documents
-locks Moves found = found.has_documents
-locks Looks found = false
-
 -- ---- lines
 
 -- What the words of a line do: to the standard streams, and to what is at the paths that the line names.
@@ -161,30 +143,6 @@ pub record DoesBetween (A : Type 0) (command : Command) (images : List (Option (
   pub does : Does A command images (record { files = before; streams = streams_over old }) ended
       (record { files = after; streams = wrote })
   pub out : PutsOut wrote.output.contents wrote.errors ended status new.output new.errors
-
--- ---- the paths
-
-abbrev pub files_of : Saved → SavedSet → DeskFiles
-files_of joint set = record { joint = joint; set = set }
-
--- what is at each path: a ledger or a joint file, and the folder beside it
-abbrev pub PlacesView : Type 0
-PlacesView = List ℕ → DeskFiles
-
--- nothing is claimed of what is at the paths
-abbrev pub unclaimed_places : PlacesView
-unclaimed_places path = files_of (saved_under unclaimed path) (set_in unclaimed path)
-
--- at every other path is what was there before
-abbrev pub KeepsOthers : List ℕ → PlacesView → PlacesView → Type 0
-KeepsOthers path old new = (other : List ℕ) → other ≢ path → new other ≡ old other
-
--- Nothing was changed, or the file at the path was saved as stores are saved; all else is as it was.
-abbrev pub SavesNew : List ℕ → List ℕ → PlacesView → Result (Unit {0}) StoreFault → PlacesView → Type 0
-SavesNew path bytes old answer new =
-    ((new ≡ old) × ((fault : StoreFault) × (answer ≡ Err fault)))
-    ⊎ (Replaces (old path).joint bytes answer (new path).joint × ((new path).set ≡ (old path).set)
-    × KeepsOthers path old new)
 
 -- ---- a command of a line
 

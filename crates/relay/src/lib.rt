@@ -1,7 +1,7 @@
 //! The program `relay`. [`System::run_line`] does what the words of a line say over standard streams and the files at
 //! paths, which [`Places`] gives out, and answers the exit status; [`run`] calls it with the program's own words and
-//! streams and the system's files. [`do_command`] does a command over its files and streams; the commands stand in
-//! crates of their own and are offered here too.
+//! streams and the system's files. [`do_command`] does a command over its files and streams; the files and the commands
+//! stand in crates of their own and are offered here too.
 //!
 //! Proved of a line, of [`System::run_line`]: which command it names; that the command is done with the files at the
 //! path that it names, and every other path is as it was; that all it wrote is out where the status is 0; and where its
@@ -16,36 +16,18 @@
 //! the next event; `held` names the files that can't be used among its lines; `audit` has a line for each thing that is
 //! wrong; and `print` may have written its line and images. What a command does to its store and its files is what the
 //! call of the printer or of the desk says. `world` plays printers and desks in memory, and carries the headline.
-//!
-//! The files of a command, in the order in which it comes to them. Nothing is opened before its first load, so what can
-//! be said without a file is said without one. Then a command that may save locks PATH.lock, or PATH.pages.lock at a
-//! desk, and holds it until its output is out. It loads PATH, and at a desk the files in the folder PATH.pages. It
-//! saves to NAME.new, looks whether the lock file is still its own, and gives that file the name NAME. What a command
-//! can't have is a device fault to it, and a line `relay: PATH: ..` on the standard error says why. Proved of the disk
-//! behind a lock: it is a disk like the one within, whose calls may fail. That it is locked is in no clause.
 #![tactic(auto)]
 
 mod closed_streams;
 mod commands;
 mod line;
 mod line_buffer;
-mod lock;
-mod locked;
-mod named_images;
-mod notes;
-mod place;
-mod places;
+mod named;
 mod program;
-mod real_places;
-mod saved_output;
 mod standard;
 mod system;
-mod system_disk;
-mod watched;
 
 pub use commands::do_command;
-pub use place::{Access, Named};
-pub use places::Places;
 pub use program::run;
 pub use relay_command::Command;
 pub use relay_desk_commands::{
@@ -53,6 +35,7 @@ pub use relay_desk_commands::{
     held_command, import_command, scan_command,
 };
 pub use relay_line::{LineFault, command_line};
+pub use relay_places::{Access, Named, Places};
 pub use relay_printer_commands::{
     Labels, TICKETS_BYTES, audit_command, give_command, give_last_command, ledger_command,
     left_command, plan_command, print_command, take_command, ticket_command,

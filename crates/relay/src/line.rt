@@ -4,14 +4,13 @@ ghost use Rattle.std.specs.Prelude.{◌≡◌, ◌⊎◌, IfOk, map, option_map,
 ghost use Rattle.relay.specs.Program.{DoesAndSaves, DoesAt, DoesFor, Helps, LacksMemory, ShowsNote, OrNothing, Runs};
 ghost use Rattle.relay.specs.Program.{SavesOutput, Informs, TellsOut, save_fault_name, system_at};
 
-use crate::notes::note_of_input;
-use crate::place::{named_by, refuses_on_errors};
-use crate::places::Places;
+use crate::named::{named_by, refuses_on_errors};
 use crate::standard::{Done, StandardStreams, do_between, show, tell};
 use crate::system::System;
 use dm_store::{MemSet, MemStore, StoreFault};
 use relay_command::Command;
 use relay_line::{CommandLine, LineFault, command_line};
+use relay_places::{Places, note_of_input};
 use relay_shared::ImageFile;
 use std::alloc::{AllocError, Global};
 use std::convert::AsStr;

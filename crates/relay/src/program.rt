@@ -2,10 +2,9 @@
 
 use crate::closed_streams::HeldPlaces;
 use crate::line_buffer::ErrorWriter;
-use crate::notes::note;
-use crate::real_places::RealPlaces;
 use crate::standard::{StandardStreams, tell};
 use crate::system::System;
+use relay_places::{RealPlaces, note};
 use std::io::{BufReader, ErrorKind};
 use std::{env, io};
 

@@ -2,15 +2,16 @@
 
 ghost use Rattle.std.specs.Prelude.{◌≡◌, map, true, false};
 ghost use Rattle.relay.specs.Buffers.{promised};
-ghost use Rattle.relay.specs.Program.{DoesBetween, PutsOut, ShowsPart, TellsOut, files_of};
+ghost use Rattle.relay.specs.Program.{DoesBetween, PutsOut, ShowsPart, TellsOut};
+ghost use Rattle.relay_places.specs.Places.{files_of};
 ghost use Rattle.std.specs.Io.KnownBytes.{Appends};
 
 use crate::commands::do_command;
 use crate::line_buffer::LineBuffer;
-use crate::place::refuses_on_errors;
-use crate::watched::Watched;
+use crate::named::refuses_on_errors;
 use dm_store::{Store, StoreSet};
 use relay_command::Command;
+use relay_places::Watched;
 use relay_shared::{EndedDesk, ImageFile, Streams, refuse};
 use relay_streams::{Output, put_to};
 use std::alloc::Allocator;

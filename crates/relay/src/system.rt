@@ -1,7 +1,7 @@
 //! What a line runs on: the standard streams, and what is at the paths.
 
-use crate::places::Places;
 use crate::standard::StandardStreams;
+use relay_places::Places;
 use std::io::{Read, Write};
 
 /// The standard streams, and what is at the paths.

@@ -4,7 +4,8 @@ use Rattle.std.specs.{Prelude.Decides, Prelude.IfSome, Prelude.IsTrue, List.AllB
 use Rattle.std.proofs.lemmas.Slice.Eq.{bytes_eq-Decides}
 use Rattle.relay_command.specs.declared.command.Command.{Command}
 use Rattle.relay_desk_commands.specs.Desks.{DeskFiles}
-use Rattle.relay.specs.Program.{path_of, IsAt, PlacesView, SystemView, at_none, at_path, does, does_and_saves, does_here, lacks_memory, shows}
+use Rattle.relay.specs.Places.{PlacesView}
+use Rattle.relay.specs.Program.{path_of, IsAt, SystemView, at_none, at_path, does, does_and_saves, does_here, lacks_memory, shows}
 use Rattle.relay.specs.Program as program
 use Rattle.relay_program_runs.specs.Law.{At, MeetsPremises, IsBlank, IsNew, Ran, RunInTurn}
 use Rattle.relay_program_runs.specs.Lines.{Follow, LineRan, LinesAsk, NoLinePrintsAnIdAgain, WhatLinesDeliverWasPrinted, all_commands, commands_in, if_at, ran_at, saved_as}

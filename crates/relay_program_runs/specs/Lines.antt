@@ -3,7 +3,8 @@ use Rattle.std.specs.Prelude.{◌≡◌, ◌≢◌, ◌++◌, ◌∷◌, ℕ, Al
 use Rattle.std.specs.{List.AllByRecursion, Io.KnownBytes.Keeps}
 use Rattle.relay_command.specs.declared.command.Command.{Command}
 use Rattle.relay_desk_commands.specs.Desks.{DeskFiles}
-use Rattle.relay.specs.Program.{path_of, DoesAt, IsAt, PlacesView, SystemView, at_none, at_path, does, does_and_saves, does_here, streams_over}
+use Rattle.relay.specs.Places.{PlacesView}
+use Rattle.relay.specs.Program.{path_of, DoesAt, IsAt, SystemView, at_none, at_path, does, does_and_saves, does_here, streams_over}
 use Rattle.relay.specs.Program as program
 use Rattle.relay_program_runs.specs.Law.{AreApart, DeliversPrinted, Each, IsBlank, IsFirstOfItsId, Ran, TakesGiven, TakesPrinted, all_made, exited}
 

@@ -1,4 +1,4 @@
-use Rattle.std.proofs.Common.{rules, map, ap}
+use Rattle.std.proofs.Common.{rules, map}
 use Rattle.relay.specs.Program.{SystemView, system_at}
 use Rattle.relay.proofs.Endings.{over_files, saved}
 use Rattle.relay.proofs.system.System.do_with.Goals as goal

@@ -10,15 +10,15 @@ pub(crate) const NO_IMAGE: &str = "no image was read";
 
 /// A reader that remembers whether it was asked for bytes, and whether it has given any.
 #[derive(Drop)]
-pub(crate) struct Watched<R: Drop> {
-    reader: R,
-    was_asked: bool,
-    has_given: bool,
+pub struct Watched<R: Drop> {
+    pub reader: R,
+    pub was_asked: bool,
+    pub has_given: bool,
 }
 
 impl<R: Read + Drop> Watched<R> {
     /// Watches a reader that was not asked yet.
-    pub(crate) fn new(reader: R) -> Watched<R>
+    pub fn new(reader: R) -> Watched<R>
         ensures { result.reader ≡ reader }
     {
         Watched {
@@ -29,12 +29,12 @@ impl<R: Read + Drop> Watched<R> {
     }
 
     /// Whether it was asked for bytes, and has given none.
-    pub(crate) fn is_empty(&self) -> bool {
+    pub fn is_empty(&self) -> bool {
         self.was_asked && !self.has_given
     }
 
     /// The reader.
-    pub(crate) fn into_reader(self) -> R
+    pub fn into_reader(self) -> R
         ensures { result ≡ self.reader }
     {
         self.reader

@@ -14,14 +14,14 @@ use std::rc::Rc;
 
 /// The system's own files, which are locked while they are given out. It claims nothing of them.
 #[derive(Drop)]
-pub(crate) struct RealPlaces<'a> {
+pub struct RealPlaces<'a> {
     rt: &'a HostRuntime,
     command_files: Option<Rc<CommandFiles<'a>>>,
 }
 
 impl<'a> RealPlaces<'a> {
     /// The system's files, of which none is given out.
-    pub(crate) fn new(rt: &'a HostRuntime) -> RealPlaces<'a> {
+    pub fn new(rt: &'a HostRuntime) -> RealPlaces<'a> {
         RealPlaces {
             rt,
             command_files: None,
@@ -99,7 +99,7 @@ fn close_gate(rt: &HostRuntime, command_files: CommandFiles<'_>, status: u8) -> 
 
 impl<'a> Places for RealPlaces<'a> {
     ghost use Rattle.std.specs.Prelude.{None};
-    ghost use Rattle.relay.specs.Program.{unclaimed_places};
+    ghost use Rattle.relay_places.specs.Places.{unclaimed_places};
 
     type File = FileStore<Gated<'a>>;
 

@@ -21,15 +21,15 @@ fn line_of(alloc: Global, name: &str, why: &str) -> Result<String, AllocError> {
     format!(in alloc; "relay: {name}: {why}\n")
 }
 
-/// Writes why something was refused, at once.
-pub(crate) fn note(rt: &HostRuntime, name: &str, why: &str) {
+/// Writes why something was refused to the standard error, at once: the line `relay: NAME: WHY`.
+pub fn note(rt: &HostRuntime, name: &str, why: &str) {
     if let Ok(line) = line_of(rt.alloc(), name, why) {
         let _ = eprint!(rt; "{line}");
     }
 }
 
 /// That an input had no image, if it was to have some and had none.
-pub(crate) fn note_of_input(alloc: Global, has_no_image: bool) -> Option<String> {
+pub fn note_of_input(alloc: Global, has_no_image: bool) -> Option<String> {
     if !has_no_image {
         return None;
     }

@@ -10,14 +10,14 @@ use std::{fs, io};
 
 /// A file of images by its name, or the program's input, where that is `-`.
 #[derive(Drop)]
-pub(crate) struct NamedImages<'a> {
+pub struct NamedImages<'a> {
     pub(crate) rt: &'a HostRuntime,
     pub(crate) name: String,
 }
 
 /// The program's input, or a file.
 #[derive(Drop)]
-pub(crate) enum Source<I: Drop> {
+pub enum Source<I: Drop> {
     Input(I),
     File(File),
 }

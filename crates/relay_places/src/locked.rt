@@ -1,7 +1,7 @@
 //! Files that lock themselves.
 
 ghost use Rattle.std.specs.Prelude.{◌≡◌};
-ghost use Rattle.relay.specs.Program.{locks};
+ghost use Rattle.relay_places.specs.Places.{locks};
 
 use crate::lock::{Lock, LockFault};
 use crate::notes::note_of_error;
@@ -220,7 +220,7 @@ impl<'a> CommandFiles<'a> {
 /// The disk of a command's files, which asks for their lock. What [`CommandFiles`] refuses is a device fault. It looks
 /// at the lock right before each call that makes, renames or removes.
 #[derive(Drop)]
-pub(crate) struct Locked<'a, D> {
+pub struct Locked<'a, D> {
     rt: &'a HostRuntime,
     command_files: Rc<CommandFiles<'a>>,
     within: D,

@@ -6,7 +6,7 @@ use std::io;
 
 /// The disk of the program's runtime. A proof that names its calls need not name those of the runtime each time.
 #[derive(Drop)]
-pub(crate) struct SystemDisk<'a>(RealDisk<'a, HostRuntime>);
+pub struct SystemDisk<'a>(RealDisk<'a, HostRuntime>);
 
 impl<'a> SystemDisk<'a> {
     /// The system's files.

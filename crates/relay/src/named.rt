@@ -1,0 +1,68 @@
+//! The files that a command names, and where its refusals go.
+
+ghost use Rattle.std.specs.Prelude.{◌≡◌, [], IfSome, IsTrue, MatchOption};
+ghost use Rattle.relay.specs.Program.{path_of};
+ghost use Rattle.relay_places.specs.declared.place.Access.TheVariants.{Makes};
+
+use dm_assembly_desk::MOST_CAPACITY;
+use relay_command::Command;
+use relay_places::{Access, Named};
+
+// What a command does that gathers pages.
+fn gathering(capacity: u16) -> Access {
+    if (1..=MOST_CAPACITY).contains(&capacity) {
+        Access::Makes
+    } else {
+        Access::Moves
+    }
+}
+
+/// The files that a command names, if it names any.
+pub(crate) fn named_by<'a>(command: Command<'a>) -> Option<Named<'a>>
+    ensures path { MatchOption result (path_of command.entry ≡ [])
+        (λ named. named.file.now ≡ path_of command.entry) }
+    ensures desk { IfSome result (λ named. named.access ≡ Makes → IsTrue named.is_desk) }
+{
+    let (file, is_desk, access) = match command {
+        Command::Words { .. }
+        | Command::Draw { .. }
+        | Command::Read
+        | Command::Audit
+        | Command::Plan { .. }
+        | Command::Ticket { .. }
+        | Command::World => return None,
+        Command::Ledger { file, .. } => (file, false, Access::Creates),
+        Command::Print { file, .. }
+        | Command::Give { file, .. }
+        | Command::GiveLast { file, .. }
+        | Command::Take { file, .. } => (file, false, Access::Saves),
+        Command::Left { file } => (file, false, Access::Looks),
+        Command::Scan { file, capacity } | Command::Import { file, capacity } => (
+            file,
+            true,
+            gathering(capacity),
+        ),
+        Command::Forget { file, .. } => (file, true, Access::Saves),
+        Command::Deliver { file, .. } | Command::Export { file, .. } | Command::Copy { file, .. } =>
+            (file, true, Access::Reads),
+        Command::Held { file, .. } => (file, true, Access::Looks),
+    };
+    Some(Named {
+        file,
+        is_desk,
+        access,
+    })
+}
+
+/// Whether the refusals of a command go to the standard error, since its output is bytes for another program. Those of
+/// each other command are lines of its output.
+pub(crate) fn refuses_on_errors(command: Command) -> bool {
+    matches!(
+        command,
+        Command::Draw { .. }
+            | Command::Print { .. }
+            | Command::Deliver { .. }
+            | Command::Export { .. }
+            | Command::Copy { .. }
+    )
+}

@@ -1,0 +1,45 @@
+-- What is at the paths of a line, and where the files of a command are.
+use Rattle.std.specs.Prelude.{◌≡◌, ℕ, ◌++◌, List, Bool, true, false, not, IsTrue, IsFalse, codes, string_bytes, ◌≢◌, ◌⊎◌, Result, Err}
+use Rattle.relay_desk_commands.specs.Desks.{DeskFiles}
+use Rattle.dm_store.specs.Disk.{draft_of, saved_under, set_in, unclaimed}
+use Rattle.dm_store.specs.{Saved.Replaces, Saved.Saved, Saved.SavedSet, declared.store.StoreFault.StoreFault}
+use Rattle.relay_places.specs.declared.{place.Access.Access, place.Place.Place, locked.Found.Found}
+use Rattle.relay_places.specs.declared.place.Access.TheVariants.{Creates, Makes, Saves, Reads, Moves, Looks}
+
+abbrev pub files_of : Saved → SavedSet → DeskFiles
+files_of joint set = record { joint = joint; set = set }
+
+-- what is at each path: a ledger or a joint file, and the folder beside it
+abbrev pub PlacesView : Type 0
+PlacesView = List ℕ → DeskFiles
+
+-- nothing is claimed of what is at the paths
+abbrev pub unclaimed_places : PlacesView
+unclaimed_places path = files_of (saved_under unclaimed path) (set_in unclaimed path)
+
+-- at every other path is what was there before
+abbrev pub KeepsOthers : List ℕ → PlacesView → PlacesView → Type 0
+KeepsOthers path old new = (other : List ℕ) → other ≢ path → new other ≡ old other
+
+-- Nothing was changed, or the file at the path was saved as stores are saved; all else is as it was.
+abbrev pub SavesNew : List ℕ → List ℕ → PlacesView → Result (Unit {0}) StoreFault → PlacesView → Type 0
+SavesNew path bytes old answer new =
+    ((new ≡ old) × ((fault : StoreFault) × (answer ≡ Err fault)))
+    ⊎ (Replaces (old path).joint bytes answer (new path).joint × ((new path).set ≡ (old path).set)
+    × KeepsOthers path old new)
+
+-- The draft of a file is beside it, and so is the file that is locked: beside a ledger, or beside a desk's folder.
+pub record IsPlaced (place : Place) : Type 0 where
+  pub draft : string_bytes place.draft ≡ draft_of (string_bytes place.file)
+  pub of_ledger : IsFalse place.is_desk → string_bytes place.lock ≡ string_bytes place.file ++ codes ".lock"
+  pub of_desk : IsTrue place.is_desk → string_bytes place.lock ≡ string_bytes place.folder ++ codes ".lock"
+
+-- A command locks its files at its first load, by what it does to them and what it finds there: to make a ledger where
+-- nothing is, or a desk; to save to what is there; to move the documents of a joint file.
+abbrev pub locks : Access → Found → Bool
+locks Creates found = not found.is_any
+locks Makes found = true
+locks Saves found = found.is_any
+locks Reads found = found.has_documents
+locks Moves found = found.has_documents
+locks Looks found = false
