@@ -1,7 +1,7 @@
 -- What a printer stores, over a run: `Exhausted` is answered only where no number is free, since what the printer began
 -- with and took is used and given away; its next serial is the number of its gives that saved; and its givers are those of
 -- its takes that saved.
-use Rattle.std.proofs.Common.{◌≡◌, ◌≢◌, ◌⊎◌, ◌+◌, ◌<◌, ◌==◌, ◌&&◌, ◌||◌, not, inl, inr, ℕ, zero, suc, Bool, true, false, true≢false, if◌then◌else◌, Ok, Option, None, Some, List, [], ◌∷◌, length, slice_get, slice_set, refl, sym, ap, subst, ◌∙◌, arith, eq-eqb}
+use Rattle.std.proofs.Common.{◌≡◌, ◌≢◌, ◌⊎◌, ◌+◌, ◌<◌, ◌==◌, ◌&&◌, ◌||◌, not, inl, inr, ℕ, zero, suc, Bool, true, false, true≢false, Ok, Option, None, Some, List, [], ◌∷◌, length, slice_get, slice_set, refl, sym, ap, subst, ◌∙◌, arith, eq-eqb}
 use Rattle.std.specs.{Prelude.IfSome, Prelude.is_some, Prelude.option_map, Option.option_map_or}
 use Rattle.std.proofs.lemmas.Bool.Decides.{nat_tests}
 use Rattle.dm_size.specs.declared.size.Size.{Size}
@@ -18,7 +18,7 @@ use Rattle.dm_store.specs.declared.fuse.Kept.TheVariants.{Old}
 use Rattle.dm_event_history.specs.declared.stop.Stop.{Stop}
 use Rattle.dm_event_history.specs.declared.stop.Stop.TheVariants as stops
 use Rattle.dm_event_history.specs.declared.stop.Stop.TheVariants.{BeforeSave, InSave, SaveFault}
-use Rattle.dm_event_history.specs.Told.{CountsTickets, EachExhaustedIsSo, EachRunCountsTickets, EachTakeIsLater, gains, gives, has_saved, last_from, loses, newest_saved, next_serial, serial_from, stock, stored_at, sum_saved, tells_of_save}
+use Rattle.dm_event_history.specs.Told.{CountsTickets, EachExhaustedIsSo, EachRunCountsTickets, EachTakeIsLater, gains, gives, has_saved, loses, serial_from, stock, stored_at, sum_saved, tells_of_save}
 use Rattle.dm_event_history.specs.Steps.{Named, PrinterAt, actor_of, is_same, leaves_new, may_save, stop_of, Acts, PrinterGoes, Step, IsRun, Moment, Answers, Calls, Course, Ending, Faults, LacksMemory, MayLackFirst, Reaches, Restarts, Saves, ends, GiveComes, PrintComes, TakeComes, give_faults, print_faults, take_faults}
 use Rattle.dm_event_history.specs.Relay.{Actor, Running, Failed, stored_of, Goods, Relay, fresh_from, start}
 use Rattle.dm_event_history.proofs.{Deciding.other_number, Having.saves_may, Having.Stores}

@@ -6,7 +6,7 @@ use Rattle.dm_event_history.specs.declared.{event.Event.Event, reply.Reply.Reply
 use Rattle.dm_event_history.specs.declared.stop.Stop.TheVariants.{InSave, SaveFault, AfterLabels}
 use Rattle.dm_event_history.specs.declared.stop.Stop.TheVariants as stops
 use Rattle.dm_event_history.specs.Steps.{leaves_new, may_save, stop_of, Answers, Calls, Course, Ending, Faults, LacksMemory, Looks, MayLackFirst, Restarts, Saves, ends}
-use Rattle.dm_event_history.specs.Relay.{Actor, HasAll, Running, Failed, Down, Goods}
+use Rattle.dm_event_history.specs.Relay.{Actor, HasAll, Running, Goods}
 
 -- a save under this stop leaves the new content
 abbrev pub Stores : Stop → Type 0

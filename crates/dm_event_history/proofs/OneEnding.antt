@@ -1,5 +1,5 @@
 -- A call ends in one way, but for memory; and in one way for each reply.
-use Rattle.std.proofs.Common.{arith, ◌≡◌, ◌⊎◌, inl, inr, ℕ, List, Option, Ok, Err, Result, ap, refl, subst, sym, ◌∙◌}
+use Rattle.std.proofs.Common.{arith, ◌≡◌, ◌⊎◌, inl, inr, ℕ, List, Option, Ok, Err, Result, ap, subst, sym, ◌∙◌}
 use Rattle.std.specs.FinMap as finite
 use Rattle.dm_size.specs.declared.size.Size.{Size}
 use Rattle.dm_encodation.specs.declared.scheme.Scheme.{Scheme}

@@ -17,9 +17,7 @@ use Rattle.dm_event_history.specs.Relay.{Actor, stored_of, Running, Failed, Desk
 use Rattle.dm_event_history.specs.Headline.{ArePrinted, IsFairEvent, AreDisjoint, AreSavedFair}
 use Rattle.dm_assembly_desk.specs.declared.reply.Kind.{Kind, TheVariants.New, TheVariants.Again, TheVariants.Complete}
 use Rattle.dm_assembly_desk.specs.Documents.{page, names, Documents, page_at}
-use Rattle.dm_assembly_desk.specs.declared.{reply.Accepted.Accepted, fault.AskFault.AskFault, fault.ScanFault.ScanFault}
-use Rattle.dm_assembly_desk.specs.declared.fault.{ForgetFault.ForgetFault, ExportFault.ExportFault}
-use Rattle.dm_assembly_desk.specs.declared.fault.ImportFault.{ImportFault}
+use Rattle.dm_assembly_desk.specs.declared.{reply.Accepted.Accepted}
 use Rattle.dm_print_ledger.specs.declared.fault.PrintFault.TheVariants as print_fault
 use Rattle.dm_print_ledger.specs.declared.fault.GiveFault.TheVariants as give_fault
 use Rattle.dm_print_ledger.specs.declared.fault.TakeFault.TheVariants as take_fault

@@ -1,10 +1,10 @@
 -- The last numbers, so many, that follow one another and are free, and the most that do.
-use Rattle.std.proofs.Common.{◌≡◌, ◌≤◌, ◌<◌, ◌+◌, ◌-◌, ◌⊎◌, inl, inr, ℕ, Bool, true, false, Option, None, Some, List, [], ◌∷◌, refl, sym, ◌∙◌, arith}
-use Rattle.std.specs.Prelude.{MatchOption, if◌then◌else◌, max, nat_le}
+use Rattle.std.proofs.Common.{◌≡◌, ◌≤◌, ◌<◌, ◌+◌, ◌-◌, ◌⊎◌, inl, inr, ℕ, Bool, true, false, Option, None, Some, List, [], ◌∷◌, refl, arith}
+use Rattle.std.specs.Prelude.{MatchOption, if◌then◌else◌, nat_le}
 use Rattle.std.specs.Option.{option_or}
 use Rattle.std.proofs.lemmas.Bool.{and_from, and_parts, cases_lt, le-leb, leb-false, leb-true, or_cases, or_left, or_right}
 use Rattle.dm_print_ledger.specs.declared.range.Range.{Range}
-use Rattle.dm_print_ledger.specs.Ledger.{are_ranges, is_free, is_in, is_range, size_of}
+use Rattle.dm_print_ledger.specs.Ledger.{are_ranges, size_of}
 use Rattle.dm_print_ledger.specs.Verdicts.{AreFree, AreLastFree, IsLongest, LastIsFound, are_free, covers, last_of, longest}
 use Rattle.dm_print_ledger.proofs.{LedgerLaws.ranges_are_numbers, RangeTests.free_after, RangeTests.free_here}
 use Rattle.dm_print_ledger.proofs.Rising.{IsRange, RiseFrom, range_fact, range_test, rise_fact}

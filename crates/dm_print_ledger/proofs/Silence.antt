@@ -1,11 +1,11 @@
 -- What the tests of two ledgers, or of a ledger and a ticket, find, and what they do not.
-use Rattle.std.proofs.Common.{◌≡◌, ◌<◌, ◌≤◌, ◌+◌, ◌⊎◌, inl, inr, ℕ, Bool, true, false, ◌&&◌, ◌||◌, not, Some, None, Option, List, [], ◌∷◌, refl, sym, ap, subst, ◌∙◌, arith}
+use Rattle.std.proofs.Common.{◌≡◌, ◌<◌, ◌≤◌, ◌+◌, inl, inr, ℕ, Bool, true, false, ◌&&◌, Some, None, Option, List, [], ◌∷◌, refl, sym, ap, subst, ◌∙◌, arith}
 use Rattle.std.specs.Prelude.{◌==◌, nat_le}
 use Rattle.std.specs.{List.list_any, List.Contains, Option.option_map_or}
 use Rattle.std.proofs.lemmas.List.Folds.{Any-from_list_any, list_any-from_Any}
-use Rattle.std.proofs.lemmas.Bool.{and_from, and_left, and_parts, cases_Bool, eq-eqb, eqb-true, false≢true, leb-false, leb-true, lt-leb, or_from, or_parts}
+use Rattle.std.proofs.lemmas.Bool.{and_from, and_left, and_parts, cases_Bool, eq-eqb, eqb-true, false≢true, leb-false, leb-true, or_from, or_parts}
 use Rattle.dm_print_ledger.specs.declared.{giver.Giver.Giver, range.Range.Range}
-use Rattle.dm_print_ledger.specs.Ledger.{ShownView, are_ranges, is_free, rise_from}
+use Rattle.dm_print_ledger.specs.Ledger.{ShownView, are_ranges, is_free}
 use Rattle.dm_print_ledger.specs.Verdicts.{AreBeside, IsSilent, SilenceIsExact, are_of_one, has_free, is_behind, is_of, lacks_gift, share_ticket}
 use Rattle.dm_print_ledger.proofs.{LedgerLaws.ranges_are_numbers, Rising.RiseFrom, Rising.range_test, Rising.rise_fact}
 use Rattle.dm_print_ledger.proofs.RangeTests.{both, free_after, free_cases, free_here}

@@ -18,7 +18,7 @@ use Rattle.relay_shared.specs.Command.{HasInputFault, refusal_name, OnlyOutput, 
 use Rattle.dm_finder_frame.specs.Frame.{GridView}
 use Rattle.dm_pbm_io.specs.{FaultNames.shape_fault_name, Image.Picture, Image.HasShape, Image.IsGridInside, Image.p4}
 use Rattle.dm_pbm_io.specs.declared.fault.ShapeFault.{ShapeFault, TheVariants.Shape, TheVariants.Memory}
-use Rattle.dm_assembly_desk.specs.declared.{reply.Imported.Imported, fault.ScanFault.TheVariants.Label}
+use Rattle.dm_assembly_desk.specs.declared.{fault.ScanFault.TheVariants.Label}
 use Rattle.dm_append_label.specs.declared.fault.LabelFault.TheVariants.{Border, Block}
 use Rattle.dm_store.specs.declared.store.StoreFault.{StoreFault}
 use Rattle.dm_size.specs.{Sizes.IsSide, Sizes.side, declared.size.Size.Size}

@@ -4,7 +4,7 @@ use Rattle.std.specs.Prelude.{◌==◌, IsTrue, MatchResult, Result, codes, if�
 use Rattle.std.specs.{Fmt.decimal, List.AllByRecursion, List.flat_map, Option.option_map_or}
 use Rattle.std.proofs.lemmas.Bool.{cases_Bool, cond-false, cond-true, eq-eqb, ne_eqb}
 use Rattle.std.proofs.lemmas.Option.{slice_get-get_or, slice_get-map}
-use Rattle.dm_print_ledger.specs.{Ledger.are_ranges, Verdicts.IsSilent, Verdicts.SilenceIsExact}
+use Rattle.dm_print_ledger.specs.{Ledger.are_ranges, Verdicts.SilenceIsExact}
 use Rattle.relay_printer_commands.specs.Printers.{AreAllSound, AuditIsExact, EvidenceView, Gathers, IsSoundPair, ShowsFile, ShowsLine, are_same, audit_lines, breach_line, breach_lines, evidence_name, fault_line}
 use Rattle.relay_shared.proofs.Telling.{told, told_else}
 use Rattle.relay_shared.specs.Command.{PutsText, Tells}

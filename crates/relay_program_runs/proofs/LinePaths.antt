@@ -1,8 +1,7 @@
 -- Lines that ran over the places of a system are commands that ran at a site: the paths that they name, each once.
 use Rattle.std.proofs.Common.{◌≡◌, ◌≢◌, ◌++◌, ◌⊎◌, inl, inr, ℕ, zero, suc, List, [], ◌∷◌, None, Option, Some, slice_get, slice_set, refl, sym, ap, subst, ◌∙◌, Bool, true, false}
-use Rattle.std.specs.{Prelude.Decides, Prelude.IfSome, Prelude.IsTrue, List.AllByRecursion, Str.bytes_eq}
+use Rattle.std.specs.{Prelude.Decides, Prelude.IfSome, List.AllByRecursion, Str.bytes_eq}
 use Rattle.std.proofs.lemmas.Slice.Eq.{bytes_eq-Decides}
-use Rattle.relay_command.specs.declared.command.Command.{Command}
 use Rattle.relay_desk_commands.specs.Desks.{DeskFiles}
 use Rattle.relay.specs.Places.{PlacesView}
 use Rattle.relay.specs.Program.{path_of, IsAt, SystemView, at_none, at_path, does, does_and_saves, does_here, lacks_memory, shows}

@@ -43,10 +43,10 @@ use Rattle.relay_program_runs.specs.Worked.{IsDone, two_files, given, no_files, 
 use Rattle.relay_program_runs.proofs.{Images.Is12, Steps.PrintsId, Steps.ran}
 
 -- a refusal has the status 1
-abbrev IsOne : ℕ → Type 0
+abbrev pub IsOne : ℕ → Type 0
 IsOne status = status ≡ 1
 
-refused_one : {X Y Z : Type 0} → (X × IsOne 0) ⊎ (Y × Z × IsOne 0) → ⊥
+pub refused_one : {X Y Z : Type 0} → (X × IsOne 0) ⊎ (Y × Z × IsOne 0) → ⊥
 refused_one (inl told) = omega (arith, told.1)
 refused_one (inr failed) = omega (arith, failed.2)
 

@@ -1,4 +1,4 @@
-use Rattle.std.proofs.Common.{◌≡◌, ◌×◌, inl, inr, ℕ, List, Option, sym, subst, absurd, cc, arith}
+use Rattle.std.proofs.Common.{◌≡◌, ℕ, List, Option, sym, subst}
 use Rattle.std.specs.Io.KnownBytes.{Keeps}
 use Rattle.relay_streams.specs.Streams.{OutputView}
 use Rattle.relay.specs.Program.{PutsOut, lets_all_out, says_nothing, says_so}
@@ -12,5 +12,5 @@ by_out (says_nothing not_done part same told) = absurd (not_done (sym same))
 by_out (says_so after part tells told) = absurd (refused_one tells)
 
 pub returns : goal.returns
-returns c command images old new at =
+returns g c command images old new at =
     let all = by_out at.between.out in (all.0, subst (λ out. Keeps at.between.wrote.output.contents out) (sym at.output) all.1)
