@@ -7,8 +7,6 @@ pub mod Undoing
 pub mod Reopening
 pub mod DeskViews
 pub mod Saving
-pub mod Listing
-pub mod SeenFiles
 pub mod Found
 pub mod MovingLaws
 pub mod JointEntries

@@ -1,12 +1,9 @@
 pub mod Deciding
 pub mod Gotten
 pub mod HeldDocuments
-pub mod Opened
-pub mod WorkedParts
 pub mod Reaching
 pub mod OneReading
 pub mod LedgerFacts
-pub mod OneBatch
 pub mod OneCourse
 pub mod OneEnding
 pub mod OneStep

@@ -1,16 +1,11 @@
 pub mod Mapped
-pub mod JobLabels
-pub mod LabelsOut
-pub mod Plans
 pub mod Endings
 pub mod PrinterCalls
 pub mod PrinterEvents
 pub mod DeskCalls
 pub mod Changing
 pub mod EachEvent
-pub mod EachStep
 pub mod Runs
-pub mod ScannedLabels
 pub mod EmptyDesks
 pub mod FreshPrinters
 pub mod ApartRanges

@@ -14,11 +14,20 @@ use Rattle.dm_event_history.specs.declared.stop.Stop.TheVariants as stops
 use Rattle.dm_event_history.specs.declared.stop.Stop.TheVariants.{BeforeSave, InSave, SaveFault, AfterLabels}
 use Rattle.dm_event_history.specs.Relay.{Actor, Running, Failed, Down, stored_of, Goods}
 use Rattle.dm_event_history.specs.Steps.{Answers, Calls, Course, Faults, LacksMemory, Saves, ends, IsCourse}
-use Rattle.dm_event_world.specs.{declared.actor.PrinterActor.PrinterActor, Shows.ShowsPrinter, Shows.StoresLedger}
+use Rattle.dm_event_world.specs.{declared.actor.PrinterActor.PrinterActor, Shows.ShowsPrinter, Shows.StoresLedger, Shows.IsReady, inner.Calls.planned}
 use Rattle.dm_event_world.specs.declared.actor.PrinterActor.TheVariants as actors
 use Rattle.dm_event_world.specs.inner.Calls.{next_save_of, stops_before, EndsSo, state_after, ended_reply, lacks_memory, down_printer, planned}
 use Rattle.dm_event_world.proofs.Endings.{Ends, IsEmpty, TellsMemory, failed_empty, finish, plain, reaches, unsaved_empty}
-use Rattle.dm_event_world.proofs.Plans.{ready_after}
+use Rattle.dm_store.specs.{Saved.Replaces, declared.store.StoreFault.StoreFault, declared.mem_store.NextSave.NextSave}
+
+-- Plans of stores and sets that are set for one call, and fine again.
+
+-- a store is ready after a save, however it ended
+ready_after : (view mid : PrinterView) (plan : NextSave) (bytes : List ℕ)
+    (answer : Result (Unit {0}) StoreFault) → IsReady view.saved.is_honest view.saved.load_plan view.saved.save_plan →
+    Replaces (planned view plan).saved bytes answer mid.saved →
+    (let saved = (planned mid next_save.Fine).saved in IsReady saved.is_honest saved.load_plan saved.save_plan)
+ready_after view mid plan bytes answer ready replaced = grind arith
 
 pub down_shows : {A : Type 0} (actor : PrinterActor A) (shown : Actor LedgerView) → ShowsPrinter actor shown →
     ShowsPrinter (down_printer actor) (Down (stored_of shown))

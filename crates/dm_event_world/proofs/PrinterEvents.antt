@@ -28,8 +28,19 @@ use Rattle.dm_event_world.specs.declared.actor.PrinterActor.TheVariants as actor
 use Rattle.dm_event_world.specs.Shows.{ShowsPrinter, StoresLedger, left_export, left_label}
 use Rattle.dm_event_world.specs.inner.Calls.{IsMadeUnder, ends_early, most_labels, next_save_of, stops_before, EndsEach, EndsSo, Left, state_after, ended_reply, lacks_memory, RestartsAs, saved_of, down_printer, give_reply, job_labels, left_labels, left_ticket, planned, print_reply, take_reply}
 use Rattle.dm_event_world.proofs.Endings.{IsEmpty, empty, lacks_first, none_left, not_first, plain, stopped_before, with_goods}
-use Rattle.dm_event_world.proofs.JobLabels.{length-AreLabels}
 use Rattle.dm_event_world.proofs.PrinterCalls.{Lets, call_ends, down_shows}
+
+-- How many labels a job has.
+
+-- a job has as many labels as parts
+length-AreLabels : (size : Size) (scheme : Scheme) (id count number : ℕ) (parts : List (List ℕ))
+    (grids : List GridView) →
+    AreLabels size scheme id count number parts grids → length grids ≡ length parts
+length-AreLabels size scheme id count number [] [] made = refl
+length-AreLabels size scheme id count number (t ∷ ts) (g ∷ gs) made =
+    ap suc (length-AreLabels size scheme id count (number + 1) ts gs made.1)
+length-AreLabels size scheme id count number [] (g ∷ gs) made = absurd made
+length-AreLabels size scheme id count number (t ∷ ts) [] made = absurd made
 
 -- ---- what is not called
 

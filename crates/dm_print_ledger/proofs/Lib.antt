@@ -6,7 +6,6 @@ pub mod InLaws
 pub mod GiverLaws
 pub mod LedgerLaws
 pub mod FormatLaws
-pub mod LabelLaws
 pub mod ReadLaws
 pub mod SpelledLaws
 pub mod CarryLaws

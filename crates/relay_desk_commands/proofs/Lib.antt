@@ -1,4 +1,3 @@
-pub mod Asked
 pub mod ScanLaws
 pub mod LoadedJoint
 pub mod CopiedPages

@@ -1,7 +1,25 @@
-use Rattle.std.proofs.Common.{rules, inl, refl, arith}
-use Rattle.dm_pbm_io.specs.Laws.{IsOfBytes}
-use Rattle.relay_symbols.proofs.Shown.{none_of_nothing, none_of_refused, none_of_shape}
+use Rattle.std.proofs.Common.{rules, inl, refl, arith, ◌≡◌, ◌+◌, Bool, true, false, ◌++◌, ℕ, List, [], Some, length, ◌∙◌, sym, subst}
 use Rattle.relay_symbols.proofs.images.grid_from.Goals as goal
+use Rattle.dm_pbm_io.specs.{Header.magic, Image.HasShape, Image.Picture, Image.Refuses, Image.Spells, Laws.HasOneImage, Laws.IsNotRefused, Laws.IsOfBytes, declared.fault.PbmFault.PbmFault}
+use Rattle.relay_symbols.specs.Symbols.{ShowsNone}
+
+-- When bytes show no grid.
+starts : (plain : Bool) (rest : List ℕ) → length (magic plain ++ rest) ≡ 2 + length rest
+starts true rest = omega arith
+starts false rest = omega arith
+
+none_of_nothing : (bytes : List ℕ) → bytes ≡ [] → ShowsNone bytes
+none_of_nothing bytes e grid s = grind (arith, starts s.shown.plain)
+
+none_of_refused : IsNotRefused → (bytes : List ℕ) (fault : PbmFault) (taken rest : List ℕ) → bytes ≡ taken ++ rest
+    → IsOfBytes fault → Refuses fault taken (Some rest) → ShowsNone bytes
+none_of_refused law bytes fault taken rest e of_bytes refused grid s =
+    law fault taken rest s.taken s.rest s.shown of_bytes refused s.spelled (sym e ∙ s.begins)
+
+none_of_shape : HasOneImage → (bytes : List ℕ) (taken rest : List ℕ) (p : Picture) → bytes ≡ taken ++ rest
+    → Spells taken p → (HasShape p → ⊥) → ShowsNone bytes
+none_of_shape law bytes taken rest p e spelled none grid s =
+    none (subst HasShape (law s.taken taken s.rest rest s.shown p s.spelled spelled (sym s.begins ∙ e)).1 s.shape)
 
 pub returns-in-Err : goal.returns-in-Err
 returns-in-Err g c =

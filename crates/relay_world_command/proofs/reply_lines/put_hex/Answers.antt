@@ -1,8 +1,35 @@
-use Rattle.std.proofs.Common.{◌<◌, length, take, arith}
+use Rattle.std.proofs.Common.{◌<◌, length, take, arith, ◌≡◌, ℕ, suc, List, [], ◌∷◌, ◌++◌, Option, drop, get_or, refl, ap, sym, ◌∙◌, subst}
 use Rattle.std.proofs.{KnownBytes.Appends-nil, KnownBytes.Appends-trans, lemmas.List.take_more}
 use Rattle.relay_shared.proofs.Writing.{puts_part}
-use Rattle.relay_world_command.proofs.Hexadecimal.{hex_append, hex_none, part_of_hex}
 use Rattle.relay_world_command.proofs.reply_lines.put_hex.Goals as goal
+use Rattle.std.proofs.Math.Seq.{split_at}
+use Rattle.std.specs.Io.KnownBytes.{Appends}
+use Rattle.hex.specs.Hex.{encode_lower, encode_with}
+use Rattle.relay_streams.specs.Streams.{AppendsPart}
+use Rattle.relay_streams.proofs.Parts.{part_after, part_more}
+
+-- Bytes in hexadecimal, one after another.
+-- the digits of bytes, and then those of others
+hex_append : (bytes others : List ℕ) → encode_lower (bytes ++ others) ≡ encode_lower bytes ++ encode_lower others
+unfolding encode_with
+hex_append [] others = refl
+hex_append (first ∷ bytes) others = ap (λ l. encode_lower (first ∷ []) ++ l) (hex_append bytes others)
+
+-- a part of the digits of a byte is out after those before it
+part_of_hex : (bytes : List ℕ) (i : ℕ) (a b c : Option (List ℕ)) → i < length bytes
+    → Appends a b (encode_lower (take i bytes)) → AppendsPart b c (encode_lower (get_or bytes i 0 ∷ []))
+    → AppendsPart a c (encode_lower bytes)
+part_of_hex bytes i a b c there before part =
+    let byte = get_or bytes i 0 in
+    let rest = drop (suc i) bytes in
+    subst (AppendsPart a c)
+    (sym (ap encode_lower (split_at bytes i 0 there) ∙ hex_append (take i bytes) (byte ∷ rest) ∙
+    ap (λ l. encode_lower (take i bytes) ++ l) (hex_append (byte ∷ []) rest)))
+    (part_after a b c _ _ before (part_more b c _ _ part))
+
+hex_none : encode_lower [] ≡ []
+unfolding encode_with
+hex_none = refl
 
 pub loop-byte-init : goal.loop-byte-init
 loop-byte-init g c = rw hex_none (Appends-nil _)

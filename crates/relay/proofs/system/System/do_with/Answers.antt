@@ -1,7 +1,20 @@
-use Rattle.std.proofs.Common.{rules, map}
-use Rattle.relay.specs.Program.{SystemView, system_at}
-use Rattle.relay.proofs.Endings.{over_files, saved}
+use Rattle.std.proofs.Common.{rules, map, ◌≡◌, ℕ, List, Option, Some, None, Result, Ok, Err, sym}
+use Rattle.relay.specs.Program.{SystemView, system_at, DoesAndSaves, DoesAt, DoesFor, OrNothing, does_and_saves, does_here}
 use Rattle.relay.proofs.system.System.do_with.Goals as goal
+use Rattle.relay_line.specs.{Line.named_images, Line.saved_path, declared.line.CommandLine.CommandLine}
+
+-- From what a command does to what its line does: where memory is refused, nothing either way.
+module _ (A : Type 0) (line : CommandLine) (images : List ℕ → Option (List ℕ)) (old new : SystemView) where
+  pub over_files : {E : Type 0} (given : List (Option (List ℕ))) (ended : Result ℕ E) → saved_path line ≡ None →
+      given ≡ map images (named_images line) → OrNothing (DoesAt A line.command given) old ended new →
+      OrNothing (DoesFor A images line) old ended new
+  over_files given (Ok status) none are done = does_here none (rw (sym are) done)
+  over_files given (Err fault) none are same = same
+
+  pub saved : {E : Type 0} (path : List ℕ) (ended : Result ℕ E) → saved_path line ≡ Some path →
+      OrNothing (DoesAndSaves A line.command path) old ended new → OrNothing (DoesFor A images line) old ended new
+  saved path (Ok status) is done = does_and_saves path is done
+  saved path (Err fault) is same = same
 
 pub returns-in-Some : goal.returns-in-Some
 returns-in-Some g c =
