@@ -1,7 +1,7 @@
 //! Why a label isn't made or opened.
 
 ghost use Rattle.std.specs.Prelude.{◌≡◌};
-ghost use Rattle.dm_append_label.specs.Opening.{symbol_fault};
+ghost use Rattle.dm_append_label.specs.Opening.{symbol_fault, label_fault_name};
 ghost use Rattle.dm_append_label.specs.declared.fault.SealFault.TheVariants as seal_faults;
 
 use dm_encodation::DecodeFault;
@@ -47,8 +47,6 @@ pub enum LabelFault {
 }
 
 impl LabelFault {
-    ghost use Rattle.dm_append_label.specs.Opening.{label_fault_name};
-
     /// The variant's name, and for `Content` that of the fault of the text.
     pub fn name(self) -> &'static str
         ensures { result.now ≡ label_fault_name self }

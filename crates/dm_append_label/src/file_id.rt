@@ -1,5 +1,8 @@
 //! File IDs.
 
+ghost use Rattle.std.specs.Prelude.{ℕ, ◌<◌, ◌≡◌, [], ◌∷◌, IfSome, IsSome, ◌↔◌};
+ghost use Rattle.dm_append_label.specs.Labels.{id_words, IsIdWord};
+
 use std::marker::Model;
 
 /// The ID that all labels of one document carry (ISO/IEC 16022:2006, 5.6.3): two codewords of 1 to 254, or,
@@ -10,8 +13,6 @@ pub struct FileId {
 }
 
 impl Model for FileId {
-    ghost use Rattle.std.specs.Prelude.{ℕ, ◌<◌};
-
     ghost Value = { ℕ };
 
     ghost view = { λ id. id.number };
@@ -22,9 +23,6 @@ impl Model for FileId {
 }
 
 impl FileId {
-    ghost use Rattle.std.specs.Prelude.{◌≡◌, ◌<◌, [], ◌∷◌, IfSome, IsSome, ◌↔◌};
-    ghost use Rattle.dm_append_label.specs.Labels.{id_words, IsIdWord};
-
     /// The ID of a number from 0 to 64,515.
     pub fn of_number(number: u16) -> Option<FileId>
         ensures some { IsSome result ↔ (number < 64516) }

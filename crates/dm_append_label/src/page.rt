@@ -1,5 +1,8 @@
 //! Pages.
 
+ghost use Rattle.std.specs.Prelude.{◌≤◌, ◌≡◌, IfSome, IsSome, ◌↔◌};
+ghost use Rattle.dm_append_label.specs.Labels.{PageView};
+
 use crate::file_id::FileId;
 use std::alloc::{Allocator, Global};
 use std::marker::Model;
@@ -14,9 +17,6 @@ pub struct Page<A: Allocator = Global> {
 }
 
 impl<A: Allocator> Model for Page<A> {
-    ghost use Rattle.std.specs.Prelude.{◌≤◌};
-    ghost use Rattle.dm_append_label.specs.Labels.{PageView};
-
     ghost Value = { PageView };
 
     ghost view = { λ p. record { id = p.id; m = p.m; n = p.n; bytes = p.bytes.items } };
@@ -25,8 +25,6 @@ impl<A: Allocator> Model for Page<A> {
 }
 
 impl<A: Allocator> Page<A> {
-    ghost use Rattle.std.specs.Prelude.{◌≡◌, ◌≤◌, IfSome, IsSome, ◌↔◌};
-
     /// A page, where 2 <= n <= 16 and 1 <= m <= n.
     pub fn new(id: FileId, m: u8, n: u8, bytes: Vec<u8, A>) -> Option<Page<A>>
         ensures some { IsSome result ↔ ((2 ≤ n) × (n ≤ 16) × (1 ≤ m) × (m ≤ n)) }

@@ -2,6 +2,8 @@
 
 ghost use Rattle.std.specs.Prelude.{◌≡◌, ◌≤◌, length, true, false, Err};
 ghost use Rattle.dm_append_label.specs.declared.opening.TheConstants.{MOST_PAGE_BYTES};
+ghost use Rattle.dm_assembly_desk.specs.Desk.{Accepts, AcceptsGrid};
+ghost use Rattle.dm_assembly_desk.specs.Documents.{KeepsPages, DeskIsInOrder};
 
 use crate::desk::Desk;
 use crate::fault::ScanFault;
@@ -12,9 +14,6 @@ use dm_store::StoreSet;
 use std::alloc::Allocator;
 
 impl<S: StoreSet, A: Allocator + Copy> Desk<S, A> {
-    ghost use Rattle.dm_assembly_desk.specs.Desk.{Accepts, AcceptsGrid};
-    ghost use Rattle.dm_assembly_desk.specs.Documents.{KeepsPages, DeskIsInOrder};
-
     /// Opens a scanned label, from any grid, and holds and saves its page where it was not held.
     ///
     /// # Errors

@@ -6,8 +6,8 @@ ghost use Rattle.std.specs.Prelude.{◌≡◌, ◌≤◌, ◌<◌, false, None, 
 ghost use Rattle.std.specs.FinMap as map;
 ghost use Rattle.std.specs.Option.{option_copied};
 ghost use Rattle.dm_store.specs.Saved.{outcome_of, SavesKey};
-ghost use Rattle.dm_assembly_desk.specs.Documents.{lent_bytes, file, IsEntry, union_of_pages};
-ghost use Rattle.dm_assembly_desk.specs.Desk.{kind_of, JudgedAs, keep_fault};
+ghost use Rattle.dm_assembly_desk.specs.Documents.{lent_bytes, file, IsEntry, union_of_pages, DeskIsInOrder};
+ghost use Rattle.dm_assembly_desk.specs.Desk.{kind_of, JudgedAs, keep_fault, Adds, SaveEnds};
 
 use crate::desk::Desk;
 use crate::document::Document;
@@ -45,9 +45,6 @@ impl From<StoreFault> for AddFault {
 }
 
 impl<S: StoreSet, A: Allocator + Copy> Desk<S, A> {
-    ghost use Rattle.dm_assembly_desk.specs.Desk.{Adds, SaveEnds};
-    ghost use Rattle.dm_assembly_desk.specs.Documents.{DeskIsInOrder};
-
     /// Answers the pages of a document, and holds and saves at once those that were not held. Where that fails, what
     /// was held is held.
     pub(crate) fn add(&mut self, id: u16, pages: &[Option<&[u8]>]) -> Result<Imported, AddFault>

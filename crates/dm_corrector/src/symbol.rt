@@ -4,7 +4,7 @@ ghost use Rattle.std.specs.Prelude.{◌≡◌, ◌≢◌, ◌<◌, ℕ, List, le
 ghost use Rattle.dm_gf256.specs.Field.{differ, IsSoundBlock};
 ghost use Rattle.dm_size.specs.Sizes.{all_words, blocks, block_checks, block_data, block_length};
 ghost use Rattle.dm_check_blocks.specs.Blocks.{block_of, IsSymbol};
-ghost use Rattle.dm_corrector.specs.Symbols.{Corrects, CorrectsSymbol, IsFirstFaulty};
+ghost use Rattle.dm_corrector.specs.Symbols.{Corrects, CorrectsSymbol, IsFirstFaulty, block_fault_name};
 
 use crate::block::{Uncorrectable, correct_completed, differing};
 use crate::massey::Massey;
@@ -25,9 +25,6 @@ pub struct BlockFault {
 }
 
 impl BlockFault {
-    ghost use Rattle.std.specs.Prelude.{◌≡◌};
-    ghost use Rattle.dm_corrector.specs.Symbols.{block_fault_name};
-
     /// The fault in one word, `Block`.
     pub fn name(self) -> &'static str
         ensures { result.now ≡ block_fault_name self }

@@ -1,5 +1,8 @@
 //! Why a text isn't written, and why codewords aren't read.
 
+ghost use Rattle.std.specs.Prelude.{◌≡◌};
+ghost use Rattle.dm_encodation.specs.Faults.{encode_fault_name, decode_fault_name};
+
 use std::alloc::AllocError;
 use thiserror::Error;
 
@@ -15,9 +18,6 @@ pub enum EncodeFault {
 }
 
 impl EncodeFault {
-    ghost use Rattle.std.specs.Prelude.{◌≡◌};
-    ghost use Rattle.dm_encodation.specs.Faults.{encode_fault_name};
-
     /// The variant's name.
     pub fn name(self) -> &'static str
         ensures { result.now ≡ encode_fault_name self }
@@ -50,9 +50,6 @@ pub enum DecodeFault {
 }
 
 impl DecodeFault {
-    ghost use Rattle.std.specs.Prelude.{◌≡◌};
-    ghost use Rattle.dm_encodation.specs.Faults.{decode_fault_name};
-
     /// The variant's name.
     pub fn name(self) -> &'static str
         ensures { result.now ≡ decode_fault_name self }
@@ -67,7 +64,6 @@ impl DecodeFault {
 }
 
 impl From<AllocError> for EncodeFault {
-    ghost use Rattle.std.specs.Prelude.{◌≡◌};
     ghost use Rattle.dm_encodation.specs.declared.fault.EncodeFault.TheVariants.{Memory};
 
     ghost from_gives = { λ _ e. e ≡ Memory };
@@ -78,7 +74,6 @@ impl From<AllocError> for EncodeFault {
 }
 
 impl From<AllocError> for DecodeFault {
-    ghost use Rattle.std.specs.Prelude.{◌≡◌};
     ghost use Rattle.dm_encodation.specs.declared.fault.DecodeFault.TheVariants.{Memory};
 
     ghost from_gives = { λ _ e. e ≡ Memory };

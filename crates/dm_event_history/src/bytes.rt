@@ -1,6 +1,6 @@
 //! The bytes of documents.
 
-ghost use Rattle.std.specs.Prelude.{◌≡◌};
+ghost use Rattle.std.specs.Prelude.{◌≡◌, List, ℕ};
 
 use std::alloc::{Allocator, Global};
 use std::marker::Model;
@@ -10,8 +10,6 @@ use std::marker::Model;
 pub struct Bytes<A: Allocator = Global>(pub Vec<u8, A>);
 
 impl<A: Allocator> Model for Bytes<A> {
-    ghost use Rattle.std.specs.Prelude.{List, ℕ};
-
     ghost Value = { List ℕ };
 
     ghost view = { λ b. b.0.items };

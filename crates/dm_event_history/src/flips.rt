@@ -1,6 +1,6 @@
 //! Flipped modules.
 
-ghost use Rattle.std.specs.Prelude.{◌≡◌};
+ghost use Rattle.std.specs.Prelude.{◌≡◌, List, ℕ};
 
 use std::alloc::{Allocator, Global};
 use std::marker::Model;
@@ -11,8 +11,6 @@ use std::marker::Model;
 pub struct Flips<A: Allocator = Global>(pub Vec<(u16, u16), A>);
 
 impl<A: Allocator> Model for Flips<A> {
-    ghost use Rattle.std.specs.Prelude.{List, ℕ};
-
     ghost Value = { List (ℕ × ℕ) };
 
     ghost view = { λ f. f.0.items };

@@ -1,6 +1,7 @@
 //! Why there is no world.
 
 ghost use Rattle.std.specs.Prelude.{◌≡◌};
+ghost use Rattle.dm_event_world.specs.Shows.{world_fault_name};
 
 use thiserror::Error;
 
@@ -22,8 +23,6 @@ pub enum WorldFault {
 }
 
 impl WorldFault {
-    ghost use Rattle.dm_event_world.specs.Shows.{world_fault_name};
-
     /// The variant's name.
     pub fn name(self) -> &'static str
         ensures { result.now ≡ world_fault_name self }

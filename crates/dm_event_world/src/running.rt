@@ -45,8 +45,6 @@ fn answer_one<A: Allocator + Copy>(world: &mut World<A>, event: &Event<A>) -> An
 
 /// What hears the answers of a world, each as it comes.
 pub trait Listener<A: Allocator + Copy> {
-    ghost use Rattle.dm_event_world.specs.declared.answers.Answer.{Answer};
-
     /// What hearing an answer makes of it.
     ghost hears: { Self → Answer A → Self → Type 0 };
 

@@ -1,7 +1,11 @@
 //! Worlds of printers and desks.
 
-ghost use Rattle.std.specs.Prelude.{◌≡◌, [], IfOk, IfErr, length, option_map, slice_get};
-ghost use Rattle.dm_event_world.specs.Shows.{StandsFor, label_name, HasWorldFault};
+ghost use Rattle.std.specs.Prelude.{◌≡◌, [], IfOk, IfErr, length, option_map, slice_get, ◌≤◌};
+ghost use Rattle.dm_event_world.specs.Shows.{StandsFor, label_name, HasWorldFault, WorldView};
+ghost use Rattle.std.specs.Coded.{codes};
+ghost use Rattle.dm_store.specs.Saved.{saved_set_code};
+ghost use Rattle.dm_assembly_desk.specs.Codes.{documents_code, desk_code};
+ghost use Rattle.dm_event_world.specs.inner.Events.{contents_code};
 
 use crate::actor::{DeskActor, LeftExport, LeftLabel, PrinterActor};
 use crate::desk_opening::{are_capacities, open_desks};
@@ -25,13 +29,6 @@ pub struct World<A: Allocator + Copy = Global> {
 }
 
 impl<A: Allocator + Copy> Model for World<A> {
-    ghost use Rattle.std.specs.Prelude.{◌≤◌, length};
-    ghost use Rattle.std.specs.Coded.{codes};
-    ghost use Rattle.dm_store.specs.Saved.{saved_set_code};
-    ghost use Rattle.dm_assembly_desk.specs.Codes.{documents_code, desk_code};
-    ghost use Rattle.dm_event_world.specs.Shows.{WorldView};
-    ghost use Rattle.dm_event_world.specs.inner.Events.{contents_code};
-
     ghost Value = { WorldView A };
 
     ghost coded = { Prim.hlevel (codes, saved_set_code, desk_code, contents_code, documents_code) };

@@ -1,5 +1,8 @@
 //! What is refused.
 
+ghost use Rattle.std.specs.Prelude.{◌≡◌};
+ghost use Rattle.dm_finder_frame.specs.declared.fault.FrameFault.TheVariants.{Border};
+
 use std::alloc::AllocError;
 use thiserror::Error;
 
@@ -33,7 +36,6 @@ pub enum FrameFault {
 }
 
 impl From<AllocError> for GridFault {
-    ghost use Rattle.std.specs.Prelude.{◌≡◌};
     ghost use Rattle.dm_finder_frame.specs.declared.fault.GridFault.TheVariants.{Memory};
 
     ghost from_gives = { λ _ fault. fault ≡ Memory };
@@ -44,9 +46,6 @@ impl From<AllocError> for GridFault {
 }
 
 impl From<WrongFrame> for FrameFault {
-    ghost use Rattle.std.specs.Prelude.{◌≡◌};
-    ghost use Rattle.dm_finder_frame.specs.declared.fault.FrameFault.TheVariants.{Border};
-
     ghost from_gives = { λ given fault. fault ≡ Border given.wrong };
 
     fn from(fault: WrongFrame) -> FrameFault {
@@ -55,7 +54,6 @@ impl From<WrongFrame> for FrameFault {
 }
 
 impl From<AllocError> for FrameFault {
-    ghost use Rattle.std.specs.Prelude.{◌≡◌};
     ghost use Rattle.dm_finder_frame.specs.declared.fault.FrameFault.TheVariants.{Memory};
 
     ghost from_gives = { λ _ fault. fault ≡ Memory };

@@ -2,7 +2,7 @@
 
 ghost use Rattle.std.specs.Prelude.{◌≡◌, ◌<◌, ◌+◌, ◌*◌, All, IfOk, length, slice_range};
 ghost use Rattle.dm_size.specs.Sizes as sizes;
-ghost use Rattle.dm_finder_frame.specs.Frame.{GridView, IsInGrid, IsWholeGrid, flipped, grid_module_at, grid_with_flipped};
+ghost use Rattle.dm_finder_frame.specs.Frame.{GridView, IsInGrid, IsWholeGrid, flipped, grid_module_at, grid_with_flipped, MakesGrid};
 
 use crate::fault::GridFault;
 use dm_size::Size;
@@ -25,8 +25,6 @@ impl<A: Allocator> Model for Grid<A> {
 }
 
 impl<A: Allocator> Grid<A> {
-    ghost use Rattle.dm_finder_frame.specs.Frame.{MakesGrid};
-
     /// The grid of a size and its modules, row by row from the top left; `true` is a dark module. It keeps the modules
     /// as they are handed in, and takes no memory.
     pub fn from_modules(size: Size, modules: Vec<bool, A>) -> Grid<A>

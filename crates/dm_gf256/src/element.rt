@@ -2,7 +2,7 @@
 
 ghost use Rattle.std.specs.Prelude.{◌≡◌, ◌<◌};
 ghost use Rattle.std.specs.Int.Bits.{bit_xor};
-ghost use Rattle.dm_gf256.specs.Field.{product, power, value};
+ghost use Rattle.dm_gf256.specs.Field.{product, power, value, numbers};
 
 use crate::powers::{POWERS, exponent_of};
 
@@ -11,10 +11,6 @@ use crate::powers::{POWERS, exponent_of};
 pub struct Gf(pub u8);
 
 impl Gf {
-    ghost use Rattle.std.specs.Prelude.{◌≡◌, ◌<◌};
-    ghost use Rattle.std.specs.Int.Bits.{bit_xor};
-    ghost use Rattle.dm_gf256.specs.Field.{product, power, value, numbers};
-
     /// The sum, which is the difference too.
     pub fn add(self, other: Gf) -> Gf
         ensures { result.0 ≡ bit_xor self.0 other.0 }

@@ -1,6 +1,6 @@
 //! Images, and their reading.
 
-ghost use Rattle.std.specs.Prelude.{◌≡◌, ◌<◌, ◌≤◌, ◌*◌, ℕ, List, [], ◌∷◌, ◌++◌, vec_capacity, Some, IsErrOf, MatchResult, MatchOption};
+ghost use Rattle.std.specs.Prelude.{◌≡◌, ◌<◌, ◌≤◌, ◌*◌, ℕ, List, [], ◌∷◌, ◌++◌, vec_capacity, Some, IsErrOf, MatchResult, MatchOption, ◌⊎◌, true};
 ghost use Rattle.std.specs.Io.KnownBytes.{Consumes, Keeps, IsAtEnd};
 ghost use Rattle.dm_pbm_io.specs.Header.{magic, StopsInRaster};
 ghost use Rattle.dm_pbm_io.specs.Image.{IsNoMagic, IsRaster, Spells, SpellsAfterMagic, Refuses, RefusesAfterMagic, picture};
@@ -173,10 +173,6 @@ pub fn image_in<A: Allocator + Copy>(alloc: A, bytes: &[u8]) -> Result<Option<Im
 }
 
 impl<A: Allocator + Copy> Image<A> {
-    ghost use Rattle.std.specs.Prelude.{◌≡◌, ◌⊎◌, ℕ, List, true, IsErrOf, MatchResult, MatchOption};
-    ghost use Rattle.std.specs.Io.KnownBytes.{Consumes, Keeps, IsAtEnd};
-    ghost use Rattle.dm_pbm_io.specs.Image.{Spells, Refuses, picture};
-
     /// The next image, or `None` at the end of the input. No byte after the image is taken.
     ///
     /// # Errors

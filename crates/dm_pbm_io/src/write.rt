@@ -7,7 +7,7 @@ ghost use Rattle.std.specs.Fmt.{decimal};
 ghost use Rattle.dm_pbm_io.specs.Header.{magic, stride, digit_of};
 ghost use Rattle.dm_pbm_io.specs.Image.{picture, number_of_first, packed, plain_row, row_text, rows_text, written};
 ghost use Rattle.dm_pbm_io.specs.inner.Streaming.{AppendsText};
-ghost use Rattle.relay_streams.specs.Streams.{AppendsPart};
+ghost use Rattle.relay_streams.specs.Streams.{AppendsPart, StaysFailed};
 
 use crate::image::Image;
 use crate::sink::ByteSink;
@@ -222,11 +222,6 @@ pub fn write_image<W: Write, A: Allocator>(
 }
 
 impl<A: Allocator> Image<A> {
-    ghost use Rattle.std.specs.Prelude.{◌≡◌, ◌*◌, true, length, OnOk, OnErr};
-    ghost use Rattle.std.specs.Io.KnownBytes.{Appends};
-    ghost use Rattle.dm_pbm_io.specs.Image.{picture, written};
-    ghost use Rattle.relay_streams.specs.Streams.{AppendsPart, StaysFailed};
-
     /// Writes the image in its own form. No memory is taken.
     ///
     /// # Errors

@@ -1,7 +1,7 @@
 //! Printers that are new.
 
 ghost use Rattle.std.specs.Prelude.{◌≡◌, Ok, Err, IsTrue, MatchResult};
-ghost use Rattle.dm_print_ledger.specs.Verdicts.{SavesFirst, opening};
+ghost use Rattle.dm_print_ledger.specs.Verdicts.{SavesFirst, opening, Creates};
 ghost use Rattle.dm_print_ledger.specs.Ledger.{is_range as test_of_range};
 
 use crate::fault::CreateFault;
@@ -22,8 +22,6 @@ pub struct CreateRefused<S: Store> {
 }
 
 impl<S: Store, A: Allocator + Copy> Printer<S, A> {
-    ghost use Rattle.dm_print_ledger.specs.Verdicts.{Creates};
-
     /// The printer of a number to which a range is free, on a store that holds nothing: its first ledger is saved. It
     /// takes no memory but the store's.
     ///

@@ -1,8 +1,9 @@
 //! The labels of one print.
 
-ghost use Rattle.std.specs.Prelude.{◌≡◌, ◌∷◌, [], ◌≤◌, MatchOption, IfOk, length};
+ghost use Rattle.std.specs.Prelude.{◌≡◌, ◌∷◌, [], ◌≤◌, MatchOption, IfOk, length, reverse};
 ghost use Rattle.dm_append_label.specs.Labels.{Fits, PartsFit, parts_from};
 ghost use Rattle.dm_print_ledger.specs.Verdicts.{AreLabels, IsJobOf, IsLabelOf};
+ghost use Rattle.dm_print_ledger.specs.Ledger.{JobView};
 
 use dm_append_label::{FileId, Page, SealFault, seal_with};
 use dm_encodation::Scheme;
@@ -23,9 +24,6 @@ pub struct Job<A: Allocator = Global> {
 }
 
 impl<A: Allocator> Model for Job<A> {
-    ghost use Rattle.std.specs.Prelude.{reverse};
-    ghost use Rattle.dm_print_ledger.specs.Ledger.{JobView};
-
     ghost Value = { JobView };
 
     ghost view = { λ j. record { id = j.id; count = j.count; labels = reverse j.labels.items } };

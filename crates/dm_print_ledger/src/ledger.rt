@@ -1,6 +1,9 @@
 //! What a printer remembers, and what a print, a range given and a ticket taken make of it.
 
-ghost use Rattle.std.specs.Prelude.{◌≡◌, ◌≤◌, length};
+ghost use Rattle.std.specs.Prelude.{◌≡◌, ◌≤◌, length, IsTrue, ◌<◌, true, Ok, IfSome, IfNone, IfOk};
+ghost use Rattle.dm_print_ledger.specs.Ledger.{is_sound, LedgerView, free_count, is_range as test_of_range};
+ghost use Rattle.std.specs.List.{All};
+ghost use Rattle.dm_print_ledger.specs.Verdicts.{least, print_verdict, give_verdict, take_verdict, ticket_of};
 
 use crate::fault::{GiveFault, TakeFault};
 use crate::free::{are_free, count, has_free, union_of, without};
@@ -21,9 +24,6 @@ pub(crate) struct Ledger {
 }
 
 impl Model for Ledger {
-    ghost use Rattle.std.specs.Prelude.{IsTrue};
-    ghost use Rattle.dm_print_ledger.specs.Ledger.{is_sound, LedgerView};
-
     ghost Value = { LedgerView };
 
     ghost view = { λ ledger. record {
@@ -54,11 +54,6 @@ fn copy_of(givers: &[Giver]) -> ArrayVec<Giver, MOST_GIVERS>
 }
 
 impl Ledger {
-    ghost use Rattle.std.specs.Prelude.{◌<◌, true, Ok, IfSome, IfNone, IsTrue, IfOk};
-    ghost use Rattle.std.specs.List.{All};
-    ghost use Rattle.dm_print_ledger.specs.Ledger.{is_sound, free_count, is_range as test_of_range};
-    ghost use Rattle.dm_print_ledger.specs.Verdicts.{least, print_verdict, give_verdict, take_verdict, ticket_of};
-
     /// How many IDs are free.
     pub(crate) fn left(&self) -> u32
         ensures value { result ≡ free_count self.now.free }

@@ -1,5 +1,9 @@
 //! IDs that move from one printer to another.
 
+ghost use Rattle.std.specs.Prelude.{◌≡◌, false, IsTrue};
+ghost use Rattle.dm_print_ledger.specs.Ledger.{is_range};
+ghost use Rattle.dm_print_ledger.specs.Verdicts.{GivesTicket, TakesTicket};
+
 use crate::fault::{GiveFault, TakeFault};
 use crate::printer::Printer;
 use crate::range::Range;
@@ -8,10 +12,6 @@ use dm_store::Store;
 use std::alloc::Allocator;
 
 impl<S: Store, A: Allocator + Copy> Printer<S, A> {
-    ghost use Rattle.std.specs.Prelude.{◌≡◌, false, IsTrue};
-    ghost use Rattle.dm_print_ledger.specs.Ledger.{is_range};
-    ghost use Rattle.dm_print_ledger.specs.Verdicts.{GivesTicket, TakesTicket};
-
     /// Gives the numbers of a range to another printer: they are saved as gone, and then the ticket is given.
     ///
     /// # Errors

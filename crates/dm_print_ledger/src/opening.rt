@@ -1,6 +1,7 @@
 //! Printers that go on.
 
 ghost use Rattle.std.specs.Prelude.{◌≡◌, Ok, Err, IfErr, MatchResult};
+ghost use Rattle.dm_print_ledger.specs.Verdicts.{PrinterOpens};
 
 use crate::fault::OpenFault;
 use crate::printer::Printer;
@@ -16,8 +17,6 @@ pub struct OpenRefused<S: Store> {
 }
 
 impl<S: Store, A: Allocator + Copy> Printer<S, A> {
-    ghost use Rattle.dm_print_ledger.specs.Verdicts.{PrinterOpens};
-
     /// The printer of a number whose ledger the store holds. A ledger of version 1 has no number and is any printer's;
     /// the next save makes it one of version 2. It takes no memory but the store's.
     ///

@@ -1,6 +1,9 @@
 //! Printers, and the one way in which they save.
 
-ghost use Rattle.std.specs.Prelude.{◌≡◌, ◌≤◌, ◌+◌, false};
+ghost use Rattle.std.specs.Prelude.{◌≡◌, ◌≤◌, ◌+◌, false, ◌<◌, MatchResult};
+ghost use Rattle.dm_print_ledger.specs.Ledger.{PrinterView, free_count};
+ghost use Rattle.dm_print_ledger.specs.Verdicts.{PrinterIsInOrder, AreLastFree, IsLongest, MayLack, SavesLedger};
+ghost use Rattle.dm_store.specs.Saved.{save_plan_of};
 
 use crate::format::bytes_of;
 use crate::free::{last_of, longest};
@@ -23,9 +26,6 @@ pub struct Printer<S: Store, A: Allocator + Copy = Global> {
 }
 
 impl<S: Store, A: Allocator + Copy> Model for Printer<S, A> {
-    ghost use Rattle.dm_print_ledger.specs.Ledger.{PrinterView};
-    ghost use Rattle.dm_print_ledger.specs.Verdicts.{PrinterIsInOrder};
-
     ghost Value = { PrinterView };
 
     ghost view = { λ p. record { saved = S.state p.store; ledger = p.ledger; is_failed = p.is_failed } };
@@ -35,10 +35,6 @@ impl<S: Store, A: Allocator + Copy> Model for Printer<S, A> {
 }
 
 impl<S: Store, A: Allocator + Copy> Printer<S, A> {
-    ghost use Rattle.dm_print_ledger.specs.Ledger.{free_count};
-    ghost use Rattle.std.specs.Prelude.{◌<◌, MatchResult};
-    ghost use Rattle.dm_print_ledger.specs.Verdicts.{AreLastFree, PrinterIsInOrder, IsLongest, MayLack, SavesLedger};
-
     /// How many IDs are free, as last known to be saved: 0 to 64,516.
     pub fn left(&self) -> u32
         ensures value { result ≡ free_count self.now.ledger.free }
@@ -102,8 +98,6 @@ impl<S: Store, A: Allocator + Copy> Printer<S, A> {
 }
 
 impl<A: Allocator + Copy> Printer<MemStore<A>, A> {
-    ghost use Rattle.dm_store.specs.Saved.{save_plan_of};
-
     /// Sets what the next save does, and that one alone.
     pub fn set_next(&mut self, next: NextSave)
         ensures { self.new ≡ record self.old { saved = record self.old.saved { save_plan = save_plan_of next } } }

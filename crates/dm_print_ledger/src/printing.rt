@@ -1,5 +1,7 @@
 //! Documents printed.
 
+ghost use Rattle.dm_print_ledger.specs.Verdicts.{Prints};
+
 use crate::fault::PrintFault;
 use crate::job::{Job, make_job};
 use crate::printer::Printer;
@@ -10,8 +12,6 @@ use dm_store::Store;
 use std::alloc::Allocator;
 
 impl<S: Store, A: Allocator + Copy> Printer<S, A> {
-    ghost use Rattle.dm_print_ledger.specs.Verdicts.{Prints};
-
     /// Prints a document under the least free ID: all its labels are made, then the ID is
     /// saved as used, and then the job is given.
     ///

@@ -1,8 +1,9 @@
 //! What a ledger says to somebody who only looks at it.
 
-ghost use Rattle.std.specs.Prelude.{◌≡◌, ◌≢◌, ◌==◌, ◌&&◌, not, Err};
-ghost use Rattle.std.specs.List.{list_any};
-ghost use Rattle.dm_print_ledger.specs.Ledger.{is_old as test_of_old, read_ledger};
+ghost use Rattle.std.specs.Prelude.{◌≡◌, ◌≢◌, ◌==◌, ◌&&◌, not, Err, Ok, IsTrue, IfOk};
+ghost use Rattle.std.specs.List.{list_any, All};
+ghost use Rattle.dm_print_ledger.specs.Ledger.{is_old as test_of_old, read_ledger, ShownView, is_sound, free_count, is_range};
+ghost use Rattle.dm_print_ledger.specs.Verdicts.{LoadsLedger, are_of_one, is_behind as test_of_behind, lacks_gift, is_of as test_of_number, lacks_ticket, numbered, share_numbers, share_ticket, show_verdict, shown_of_none, shown_of_ticket};
 
 use crate::fault::OpenFault;
 use crate::format::{first_ledger, second_ledger};
@@ -24,8 +25,6 @@ pub struct Shown {
 }
 
 impl Model for Shown {
-    ghost use Rattle.dm_print_ledger.specs.Ledger.{ShownView};
-
     ghost Value = { ShownView };
 
     ghost view = { λ shown. record {
@@ -37,11 +36,6 @@ impl Model for Shown {
 }
 
 impl Shown {
-    ghost use Rattle.std.specs.Prelude.{Ok, IsTrue, IfOk};
-    ghost use Rattle.dm_print_ledger.specs.Ledger.{is_sound, free_count, is_range};
-    ghost use Rattle.dm_print_ledger.specs.Verdicts.{LoadsLedger, are_of_one, is_behind as test_of_behind, lacks_gift, is_of as test_of_number, lacks_ticket, numbered, share_numbers, share_ticket, show_verdict, shown_of_none, shown_of_ticket};
-    ghost use Rattle.std.specs.List.{All};
-
     /// What the ledger says that the store holds. It takes no memory but the store's.
     ///
     /// # Errors

@@ -1,7 +1,9 @@
 //! The square symbol sizes.
 #![tactic(auto, using(crate::proofs::Sound::sound))]
 
-ghost use Rattle.std.specs.Prelude.{◌≡◌};
+ghost use Rattle.std.specs.Prelude.{◌≡◌, ◌≢◌, IsNone, IfSome};
+ghost use Rattle.dm_size.specs.declared.size.Size.{Size};
+ghost use Rattle.dm_size.specs.Sizes as sizes;
 
 // Where a size is listed: in this enum, in `Size::of_side` and `Size::row` below, and in specs/Sizes.antt; above this
 // crate in what docs/CONTRIBUTING.md says of a new size.
@@ -47,10 +49,6 @@ struct Row {
 }
 
 impl Size {
-    ghost use Rattle.std.specs.Prelude.{◌≡◌, ◌≢◌, IsNone, IfSome};
-    ghost use Rattle.dm_size.specs.declared.size.Size.{Size};
-    ghost use Rattle.dm_size.specs.Sizes as sizes;
-
     /// The size with this many modules along a side, if it is one of the 23.
     #[tactic(auto, unfolding(crate::specs::Sizes::row))]
     pub fn of_side(side: u16) -> Option<Size>

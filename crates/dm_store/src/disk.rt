@@ -1,6 +1,8 @@
 //! What a store in a file asks of the disk below it.
 
-ghost use Rattle.std.specs.Prelude.{◌≡◌, ℕ, List, IsTrue, IsErrOf};
+ghost use Rattle.std.specs.Prelude.{◌≡◌, ℕ, List, IsTrue, IsErrOf, ◌+◌, IfOk, take};
+ghost use Rattle.dm_store.specs.Disk.{DiskState, KeepsAll, ReadsFile, WritesFile, Syncs, Renames, Removes, SyncsEntry, contents_in, SettlesFolder};
+ghost use Rattle.std.specs.FinMap as map;
 
 use crate::store::StoreFault;
 use std::alloc::Allocator;
@@ -8,8 +10,6 @@ use std::alloc::Allocator;
 /// The calls of a file system that a save needs. Each may fail. Once the machine has stopped, within a call or between
 /// two, each later call fails and changes nothing.
 pub trait Disk: Drop {
-    ghost use Rattle.dm_store.specs.Disk.{DiskState, KeepsAll, ReadsFile, WritesFile, Syncs, Renames, Removes, SyncsEntry};
-
     /// What the bytes that a read gives are allocated in.
     type Memory: Allocator;
 
@@ -74,10 +74,6 @@ pub trait Disk: Drop {
 
 /// The calls that a set in a folder needs beside those of its files.
 pub trait Folders: Disk {
-    ghost use Rattle.std.specs.Prelude.{◌+◌, IfOk, take};
-    ghost use Rattle.std.specs.FinMap as map;
-    ghost use Rattle.dm_store.specs.Disk.{KeepsAll, contents_in, SettlesFolder};
-
     /// Makes the folder, if it isn't there, and brings its entry in the folder above it to the disk in either case.
     /// What is said of the files in it rests on that.
     fn make_folder(&mut self, folder: &str) -> Result<(), StoreFault>

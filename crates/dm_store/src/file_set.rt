@@ -1,7 +1,8 @@
 //! A set of stores in a folder of a disk, with a file for each key.
 
 ghost use Rattle.std.specs.Prelude.{◌≡◌, ◌<◌, ◌≢◌, ◌^◌, ℕ, None, Some, Err, IsErr, IsOk, IsErrOf, IsTrue};
-ghost use Rattle.dm_store.specs.Disk.{KeepsFile, KeepsAll, SavesFile, IsSettled, draft_of, key_path};
+ghost use Rattle.dm_store.specs.Disk.{KeepsFile, KeepsAll, SavesFile, IsSettled, draft_of, key_path, set_in};
+ghost use Rattle.dm_store.specs.Saved.{ListsKeys, LoadsKey, Settles, SavesKey, RemovesKey, MayLackMemory};
 
 use crate::disk::{Disk, Folders};
 use crate::file_store::{remove_file, replace_file};
@@ -62,9 +63,6 @@ fn remove_key<D: Disk>(disk: &mut D, folder: &str, key: u16) -> Result<(), Store
 }
 
 impl<D: Folders, A: Allocator> StoreSet for Filed<D, AtFolder, A> {
-    ghost use Rattle.dm_store.specs.Saved.{ListsKeys, LoadsKey, Settles, SavesKey, RemovesKey, MayLackMemory};
-    ghost use Rattle.dm_store.specs.Disk.{set_in};
-
     type Memory = D::Memory;
 
     ghost state = { λ f. set_in (D.state f.disk) f.path };

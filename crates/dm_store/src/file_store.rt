@@ -1,7 +1,8 @@
 //! A store in a file of a disk.
 
 ghost use Rattle.std.specs.Prelude.{◌≡◌, ◌≢◌, ℕ, List, None, Some, Err, IfOk, IsOk, IsErrOf, IsSome, IsTrue};
-ghost use Rattle.dm_store.specs.Disk.{KeepsFile, KeepsAll, SavesFile, IsSettled, draft_of};
+ghost use Rattle.dm_store.specs.Disk.{KeepsFile, KeepsAll, SavesFile, IsSettled, draft_of, Content, saved_under};
+ghost use Rattle.dm_store.specs.Saved.{Loads, Replaces, MayLackMemory, SavesOpen, HeldAfterFault};
 
 use crate::disk::Disk;
 use crate::filed::{AtFile, Filed};
@@ -71,9 +72,6 @@ pub(crate) fn remove_file<D: Disk>(disk: &mut D, path: &str, draft: &str) -> Res
 }
 
 impl<D: Disk, A: Allocator> Store for Filed<D, AtFile, A> {
-    ghost use Rattle.dm_store.specs.Saved.{Loads, Replaces, MayLackMemory, SavesOpen, HeldAfterFault};
-    ghost use Rattle.dm_store.specs.Disk.{IsSettled, Content, saved_under};
-
     type Memory = D::Memory;
 
     ghost state = { λ f. saved_under (D.state f.disk) f.path };

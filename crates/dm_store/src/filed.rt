@@ -2,6 +2,7 @@
 
 ghost use Rattle.std.specs.Prelude.{◌≡◌};
 ghost use Rattle.std.specs.String.{string_bytes};
+ghost use Rattle.dm_store.specs.Disk.{Filed};
 
 use crate::disk::Disk;
 use std::alloc::{Allocator, Global};
@@ -52,9 +53,6 @@ pub type FileStore<D, A = Global> = Filed<D, AtFile, A>;
 pub type FileSet<D, A = Global> = Filed<D, AtFolder, A>;
 
 impl<D: Disk, K, A: Allocator> Model for Filed<D, K, A> {
-    ghost use Rattle.std.specs.String.{string_bytes};
-    ghost use Rattle.dm_store.specs.Disk.{Filed};
-
     ghost Value = { Filed D };
 
     ghost view = { λ f. record { disk = f.disk; path = string_bytes f.path } };

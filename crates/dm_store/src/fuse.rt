@@ -1,7 +1,7 @@
 //! A store, or a set of stores, behind a fuse: its first calls pass, and each later one is stopped.
 
 ghost use Rattle.std.specs.Prelude.{◌≡◌, Some, IsTrue, IsNone, ◌↔◌};
-ghost use Rattle.dm_store.specs.Saved.{turn_of_load, turn_of_save, after_call};
+ghost use Rattle.dm_store.specs.Saved.{turn_of_load, turn_of_save, after_call, Fused, Loads, Replaces, MayLackMemory, with_open_plans, Goes, ListsKeys, LoadsKey, Settles, SavesKey, RemovesKey};
 
 use crate::set::StoreSet;
 use crate::store::{Store, StoreFault};
@@ -45,8 +45,6 @@ pub type FuseStore<S> = Fuse<S>;
 pub type FuseSet<S> = Fuse<S>;
 
 impl<S> Model for Fuse<S> {
-    ghost use Rattle.dm_store.specs.Saved.{Fused};
-
     ghost Value = { Fused S };
 
     ghost view = { λ f. record { inner = f.inner; left = f.left; kept = f.kept } };
@@ -112,8 +110,6 @@ impl<S> Fuse<S> {
 }
 
 impl<S: Store> Store for Fuse<S> {
-    ghost use Rattle.dm_store.specs.Saved.{Loads, Replaces, MayLackMemory, with_open_plans, Goes};
-
     type Memory = S::Memory;
 
     ghost state = { λ fused. with_open_plans (S.state fused.inner) };
@@ -153,8 +149,6 @@ impl<S: Store> Store for Fuse<S> {
 }
 
 impl<S: StoreSet> StoreSet for Fuse<S> {
-    ghost use Rattle.dm_store.specs.Saved.{MayLackMemory, ListsKeys, LoadsKey, Settles, SavesKey, RemovesKey, with_open_plans, Goes};
-
     type Memory = S::Memory;
 
     ghost state = { λ fused. with_open_plans (S.state fused.inner) };

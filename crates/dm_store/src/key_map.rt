@@ -3,6 +3,8 @@
 ghost use Rattle.std.specs.Prelude.{◌≡◌, take, None, IfOk, OnOk, OnErr};
 ghost use Rattle.std.specs.Option.{option_copied};
 ghost use Rattle.std.specs.FinMap as map;
+ghost use Rattle.std.specs.Ordering.{nat_cmp};
+ghost use Rattle.std.specs.Coded.{coded_ℕ};
 
 use std::alloc::{AllocError, Allocator, Global};
 use std::collections::{BTreeMap, btree_map};
@@ -15,10 +17,6 @@ pub struct KeyMap<V, A: Allocator + Copy = Global> {
 }
 
 impl<V, A: Allocator + Copy> Model for KeyMap<V, A> {
-    ghost use Rattle.std.specs.Ordering.{nat_cmp};
-    ghost use Rattle.std.specs.FinMap as map;
-    ghost use Rattle.std.specs.Coded.{coded_ℕ};
-
     ghost Value = { map.FinMap nat_cmp V };
 
     ghost coded = { map.code coded_ℕ V.code };

@@ -1,7 +1,8 @@
 //! A set of stores in memory.
 
-ghost use Rattle.std.specs.Prelude.{◌≡◌, ◌↔◌, false, option_map, IsErrOf, IsSome};
+ghost use Rattle.std.specs.Prelude.{◌≡◌, ◌↔◌, false, option_map, IsErrOf, IsSome, List, ℕ, ◌≢◌, Err};
 ghost use Rattle.std.specs.FinMap as map;
+ghost use Rattle.dm_store.specs.Saved.{SavedSet, in_memory, saved_set_code, load_plan_of, save_plan_of, LoadsOpen, ListsKeys, LoadsKey, Settles, RemovesKey};
 
 use crate::key_map::KeyMap;
 use crate::mem_store::NextSave;
@@ -18,8 +19,6 @@ pub struct SavedBytes<A: Allocator = Global> {
 }
 
 impl<A: Allocator> Model for SavedBytes<A> {
-    ghost use Rattle.std.specs.Prelude.{List, ℕ};
-
     ghost Value = { List ℕ };
 
     ghost view = { λ s. s.bytes.items };
@@ -51,8 +50,6 @@ pub struct MemSet<A: Allocator + Copy = Global> {
 }
 
 impl<A: Allocator + Copy> Model for MemSet<A> {
-    ghost use Rattle.dm_store.specs.Saved.{SavedSet, in_memory, saved_set_code};
-
     ghost Value = { SavedSet };
 
     ghost coded = { saved_set_code };
@@ -61,8 +58,6 @@ impl<A: Allocator + Copy> Model for MemSet<A> {
 }
 
 impl<A: Allocator + Copy> MemSet<A> {
-    ghost use Rattle.dm_store.specs.Saved.{in_memory, load_plan_of, save_plan_of};
-
     /// A set that holds nothing. It takes no memory.
     pub fn new(alloc: A) -> MemSet<A>
         ensures { result ≡ in_memory map.empty false NextSave.Fine }
@@ -99,9 +94,6 @@ impl<A: Allocator + Copy> MemSet<A> {
 }
 
 impl<A: Allocator + Copy> StoreSet for MemSet<A> {
-    ghost use Rattle.dm_store.specs.Saved.{LoadsOpen, ListsKeys, LoadsKey, Settles, RemovesKey};
-    ghost use Rattle.std.specs.Prelude.{◌≢◌, Err};
-
     type Memory = A;
 
     ghost state = { λ set. set };

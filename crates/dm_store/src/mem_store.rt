@@ -1,6 +1,7 @@
 //! A store in memory.
 
 ghost use Rattle.std.specs.Prelude.{◌≡◌, ◌↔◌, false, None, Some, option_map, IsErrOf, IsSome};
+ghost use Rattle.dm_store.specs.Saved.{Saved, in_memory, saved_code, load_plan_of, save_plan_of, Loads, LoadsOpen};
 
 use crate::store::{Store, StoreFault};
 use std::alloc::{Allocator, Global};
@@ -29,9 +30,6 @@ pub struct MemStore<A: Allocator + Copy = Global> {
 }
 
 impl<A: Allocator + Copy> Model for MemStore<A> {
-    ghost use Rattle.std.specs.Prelude.{option_map};
-    ghost use Rattle.dm_store.specs.Saved.{Saved, in_memory, saved_code};
-
     ghost Value = { Saved };
 
     ghost coded = { saved_code };
@@ -40,8 +38,6 @@ impl<A: Allocator + Copy> Model for MemStore<A> {
 }
 
 impl<A: Allocator + Copy> MemStore<A> {
-    ghost use Rattle.dm_store.specs.Saved.{in_memory, load_plan_of, save_plan_of};
-
     /// A store that holds nothing. It takes no memory.
     pub fn new(alloc: A) -> MemStore<A>
         ensures { result ≡ in_memory None false NextSave.Fine }
@@ -86,8 +82,6 @@ impl<A: Allocator + Copy> MemStore<A> {
 }
 
 impl<A: Allocator + Copy> Store for MemStore<A> {
-    ghost use Rattle.dm_store.specs.Saved.{Loads, LoadsOpen};
-
     type Memory = A;
 
     ghost state = { λ store. store };

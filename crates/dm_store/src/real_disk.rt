@@ -1,6 +1,8 @@
 //! The system's own files. No contract can say what a file holds, so nothing is claimed here: that these calls do what
 //! [`Disk`] says is trusted, and this page is to be read.
 
+ghost use Rattle.dm_store.specs.Disk.{unclaimed};
+
 use crate::disk::{Disk, Folders};
 use crate::files::{load_file, name_new, sync_folder, sync_folder_of, write_draft};
 use crate::key_files::{key_of, with_end};
@@ -109,8 +111,6 @@ fn settled(ended: io::Result<()>) -> io::Result<()> {
 }
 
 impl<R: Files, A: Allocator + Copy> Disk for RealDisk<'_, R, A> {
-    ghost use Rattle.dm_store.specs.Disk.{unclaimed};
-
     type Memory = A;
 
     ghost state = { λ _. unclaimed };

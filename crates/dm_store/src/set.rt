@@ -1,14 +1,13 @@
 //! What a set of stores promises.
 
 ghost use Rattle.std.specs.Prelude.{◌≡◌};
+ghost use Rattle.dm_store.specs.Saved.{MayLackMemory, SavedSet, ListsKeys, LoadsKey, Settles, SavesKey, RemovesKey};
 
 use crate::store::StoreFault;
 use std::alloc::Allocator;
 
 /// A place for one list of bytes under each key.
 pub trait StoreSet: Drop {
-    ghost use Rattle.dm_store.specs.Saved.{MayLackMemory, SavedSet, ListsKeys, LoadsKey, Settles, SavesKey, RemovesKey};
-
     /// What the keys and the bytes that a load gives are allocated in.
     type Memory: Allocator;
 

@@ -1,6 +1,8 @@
 //! What a store promises, and its faults.
 
 ghost use Rattle.std.specs.Prelude.{◌≡◌};
+ghost use Rattle.dm_store.specs.declared.store.StoreFault.TheVariants.{Memory};
+ghost use Rattle.dm_store.specs.Saved.{Saved, Loads, Replaces, MayLackMemory};
 
 use std::alloc::{AllocError, Allocator};
 use thiserror::Error;
@@ -18,8 +20,6 @@ pub enum StoreFault {
 }
 
 impl From<AllocError> for StoreFault {
-    ghost use Rattle.dm_store.specs.declared.store.StoreFault.TheVariants.{Memory};
-
     ghost from_gives = { λ _ fault. fault ≡ Memory };
 
     fn from(_: AllocError) -> Self {
@@ -29,8 +29,6 @@ impl From<AllocError> for StoreFault {
 
 /// A place for one list of bytes.
 pub trait Store: Drop {
-    ghost use Rattle.dm_store.specs.Saved.{Saved, Loads, Replaces, MayLackMemory};
-
     /// What the bytes that a load gives are allocated in.
     type Memory: Allocator;
 

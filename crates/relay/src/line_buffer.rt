@@ -1,8 +1,9 @@
 //! Buffers that let whole lines out, and nothing more once a write has failed.
 
-ghost use Rattle.std.specs.Prelude.{◌≡◌, ◌≤◌, length, take, OnErr, OnOk, IsErr, []};
+ghost use Rattle.std.specs.Prelude.{◌≡◌, ◌≤◌, length, take, OnErr, OnOk, IsErr, [], is_some, false, true};
 ghost use Rattle.std.specs.Io.{WritesAtMost};
 ghost use Rattle.std.specs.Io.KnownBytes.{Appends, Keeps, WriteAppends, append_known};
+ghost use Rattle.relay.specs.Buffers.{BufferView, held_of, promised, IsPartOut};
 
 use std::alloc::{Allocator, Global};
 use std::io;
@@ -22,9 +23,6 @@ pub(crate) struct LineBuffer<W: Write, A: Allocator = Global> {
 }
 
 impl<W: Write, A: Allocator> Model for LineBuffer<W, A> {
-    ghost use Rattle.std.specs.Prelude.{is_some};
-    ghost use Rattle.relay.specs.Buffers.{BufferView, held_of};
-
     ghost Value = { BufferView };
 
     ghost view = { λ b. record {
@@ -74,9 +72,6 @@ fn refused() -> Error {
 }
 
 impl<W: Write, A: Allocator> LineBuffer<W, A> {
-    ghost use Rattle.std.specs.Prelude.{false, true};
-    ghost use Rattle.relay.specs.Buffers.{promised, IsPartOut};
-
     /// An empty buffer before a writer. It takes no memory.
     pub(crate) fn new(alloc: A, writer: W, least: usize) -> LineBuffer<W, A>
         ensures { result ≡ record { out = W.contents writer; held = []; has_failed = false } }
@@ -155,8 +150,6 @@ impl<W: Write, A: Allocator> LineBuffer<W, A> {
 }
 
 impl<W: Write, A: Allocator> Write for LineBuffer<W, A> {
-    ghost use Rattle.relay.specs.Buffers.{promised};
-
     ghost contents = { promised };
 
     fn write(&mut self, buf: &[u8]) -> io::Result<usize> {

@@ -2,7 +2,7 @@
 
 ghost use Rattle.std.specs.Prelude.{◌≡◌, map, true, false};
 ghost use Rattle.relay.specs.Buffers.{promised};
-ghost use Rattle.relay.specs.Program.{DoesBetween, PutsOut, ShowsPart, TellsOut};
+ghost use Rattle.relay.specs.Program.{DoesBetween, PutsOut, ShowsPart, TellsOut, StandardView};
 ghost use Rattle.relay_places.specs.Places.{files_of};
 ghost use Rattle.std.specs.Io.KnownBytes.{Appends};
 
@@ -26,8 +26,6 @@ const MANY_BYTES: usize = 8192;
 pub struct StandardStreams<I: Read, O: Write, E: Write>(pub I, pub O, pub E);
 
 impl<I: Read, O: Write, E: Write> Model for StandardStreams<I, O, E> {
-    ghost use Rattle.relay.specs.Program.{StandardView};
-
     ghost Value = { StandardView };
 
     ghost view = { λ standard. record {

@@ -1,5 +1,7 @@
 //! Files of images that were named on the line.
 
+ghost use Rattle.std.specs.Prelude.{None};
+
 use crate::notes::note;
 use crate::watched::{NO_IMAGE, Watched};
 use relay_shared::ImageFile;
@@ -32,8 +34,6 @@ impl<I: Read + Drop> Read for Source<I> {
 }
 
 impl ImageFile for NamedImages<'_> {
-    ghost use Rattle.std.specs.Prelude.{None};
-
     type Reader = Watched<BufReader<Source<<HostRuntime as Input>::Reader>>>;
 
     ghost remaining = { λ _. None };

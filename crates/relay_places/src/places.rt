@@ -1,5 +1,8 @@
 //! What is at the paths that a line names.
 
+ghost use Rattle.std.specs.Prelude.{◌≡◌, ℕ, List, Option, IfOk, OnErr, OnOk};
+ghost use Rattle.relay_places.specs.Places.{PlacesView, KeepsOthers, SavesNew, files_of};
+
 use crate::place::Named;
 use dm_store::{Store, StoreFault, StoreSet};
 use relay_shared::ImageFile;
@@ -7,9 +10,6 @@ use std::alloc::AllocError;
 
 /// What is at the paths of a system: at each a ledger or a desk; and files of images.
 pub trait Places: Drop {
-    ghost use Rattle.std.specs.Prelude.{◌≡◌, ℕ, List, Option, IfOk, OnErr, OnOk};
-    ghost use Rattle.relay_places.specs.Places.{PlacesView, KeepsOthers, SavesNew, files_of};
-
     /// A ledger, or the joint file of a desk.
     type File: Store;
 

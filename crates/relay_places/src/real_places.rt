@@ -1,5 +1,8 @@
 //! The system's own files.
 
+ghost use Rattle.std.specs.Prelude.{None};
+ghost use Rattle.relay_places.specs.Places.{unclaimed_places};
+
 use crate::locked::{CommandFiles, Locked, Reason};
 use crate::named_images::NamedImages;
 use crate::notes::{note_of_file, note_of_folder, note_of_reason};
@@ -98,9 +101,6 @@ fn close_gate(rt: &HostRuntime, command_files: CommandFiles<'_>, status: u8) -> 
 }
 
 impl<'a> Places for RealPlaces<'a> {
-    ghost use Rattle.std.specs.Prelude.{None};
-    ghost use Rattle.relay_places.specs.Places.{unclaimed_places};
-
     type File = FileStore<Gated<'a>>;
 
     type Folder = FileSet<Gated<'a>>;

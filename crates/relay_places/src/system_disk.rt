@@ -1,5 +1,7 @@
 //! The system's disk, as one type without parameters.
 
+ghost use Rattle.dm_store.specs.Disk.{unclaimed};
+
 use dm_store::{Disk, Folders, RealDisk, StoreFault};
 use std::alloc::Global;
 use std::io;
@@ -35,8 +37,6 @@ impl KeepsError for SystemDisk<'_> {
 // Each call is that of the disk within.
 #[rattlefmt::skip]
 impl Disk for SystemDisk<'_> {
-    ghost use Rattle.dm_store.specs.Disk.{unclaimed};
-
     type Memory = Global;
 
     ghost state = { λ _. unclaimed };

@@ -31,9 +31,6 @@ struct Evidence {
 }
 
 impl Model for Evidence {
-    ghost use Rattle.std.specs.Prelude.{option_map};
-    ghost use Rattle.relay_printer_commands.specs.Printers.{EvidenceView};
-
     ghost Value = { EvidenceView };
 
     ghost view = { λ one. record {

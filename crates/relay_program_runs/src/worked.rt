@@ -1,6 +1,6 @@
 //! A worked list of commands, over stores in memory.
 
-ghost use Rattle.std.specs.Prelude.{◌≡◌, All, IfSome, IsTrue, codes};
+ghost use Rattle.std.specs.Prelude.{◌≡◌, All, IfSome, IsTrue, codes, Some};
 ghost use Rattle.dm_store.specs.Saved.{with_open_plans};
 ghost use Rattle.relay_program_runs.specs.Worked.{EndWell, IsDone, IsWorked, two_files, no_files};
 
@@ -28,8 +28,6 @@ struct Narrow<A: Allocator> {
 }
 
 impl<A: Allocator> Write for Narrow<A> {
-    ghost use Rattle.std.specs.Prelude.{Some};
-
     ghost contents = { λ output. Some output.bytes.items };
 
     fn write(&mut self, buf: &[u8]) -> Result<usize> {

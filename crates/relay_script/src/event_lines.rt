@@ -1,7 +1,7 @@
 //! The lines of a script that stand for events.
 
 ghost use Rattle.std.specs.Prelude.{codes, MatchOption};
-ghost use Rattle.relay_script.specs.Scripts.{HasForm, SpellsEvent};
+ghost use Rattle.relay_script.specs.Scripts.{HasForm, SpellsEvent, SpellsEventLine};
 ghost use Rattle.relay_script.specs.Words.{FitsWhereFound, IsScriptNumber, IsNumberOf, texts};
 
 use crate::spelled::{Spelled, cut};
@@ -19,8 +19,6 @@ fn index(word: &str) -> Option<usize>
 }
 
 impl<A: Allocator + Copy> Spelled<A> for Event<A> {
-    ghost use Rattle.relay_script.specs.Scripts.{SpellsEventLine};
-
     ghost spells = { SpellsEventLine };
 
     #[tactic(auto, using(crate::proofs::Names::nothing_spelled))]

@@ -3,7 +3,7 @@
 ghost use Rattle.std.specs.Prelude.{◌≡◌, ◌≤◌, ◌<◌, length, MatchOption};
 ghost use Rattle.std.specs.Io.BufRead.{strip_last};
 ghost use Rattle.relay_script.specs.Words.{IsRead, texts};
-ghost use Rattle.relay_script.specs.Scripts.{AreDesks, IsScript, AreLinesOf, desks_place};
+ghost use Rattle.relay_script.specs.Scripts.{AreDesks, IsScript, AreLinesOf, desks_place, SpellsRange};
 
 use crate::spelled::{Spelled, cut, read_all};
 use crate::words::{ScriptFault, number};
@@ -77,8 +77,6 @@ fn desks_line(lines: &[&str]) -> Option<usize>
 }
 
 impl<A: Allocator + Copy> Spelled<A> for Range {
-    ghost use Rattle.relay_script.specs.Scripts.{SpellsRange};
-
     ghost spells = { SpellsRange };
 
     fn read(alloc: A, line: &str) -> Result<Range, ScriptFault> {

@@ -1,7 +1,8 @@
 //! What each kind of word of a script stands for, and why a script is not taken.
 
 ghost use Rattle.std.specs.Prelude.{◌≡◌, ℕ, IfOk, MatchOption};
-ghost use Rattle.relay_script.specs.Words.{AreBytesOf, AreFlipsOf, IsFlipOf, FitsWhereFound, IsIdOf, IsScriptNumber, IsNumberOf, IsRead, IsSideOf, IsStopOf};
+ghost use Rattle.relay_script.specs.Words.{AreBytesOf, AreFlipsOf, IsFlipOf, FitsWhereFound, IsIdOf, IsScriptNumber, IsNumberOf, IsRead, IsSideOf, IsStopOf, script_fault_name};
+ghost use Rattle.relay_script.specs.declared.words.ScriptFault.TheVariants.{Memory};
 
 use crate::spelled::{Spelled, cut, read_all};
 use dm_append_label::FileId;
@@ -22,8 +23,6 @@ pub enum ScriptFault {
 }
 
 impl From<AllocError> for ScriptFault {
-    ghost use Rattle.relay_script.specs.declared.words.ScriptFault.TheVariants.{Memory};
-
     ghost from_gives = { λ _ fault. fault ≡ Memory };
 
     fn from(_error: AllocError) -> ScriptFault {
@@ -32,8 +31,6 @@ impl From<AllocError> for ScriptFault {
 }
 
 impl ScriptFault {
-    ghost use Rattle.relay_script.specs.Words.{script_fault_name};
-
     /// The variant's name.
     pub fn name(self) -> &'static str
         ensures { result.now ≡ script_fault_name self }

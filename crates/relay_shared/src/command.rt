@@ -1,7 +1,7 @@
 //! What a command has: its streams, the document on its input, what it refuses itself, and how it ends.
 
 ghost use Rattle.std.specs.Prelude.{◌≡◌, false, true, IfOk, IsErrOf, MatchResult};
-ghost use Rattle.relay_shared.specs.Command.{ReadsDocument, refusal_name, TellsRefusal};
+ghost use Rattle.relay_shared.specs.Command.{ReadsDocument, refusal_name, TellsRefusal, StreamsView};
 ghost use Rattle.relay_streams.specs.Streams.{TakesPart, write_fault_name};
 ghost use Rattle.relay_streams.specs.declared.fault.InputFault.TheVariants as input_faults;
 ghost use Rattle.relay_shared.specs.declared.command.Refusal.TheVariants as refusals;
@@ -23,8 +23,6 @@ pub struct Streams<R: Read, W: Write, E: Write> {
 }
 
 impl<R: Read, W: Write, E: Write> Model for Streams<R, W, E> {
-    ghost use Rattle.relay_shared.specs.Command.{StreamsView};
-
     ghost Value = { StreamsView };
 
     ghost view = { λ streams. record { input = streams.input; output = streams.output; errors = streams.errors } };

@@ -1,11 +1,13 @@
 //! Images that follow one another on the input of a command, or in files that it is given, and the loops that answer to
 //! each by a line.
 
-ghost use Rattle.std.specs.Prelude.{◌≡◌, ℕ, List, map, max, true, false, ◌<◌, MatchResult};
+ghost use Rattle.std.specs.Prelude.{◌≡◌, ℕ, List, map, max, true, false, ◌<◌, MatchResult, IfOk, Option, Some};
 ghost use Rattle.std.specs.Io.KnownBytes.{Consumes, IsAtEnd, Keeps};
-ghost use Rattle.relay_shared.specs.Command.{IsAnother, Progress, TellsFile, TellsFiles, TellsImages, TellsInputs, at_image, has_stopped, progress_at};
+ghost use Rattle.relay_shared.specs.Command.{IsAnother, Progress, TellsFile, TellsFiles, TellsImages, TellsInputs, at_image, has_stopped, progress_at, AnswersPicture, ImageCommand};
 ghost use Rattle.relay_shared.specs.declared.images.TheConstants.{MOST_IMAGES};
 ghost use Rattle.relay_shared.specs.inner.Steps.{StopsStep, TakesStep};
+ghost use Rattle.dm_pbm_io.specs.Image.{picture};
+ghost use Rattle.relay_streams.specs.Streams.{OutputView};
 
 use crate::command::{Refusal, refuse};
 use dm_pbm_io::Image;
@@ -49,10 +51,6 @@ fn is_at_end<A: Allocator + Copy, R: Read>(alloc: A, input: &mut Input<R>) -> bo
 
 /// What a command does with each image.
 pub trait OnImages<A: Allocator + Copy> {
-    ghost use Rattle.relay_shared.specs.Command.{AnswersPicture, ImageCommand};
-    ghost use Rattle.dm_pbm_io.specs.Image.{picture};
-    ghost use Rattle.relay_streams.specs.Streams.{OutputView};
-
     /// What it answers to a picture.
     ghost command: { ImageCommand };
 
@@ -160,8 +158,6 @@ fn each_image<A: Allocator + Copy, C: OnImages<A>, R: Read, W: Write, E: Write>(
 
 /// A file of images that a command is given by its name, and that is opened when its turn comes.
 pub trait ImageFile {
-    ghost use Rattle.std.specs.Prelude.{◌≡◌, ℕ, IfOk, List, Option};
-
     type Reader: Read + Drop;
 
     /// The bytes that it gives, if they are known.
@@ -180,8 +176,6 @@ pub trait ImageFile {
 }
 
 impl<'a> ImageFile for &'a [u8] {
-    ghost use Rattle.std.specs.Prelude.{Some};
-
     type Reader = &'a [u8];
 
     ghost remaining = { λ bytes. Some bytes.now };

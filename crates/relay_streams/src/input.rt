@@ -1,10 +1,10 @@
 //! Readers that remember whether a read has failed.
 
 ghost use Rattle.std.specs.IoError.{error_kind};
-ghost use Rattle.std.specs.Prelude.{◌≢◌, length, IfOk, IfErr, OnErr};
+ghost use Rattle.std.specs.Prelude.{◌≢◌, length, IfOk, IfErr, OnErr, ◌≡◌, ◌⊎◌, true, false, OnOk, IsErrOf};
 ghost use Rattle.std.specs.Io.{ReadsAtMost};
 ghost use Rattle.std.specs.Io.KnownBytes.{Keeps, ReadConsumes};
-ghost use Rattle.relay_streams.specs.Streams.{Fills, GivesNext, TakesFewer, TakesFirst, TakesPart};
+ghost use Rattle.relay_streams.specs.Streams.{Fills, GivesNext, TakesFewer, TakesFirst, TakesPart, InputView, ReadsFirst};
 
 use crate::fault::{InputFault, ReadFault};
 use std::alloc::Allocator;
@@ -20,8 +20,6 @@ pub struct Input<R: Read> {
 }
 
 impl<R: Read> Model for Input<R> {
-    ghost use Rattle.relay_streams.specs.Streams.{InputView};
-
     ghost Value = { InputView };
 
     ghost view = { λ input. record { remaining = R.remaining input.reader; has_failed = input.failed } };
@@ -125,10 +123,6 @@ fn read_first<R: Read, A: Allocator>(
 }
 
 impl<R: Read> Input<R> {
-    ghost use Rattle.std.specs.Prelude.{◌≡◌, ◌⊎◌, true, false, length, IfOk, OnOk, OnErr, IsErrOf};
-    ghost use Rattle.std.specs.Io.KnownBytes.{Keeps};
-    ghost use Rattle.relay_streams.specs.Streams.{Fills, GivesNext, ReadsFirst, TakesFewer, TakesPart};
-
     /// The reader, of which no read has failed.
     pub fn new(reader: R) -> Self
         ensures remaining { result.remaining ≡ R.remaining reader }

@@ -1,9 +1,10 @@
 //! Writers that remember whether a write has failed.
 
-ghost use Rattle.std.specs.Prelude.{◌<◌, length, IfOk, OnOk};
+ghost use Rattle.std.specs.Prelude.{◌<◌, length, IfOk, OnOk, ◌≡◌, true, false, OnErr};
 ghost use Rattle.std.specs.Io.{WritesAtMost};
 ghost use Rattle.std.specs.Io.KnownBytes.{Appends, WriteAppends};
-ghost use Rattle.relay_streams.specs.Streams.{AppendsPart};
+ghost use Rattle.relay_streams.specs.Streams.{AppendsPart, OutputView, refused_line, StaysFailed};
+ghost use Rattle.std.specs.List.{flat_map};
 
 use crate::fault::WriteFault;
 use std::io::{ErrorKind, Write};
@@ -17,8 +18,6 @@ pub struct Output<W: Write> {
 }
 
 impl<W: Write> Model for Output<W> {
-    ghost use Rattle.relay_streams.specs.Streams.{OutputView};
-
     ghost Value = { OutputView };
 
     ghost view = { λ output. record { contents = W.contents output.writer; has_failed = output.failed } };
@@ -63,11 +62,6 @@ pub fn put_to<W: Write>(writer: &mut W, text: &[u8]) -> Result<(), WriteFault>
 }
 
 impl<W: Write> Output<W> {
-    ghost use Rattle.std.specs.Prelude.{◌≡◌, true, false, OnOk, OnErr};
-    ghost use Rattle.std.specs.List.{flat_map};
-    ghost use Rattle.std.specs.Io.KnownBytes.{Appends};
-    ghost use Rattle.relay_streams.specs.Streams.{refused_line, AppendsPart, StaysFailed};
-
     /// The writer, to which no write has failed.
     pub fn new(writer: W) -> Self
         ensures contents { result.contents ≡ W.contents writer }
