@@ -5,8 +5,7 @@ use Rattle.std.specs.{Option.option_copied, Io.KnownBytes.Appends, Io.KnownBytes
 use Rattle.relay_command.specs.declared.command.Command.{Command}
 use Rattle.relay_command.specs.declared.command.Command.TheVariants.{Words, Draw, Read, Plan, Ticket, Ledger, Print, Give, GiveLast, Take, Left, Audit, Scan, Deliver, Forget, Export, Import, Held, Copy, World}
 use Rattle.relay_streams.specs.Streams.{TakesPart, AppendsPart, OutputView, write_fault_name}
-use Rattle.relay_shared.specs.Command.{StreamsView, TellsRefusal}
-use Rattle.relay_shared.specs.declared.command.TheConstants.{DOCUMENT_BYTES}
+use Rattle.relay_shared.specs.{Command.StreamsView, Command.TellsRefusal, declared.command.TheConstants.DOCUMENT_BYTES}
 use Rattle.relay_desk_commands.specs.declared.import.TheConstants.{IMPORT_BYTES}
 use Rattle.relay_printer_commands.specs.declared.audit.TheConstants.{TICKETS_BYTES}
 use Rattle.relay_world_command.specs.{declared.world.TheConstants.INPUT_BYTES, World.EndsWorld}

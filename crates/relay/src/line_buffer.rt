@@ -6,8 +6,7 @@ ghost use Rattle.std.specs.Io.KnownBytes.{Appends, Keeps, WriteAppends, append_k
 ghost use Rattle.relay.specs.Buffers.{BufferView, held_of, promised, IsPartOut};
 
 use std::alloc::{Allocator, Global};
-use std::io;
-use std::io::{Error, ErrorKind, Write};
+use std::io::{self, Error, ErrorKind, Write};
 use std::marker::Model;
 
 /// A buffer before a writer. What is written goes out where a line ends, once there are as many bytes as `least`, or

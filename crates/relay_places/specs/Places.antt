@@ -40,6 +40,5 @@ abbrev pub locks : Access → Found → Bool
 locks Creates found = not found.is_any
 locks Makes found = true
 locks Saves found = found.is_any
-locks Reads found = found.has_documents
-locks Moves found = found.has_documents
 locks Looks found = false
+locks access found = found.has_documents

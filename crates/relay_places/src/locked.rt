@@ -10,8 +10,7 @@ use crate::system_disk::KeepsError;
 use dm_store::{Disk, Folders, StoreFault};
 use std::cell::{Cell, OnceCell};
 use std::fs::{File, Metadata};
-use std::io;
-use std::io::ErrorKind;
+use std::io::{self, ErrorKind};
 use std::os::unix::fs::MetadataExt;
 use std::rc::Rc;
 use std::rt::Files;
@@ -170,7 +169,11 @@ impl<'a> CommandFiles<'a> {
             // So nothing is there to be loaded.
             Err(LockFault::NoFolder) => Ok(None),
             Err(LockFault::Busy) => Err(Reason::Busy),
-            Err(LockFault::Refused) => Err(Reason::NoLock),
+            Err(LockFault::Refused(None)) => Err(Reason::NoLock),
+            Err(LockFault::Refused(Some(error))) => {
+                self.keep(place.lock.as_str(), &error);
+                Err(Reason::Refused)
+            }
         }
     }
 

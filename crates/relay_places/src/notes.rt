@@ -7,8 +7,7 @@ use crate::watched::NO_IMAGE;
 use dm_assembly_desk::{JointFile, MOST_JOINT_FILE_BYTES, MoveFault, held_at};
 use dm_store::{FileSet, FileStore, Folders, Store, StoreFault};
 use std::alloc::{AllocError, Global};
-use std::io;
-use std::io::Read;
+use std::io::{self, Read};
 use std::rt::Files;
 
 // In how many pieces the names of a folder are read at most.

@@ -2,8 +2,7 @@
 
 ghost use Rattle.std.specs.Prelude.{◌≡◌};
 
-use std::io;
-use std::io::Read;
+use std::io::{self, Read};
 
 /// What is said of an input in which no image was.
 pub(crate) const NO_IMAGE: &str = "no image was read";

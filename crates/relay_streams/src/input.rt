@@ -8,8 +8,7 @@ ghost use Rattle.relay_streams.specs.Streams.{Fills, GivesNext, TakesFewer, Take
 
 use crate::fault::{InputFault, ReadFault};
 use std::alloc::Allocator;
-use std::io;
-use std::io::{Error, ErrorKind, Read};
+use std::io::{self, Error, ErrorKind, Read};
 use std::marker::Model;
 
 /// A reader, and whether a read has failed.
