@@ -100,7 +100,6 @@ fn documents_are_scanned(rt: HostRuntime) {
         let is_so = answers(rt.alloc(), &mut desk, *scan, *answer);
         assert!(rt; is_so, "{place}");
     }
-    let desk = opened(&rt, rt.alloc(), desk.close(), 2);
     assert!(rt; holds_both(&desk, id_of(&rt, 3), id_of(&rt, 5)));
 }
 

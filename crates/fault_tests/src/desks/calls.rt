@@ -43,18 +43,18 @@ const CALLS: [(Call, &str); 8] = [
 // The files of the documents 0 and 9, where no bytes stand for a document that has none.
 type Files = [&'static [u8]; 2];
 
-// What is saved where the set stops after 0, 1, 2 and more device calls. It is opened by three: the keys, a load of one
+// After how many device calls the set stops, and what is saved then. It is opened by three: the keys, a load of one
 // file, and the settle of what was found. Then the save that it stops at has kept the old files, or the new ones.
-const STOPS: [(Files, Files); 9] = [
-    ([b"", THIRD], [b"", THIRD]),
-    ([b"", THIRD], [b"", THIRD]),
-    ([b"", THIRD], [b"", THIRD]),
-    ([b"", THIRD], [FIRST, THIRD]),
-    ([FIRST, THIRD], [WHOLE, THIRD]),
-    ([WHOLE, THIRD], [WHOLE, FULL]),
-    ([WHOLE, FULL], [WHOLE, b""]),
-    ([WHOLE, b""], [WHOLE, THIRD]),
-    ([WHOLE, THIRD], [WHOLE, THIRD]),
+const STOPS: [(u32, Files, Files); 9] = [
+    (0, [b"", THIRD], [b"", THIRD]),
+    (1, [b"", THIRD], [b"", THIRD]),
+    (2, [b"", THIRD], [b"", THIRD]),
+    (3, [b"", THIRD], [FIRST, THIRD]),
+    (4, [FIRST, THIRD], [WHOLE, THIRD]),
+    (5, [WHOLE, THIRD], [WHOLE, FULL]),
+    (6, [WHOLE, FULL], [WHOLE, b""]),
+    (7, [WHOLE, b""], [WHOLE, THIRD]),
+    (8, [WHOLE, THIRD], [WHOLE, THIRD]),
 ];
 
 // More growths than all calls together ask for.
@@ -173,9 +173,10 @@ fn are_saved(rt: &impl Abort, memory: &Memory, passes: u32, kept: Kept, files: F
 #[test]
 fn the_set_stops_at_each_call(rt: HostRuntime) {
     let memory = Refusing::new(rt.alloc(), u64::MAX);
-    for (passes, (old, new)) in (0..9u32).zip(STOPS) {
-        assert!(rt; are_saved(&rt, &memory, passes, Kept::Old, old), "{passes}");
-        assert!(rt; are_saved(&rt, &memory, passes, Kept::New, new), "{passes}");
+    for (passes, old, new) in STOPS.iter() {
+        let is_old = are_saved(&rt, &memory, *passes, Kept::Old, *old);
+        let is_new = are_saved(&rt, &memory, *passes, Kept::New, *new);
+        assert!(rt; is_old && is_new, "{passes}");
     }
 }
 
@@ -210,29 +211,30 @@ fn is_refused<'a>(
     (is_of_memory && made(desk, memory, call) == wanted).then_some(true)
 }
 
-// Makes all calls, and counts the refusals of each.
-fn count_refusals(rt: &impl Abort, memory: &Memory, refusals: &mut [u32; 8]) {
+// Makes all calls: which of them are refused, as bits.
+fn refused_calls(rt: &impl Abort, memory: &Memory) -> u8 {
     let mut desk = opened(memory, filled(rt, memory)).expect(rt, "it is opened");
-    for (call, count) in CALLS.iter().zip(refusals.iter_mut()) {
-        let is_refused = is_refused(&mut desk, memory, *call).expect(rt, "it is done");
-        *count = count.saturating_add(u32::from(is_refused));
+    let mut refused = 0u8;
+    for (place, call) in CALLS.iter().enumerate() {
+        if is_refused(&mut desk, memory, *call).expect(rt, "it is done") {
+            refused |= 1u8 << (place % 8);
+        }
     }
     assert!(rt; has(&desk.close(), [WHOLE, THIRD]));
+    refused
 }
 
 #[test]
 fn each_growth_is_refused(rt: HostRuntime) {
-    let mut refusals = [0u32; 8];
+    let mut refused = 0u8;
     for passes in 0..=MANY {
         assert!(rt; passes < MANY);
         let memory = Refusing::new(rt.alloc(), u64::from(passes));
-        count_refusals(&rt, &memory, &mut refusals);
+        refused |= refused_calls(&rt, &memory);
         if !memory.is_spent() {
             break;
         }
     }
     // A forget takes no memory.
-    for (place, count) in refusals.iter().enumerate() {
-        assert!(rt; (*count == 0) == (place == 6), "{place}");
-    }
+    assert!(rt; refused == 0b1011_1111);
 }
