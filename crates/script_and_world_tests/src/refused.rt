@@ -137,12 +137,16 @@ pub fn world_of<A: Allocator + Copy>(alloc: A, script: &Script<A>) -> Result<Wor
 fn tells<A: Allocator + Copy>(alloc: A, text: &str, words: &str) -> Result<bool, Fail> {
     let script = script_of(alloc, text)?;
     let mut world = world_of(alloc, &script)?;
-    let mut same = script.events.len() == words.split(',').count();
-    let nexts = script.events.iter().skip(1).chain(script.events.last());
-    for ((event, next), word) in script.events.iter().zip(nexts).zip(words.split(',')) {
-        same = same && given(&mut world, event, next) == word;
+    for (place, word) in words.split(',').enumerate() {
+        let Some(event) = script.events.get(place) else {
+            return Ok(false);
+        };
+        let next = script.events.get(place.saturating_add(1)).unwrap_or(event);
+        if given(&mut world, event, next) != word {
+            return Ok(false);
+        }
     }
-    Ok(same)
+    Ok(script.events.len() == words.split(',').count())
 }
 
 #[test]

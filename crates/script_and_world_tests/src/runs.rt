@@ -2,35 +2,52 @@
 
 use crate::refused::{GATHERED, GATHERING, told, world_of};
 use dm_append_label::FileId;
-use dm_event_history::Reply;
-use dm_event_world::{WorldFault, is_honest, run};
+use dm_event_history::{Event, Reply};
+use dm_event_world::{World, WorldFault, is_honest, run};
 use relay_script::read_script;
 use std::test::Fail;
 use test_helpers::says;
+
+// Whether the replies to the gathering are these, and the fifth gives the document.
+fn are_of_gathering(replies: &[Reply]) -> bool {
+    for (place, word) in GATHERED.split(',').enumerate() {
+        if !replies.get(place).is_some_and(|reply| told(reply) == word) {
+            return false;
+        }
+    }
+    let given = replies.get(4);
+    matches!(given, Some(Reply::Document(bytes)) if bytes.as_slice() == b"1234".as_slice())
+        && replies.len() == GATHERED.split(',').count()
+}
+
+// Whether a world finds each of these events honest.
+fn are_honest(world: &World, events: &[Event]) -> bool {
+    for event in events {
+        if is_honest(world, event) != Ok(true) {
+            return false;
+        }
+    }
+    true
+}
+
+// Whether two labels have left the world, a ticket and a file.
+fn has_left(world: &World, id: FileId) -> bool {
+    let labels = (world.label(0), world.label(1), world.label(2));
+    let ticket = world.ticket(0).map(|ticket| ticket.bytes());
+    (world.labels(), world.tickets(), world.exports()) == (2, 1, 1)
+        && labels == (Some((id, 1, 2)), Some((id, 2, 2)), None)
+        && ticket == Some([0, 0, 0, 0, 0, 1, 0, 5, 0, 9])
+        && world.ticket(1).is_none()
+}
 
 #[test]
 fn a_run_answers_each_event_and_leaves_what_left(rt: HostRuntime) -> Result<(), Fail> {
     let script = read_script(rt.alloc(), GATHERING.as_bytes())?;
     let mut world = world_of(rt.alloc(), &script)?;
     let replies = run(rt.alloc(), &mut world, &script.events)?;
-    assert!(rt; replies.len() == GATHERED.split(',').count());
-    for (reply, word) in replies.iter().zip(GATHERED.split(',')) {
-        assert!(rt; told(reply) == word);
-    }
-    let given = replies.get(4).ok_or("no reply")?;
-    assert!(rt; matches!(given, Reply::Document(bytes) if bytes.as_slice() == b"1234".as_slice()));
-    for event in &script.events {
-        assert!(rt; is_honest(&world, event)?);
-    }
+    assert!(rt; are_of_gathering(&replies) && are_honest(&world, &script.events));
     let id = FileId::of_words(1, 1).ok_or("no ID")?;
-    assert!(rt; world.labels() == 2 && world.label(2).is_none());
-    for (place, number) in [(0, 1), (1, 2)] {
-        assert!(rt; world.label(place) == Some((id, number, 2)));
-    }
-    assert!(rt; world.tickets() == 1 && world.ticket(1).is_none());
-    let ticket = world.ticket(0).ok_or("no ticket")?;
-    assert!(rt; ticket.bytes() == [0, 0, 0, 0, 0, 1, 0, 5, 0, 9]);
-    assert!(rt; world.exports() == 1);
+    assert!(rt; has_left(&world, id));
     Ok(())
 }
 
