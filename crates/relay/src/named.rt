@@ -18,40 +18,27 @@ fn gathering(capacity: u16) -> Access {
 }
 
 /// The files that a command names, if it names any.
+#[rattlefmt::skip]
 pub(crate) fn named_by<'a>(command: Command<'a>) -> Option<Named<'a>>
     ensures path { MatchOption result (path_of command.entry ≡ [])
         (λ named. named.file.now ≡ path_of command.entry) }
     ensures desk { IfSome result (λ named. named.access ≡ Makes → IsTrue named.is_desk) }
 {
     let (file, is_desk, access) = match command {
-        Command::Words { .. }
-        | Command::Draw { .. }
-        | Command::Read
-        | Command::Audit
-        | Command::Plan { .. }
-        | Command::Ticket { .. }
-        | Command::World => return None,
+        Command::Words { .. } | Command::Draw { .. } | Command::Read | Command::Audit | Command::Plan { .. }
+        | Command::Ticket { .. } | Command::World => return None,
         Command::Ledger { file, .. } => (file, false, Access::Creates),
-        Command::Print { file, .. }
-        | Command::Give { file, .. }
-        | Command::GiveLast { file, .. }
+        Command::Print { file, .. } | Command::Give { file, .. } | Command::GiveLast { file, .. }
         | Command::Take { file, .. } => (file, false, Access::Saves),
         Command::Left { file } => (file, false, Access::Looks),
-        Command::Scan { file, capacity } | Command::Import { file, capacity } => (
-            file,
-            true,
-            gathering(capacity),
-        ),
+        Command::Scan { file, capacity } | Command::Import { file, capacity } => (file, true, gathering(capacity)),
         Command::Forget { file, .. } => (file, true, Access::Saves),
-        Command::Deliver { file, .. } | Command::Export { file, .. } | Command::Copy { file, .. } =>
-            (file, true, Access::Reads),
+        Command::Deliver { file, .. } | Command::Export { file, .. } | Command::Copy { file, .. } => {
+            (file, true, Access::Reads)
+        }
         Command::Held { file, .. } => (file, true, Access::Looks),
     };
-    Some(Named {
-        file,
-        is_desk,
-        access,
-    })
+    Some(Named { file, is_desk, access })
 }
 
 /// Whether the refusals of a command go to the standard error, since its output is bytes for another program. Those of

@@ -85,7 +85,7 @@ Example:
     },
 ];
 
-static OF_PRINTERS: [Page; 8] = [
+static OF_PRINTERS: [Page; 4] = [
     Page {
         name: "ledger",
         about: "Makes the ledger of a printer",
@@ -115,7 +115,8 @@ Example:
     Page {
         name: "print",
         about: "Prints a document as labels that carry one ID",
-        usage: "relay print --file LEDGER (--side SIDE | --labels K) [--scheme SCHEME]\n         [--number N] < DOCUMENT > IMAGES",
+        usage: "relay print --file LEDGER (--side SIDE | --labels K) [--scheme SCHEME]\n         \
+            [--number N] < DOCUMENT > IMAGES",
         rows: &[LEDGER, SIDE, LABELS, SCHEME, OWN_NUMBER],
         more: "\
 The document is cut into 2 to 16 labels, which carry the least ID that is free.
@@ -146,6 +147,9 @@ goes to standard error. A refusal goes to standard output.
 Example:
   relay give --file north.ledger --number 1 --to 2 --first 5000 --last 5999",
     },
+];
+
+static MORE_OF_PRINTERS: [Page; 4] = [
     Page {
         name: "ticket",
         about: "Prints what a ticket gives, and its form to copy by hand",
@@ -371,20 +375,21 @@ Example:
     },
 ];
 
-/// Commands that the program's help lists under one heading.
+/// Commands that the program's help lists under a heading, or under that of the group before.
 #[derive(Clone, Copy)]
 pub struct Group {
-    pub heading: &'static str,
+    pub heading: Option<&'static str>,
     pub pages: &'static [Page],
 }
 
 /// All commands, in the order in which the program's help lists them.
 #[rattlefmt::skip]
-pub fn groups() -> [Group; 4] {
+pub fn groups() -> [Group; 5] {
     [
-        Group { heading: "Symbols", pages: &OF_SYMBOLS },
-        Group { heading: "Printers", pages: &OF_PRINTERS },
-        Group { heading: "Desks", pages: &OF_DESKS },
-        Group { heading: "Others", pages: &OTHERS },
+        Group { heading: Some("Symbols"), pages: &OF_SYMBOLS },
+        Group { heading: Some("Printers"), pages: &OF_PRINTERS },
+        Group { heading: None, pages: &MORE_OF_PRINTERS },
+        Group { heading: Some("Desks"), pages: &OF_DESKS },
+        Group { heading: Some("Others"), pages: &OTHERS },
     ]
 }

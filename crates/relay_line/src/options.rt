@@ -4,67 +4,54 @@ use crate::help::{self, Page};
 use crate::parse::VERSION;
 use clap::builder::ValueParser;
 use clap::{Arg, ArgAction, ArgGroup, Command};
+use relay_command::SCHEMES;
 use std::alloc::{AllocError, Global};
 
-// How an argument stands on a line: `--NAME VALUE`, where nothing says more.
+// How an argument stands on a line: `--NAME VALUE`, where nothing says more; `With` this other argument alone; with this
+// `Default` where it is left out; as a `Flag`, `--NAME`; as at most one `Word`, or any number of `Words`.
 #[derive(Clone, Copy)]
-pub enum Kind {
-    Optional,
-    // Only beside this other argument.
-    With(&'static str),
-    Required,
-    // This value stands where the argument is left out.
-    Default(&'static str),
-    // `--NAME`.
-    Flag,
-    // At most one word.
-    Word,
-    // Any number of words.
-    Words,
-}
+#[rattlefmt::skip]
+pub enum Kind { Optional, With(&'static str), Required, Default(&'static str), Flag, Word, Words }
+
+// What the value of an argument has to be. The parser's own type has more in it, which would stand in each proof.
+#[derive(Clone, Copy)]
+#[rattlefmt::skip]
+pub enum Values { Text, NotEmpty, Number(i64, i64), Scheme }
 
 // An argument: its name, what the helps call its value, its kind, what its value has to be, and its help.
 #[derive(Clone, Copy)]
 #[rattlefmt::skip]
-pub struct Row(&'static str, &'static str, Kind, ValueParser<'static>, &'static str);
+pub struct Row(&'static str, &'static str, Kind, Values, &'static str);
 
 // The arguments of the commands.
 #[rattlefmt::skip]
 pub mod rows {
     use super::{Kind::{Default, Flag, Optional, Required, With, Word, Words}, Row};
-    use clap::builder::ValueParser::{self, Names, NonEmptyString, Signed, String as Text};
-    use relay_command::SCHEMES;
+    use super::Values::{self, NotEmpty, Number, Scheme, Text};
 
-    const U16: ValueParser<'static> = Signed(0, 65_535);
+    const U16: Values = Number(0, 65_535);
     const SIDE_HELP: &str = "modules along a side: 10 to 26 by twos, 32, 36, 40,\n\
         44, 48, 52, 64, 72, 80, 88, 96, 104, 120 or\n132";
     const LABELS_HELP: &str = "take the smallest side for which there are at most\n\
         K labels, 2 to 16";
     const SCHEME_HELP: &str = "how the bytes are encoded: ascii, c40, text or\nbase256";
-    const PLAIN_HELP: &str = "draws in PBM's plain form, P1, in place of P4";
-    const DESK_HELP: &str = "the desk; its files stand in the folder DESK.pages";
     const HEX_HELP: &str = "the 20 digits that `give` printed, or the form with\n\
         check digits that `ticket` printed";
-    const CAPACITY_HELP: &str = "how many documents it may hold, 1 to 1024";
     const ID_HELP: &str = "the ID: 4 hexadecimal digits";
     const IMAGES_HELP: &str = "files of images, read in turn; `-` is the standard input";
-    const NAME_HELP: &str = "the name of a refusal; without one, prints all names";
-    const LEDGER_HELP: &str = "the file that holds the ledger";
     const FIRST_HELP: &str = "the first ID, from 0";
     const LAST_HELP: &str = "the last ID, up to 64515";
     const COUNT_HELP: &str = "the last N that are free in one range, in place of\n\
         --first and --last";
-    const LEDGERS_HELP: &str = "the files that hold the ledgers";
-    const PAGE_HELP: &str = "the page, from 1 to 16";
     const SAVED_HELP: &str = "save it as this file, in place of the standard output";
-    pub const SIDE: Row = Row("side", "SIDE", Optional, Signed(10, 132), SIDE_HELP);
-    pub const LEAST_SIDE: Row = Row("side", "SIDE", Default("10"), Signed(10, 132), SIDE_HELP);
-    pub const COPY_SIDE: Row = Row("side", "SIDE", Required, Signed(10, 132), SIDE_HELP);
-    pub const LABELS: Row = Row("labels", "K", Optional, Signed(2, 16), LABELS_HELP);
-    pub const SCHEME: Row = Row("scheme", "SCHEME", Default("ascii"), Names(&SCHEMES), SCHEME_HELP);
-    pub const PLAIN: Row = Row("plain", "", Flag, Text, PLAIN_HELP);
-    pub const LEDGER: Row = Row("file", "LEDGER", Required, NonEmptyString, LEDGER_HELP);
-    pub const DESK: Row = Row("file", "DESK", Required, NonEmptyString, DESK_HELP);
+    pub const SIDE: Row = Row("side", "SIDE", Optional, Number(10, 132), SIDE_HELP);
+    pub const LEAST_SIDE: Row = Row("side", "SIDE", Default("10"), Number(10, 132), SIDE_HELP);
+    pub const COPY_SIDE: Row = Row("side", "SIDE", Required, Number(10, 132), SIDE_HELP);
+    pub const LABELS: Row = Row("labels", "K", Optional, Number(2, 16), LABELS_HELP);
+    pub const SCHEME: Row = Row("scheme", "SCHEME", Default("ascii"), Scheme, SCHEME_HELP);
+    pub const PLAIN: Row = Row("plain", "", Flag, Text, "draws in PBM's plain form, P1, in place of P4");
+    pub const LEDGER: Row = Row("file", "LEDGER", Required, NotEmpty, "the file that holds the ledger");
+    pub const DESK: Row = Row("file", "DESK", Required, NotEmpty, "the desk; its files stand in the folder DESK.pages");
     pub const TO: Row = Row("to", "N", Required, U16, "the number of the other printer");
     pub const NUMBER: Row = Row("number", "N", Required, U16, "the printer's number");
     pub const OWN_NUMBER: Row = Row("number", "N", Default("0"), U16, "the printer's number");
@@ -72,16 +59,25 @@ pub mod rows {
     pub const LAST: Row = Row("last", "N", Required, U16, LAST_HELP);
     pub const SOME_FIRST: Row = Row("first", "N", With("last"), U16, FIRST_HELP);
     pub const SOME_LAST: Row = Row("last", "N", With("first"), U16, LAST_HELP);
-    pub const COUNT: Row = Row("count", "N", Optional, Signed(1, 64_516), COUNT_HELP);
-    pub const LEDGERS: Row = Row("images", "LEDGERS", Words, NonEmptyString, LEDGERS_HELP);
+    pub const COUNT: Row = Row("count", "N", Optional, Number(1, 64_516), COUNT_HELP);
+    pub const LEDGERS: Row = Row("images", "LEDGERS", Words, NotEmpty, "the files that hold the ledgers");
     pub const TICKET: Row = Row("ticket", "HEX", Required, Text, HEX_HELP);
-    pub const CAPACITY: Row = Row("capacity", "N", Default("64"), U16, CAPACITY_HELP);
+    pub const CAPACITY: Row = Row("capacity", "N", Default("64"), U16, "how many documents it may hold, 1 to 1024");
     pub const ID: Row = Row("id", "IIII", Required, Text, ID_HELP);
     pub const ANY_ID: Row = Row("id", "IIII", Optional, Text, ID_HELP);
-    pub const PAGE: Row = Row("page", "M", Required, Signed(1, 16), PAGE_HELP);
-    pub const SAVED: Row = Row("to", "FILE", Optional, NonEmptyString, SAVED_HELP);
+    pub const PAGE: Row = Row("page", "M", Required, Number(1, 16), "the page, from 1 to 16");
+    pub const SAVED: Row = Row("to", "FILE", Optional, NotEmpty, SAVED_HELP);
     pub const IMAGES: Row = Row("images", "IMAGES", Words, Text, IMAGES_HELP);
-    pub const REFUSAL: Row = Row("name", "NAME", Word, Text, NAME_HELP);
+    pub const REFUSAL: Row = Row("name", "NAME", Word, Text, "the name of a refusal; without one, prints all names");
+}
+
+fn parser_of(values: Values) -> ValueParser<'static> {
+    match values {
+        Values::Text => ValueParser::String,
+        Values::NotEmpty => ValueParser::NonEmptyString,
+        Values::Number(least, most) => ValueParser::Signed(least, most),
+        Values::Scheme => ValueParser::Names(&SCHEMES),
+    }
 }
 
 // An argument, as the parser takes it.
@@ -93,7 +89,7 @@ fn argument<'a>(alloc: Global, row: &Row) -> Result<Arg<'a>, AllocError> {
     }
     let argument = argument
         .value_name(value)
-        .value_parser(values)
+        .value_parser(parser_of(values))
         .hide_possible_values(true);
     match kind {
         Kind::Word => Ok(argument),
@@ -112,21 +108,23 @@ fn command<'a>(alloc: Global, page: &Page) -> Command<'a> {
         .after_help(page.more)
 }
 
+// Two arguments, of which a line needs one.
+fn either<'a>(alloc: Global, one: &'a str, other: &'a str) -> Result<ArgGroup<'a>, AllocError> {
+    let form = ArgGroup::new(alloc, "form").required(true);
+    form.arg(one)?.arg(other)
+}
+
 // A command with its arguments. `print` is by a side or by a number of labels, and `give` of a range or of the last.
 fn subcommand<'a>(alloc: Global, page: &Page) -> Result<Command<'a>, AllocError> {
     let mut command = command(alloc, page);
     for row in page.rows {
         command = command.arg(argument(alloc, row)?)?;
     }
-    if page.name == "print" {
-        let form = ArgGroup::new(alloc, "form").required(true);
-        command = command.group(form.arg("side")?.arg("labels")?)?;
+    match page.name {
+        "print" => command.group(either(alloc, "side", "labels")?),
+        "give" => command.group(either(alloc, "first", "count")?),
+        _ => Ok(command),
     }
-    if page.name == "give" {
-        let form = ArgGroup::new(alloc, "form").required(true);
-        command = command.group(form.arg("first")?.arg("count")?)?;
-    }
-    Ok(command)
 }
 
 /// The whole program.

@@ -55,11 +55,11 @@ fn message_of(alloc: Global, text: &str) -> Result<String, AllocError>
 fn help_of(alloc: Global, text: &str) -> Result<String, AllocError> {
     let mut text = text.replace(alloc, HELP_LINE, "")?;
     for group in &help::groups() {
-        let Some(page) = group.pages.first() else {
+        let (Some(heading), Some(page)) = (group.heading, group.pages.first()) else {
             continue;
         };
         let line = format!(in alloc; "\n  {} ", page.name)?;
-        let with_heading = format!(in alloc; "\n{}:{}", group.heading, line.as_str())?;
+        let with_heading = format!(in alloc; "\n{heading}:{}", line.as_str())?;
         text = text
             .as_str()
             .replace(alloc, line.as_str(), with_heading.as_str())?;
@@ -285,7 +285,10 @@ pub fn command_line<'a, S: AsStr>(
     ensures found { IfOk result IsFound }
     ensures status { IfErr result HasStatus }
 {
-    let matches = match relay(alloc)?.try_get_matches_from(words) {
+    let Ok(program) = relay(alloc) else {
+        return Err(LineFault::Memory);
+    };
+    let matches = match program.try_get_matches_from(words) {
         Ok(matches) => matches,
         Err(error) => return Err(fault_of(alloc, &error)),
     };

@@ -42,25 +42,17 @@ impl Disk for SystemDisk<'_> {
     ghost state = { λ _. unclaimed };
 
     fn read(&mut self, name: &str, limit: usize) -> Result<Option<Vec<u8>>, StoreFault> { self.0.read(name, limit) }
-
     fn write(&mut self, name: &str, bytes: &[u8]) -> Result<(), StoreFault> { self.0.write(name, bytes) }
-
     fn sync(&mut self, name: &str) -> Result<(), StoreFault> { self.0.sync(name) }
-
     fn rename(&mut self, from: &str, to: &str) -> Result<(), StoreFault> { self.0.rename(from, to) }
-
     fn remove(&mut self, name: &str) -> Result<(), StoreFault> { self.0.remove(name) }
-
     fn sync_entry(&mut self, name: &str) -> Result<(), StoreFault> { self.0.sync_entry(name) }
-
     fn settle_entry(&mut self, name: &str) -> Result<(), StoreFault> { self.0.settle_entry(name) }
 }
 
 #[rattlefmt::skip]
 impl Folders for SystemDisk<'_> {
     fn make_folder(&mut self, folder: &str) -> Result<(), StoreFault> { self.0.make_folder(folder) }
-
     fn keys(&mut self, folder: &str, limit: usize) -> Result<Vec<u16>, StoreFault> { self.0.keys(folder, limit) }
-
     fn settle_folder(&mut self, folder: &str) -> Result<(), StoreFault> { self.0.settle_folder(folder) }
 }
