@@ -85,26 +85,25 @@ fn may_leave_in<A: Allocator>(calls: &[DiskCall<A>], name: &str, content: Option
     let [call, before @ ..] = calls else {
         return content.is_none();
     };
-    let may_leave = may_leave_in(before, name, content);
     match call {
-        DiskCall::Wrote(written, _) => written.as_str() == name || may_leave,
-        DiskCall::Synced(_) => may_leave,
+        DiskCall::Wrote(written, _) if written.as_str() == name => true,
         DiskCall::Renamed(from, to) if to.as_str() == name => {
             !is_synced_in(before, from.as_str())
-                || may_leave
+                || may_leave_in(before, name, content)
                 || is_same(content, seen_in(before, from.as_str()))
         }
-        DiskCall::Renamed(from, _) => from.as_str() == name || may_leave,
-        DiskCall::Removed(removed) => { may_leave || removed.as_str() == name && content.is_none() }
+        DiskCall::Renamed(from, _) if from.as_str() == name => true,
+        DiskCall::Removed(removed) => {
+            may_leave_in(before, name, content) || removed.as_str() == name && content.is_none()
+        }
         DiskCall::SyncedEntry(synced) if synced.as_str() == name && is_synced_in(before, name) => {
             is_same(content, seen_in(before, name))
         }
-        DiskCall::SyncedEntry(_) => may_leave,
         DiskCall::SyncedFolder(start)
             if name.as_bytes().starts_with(start.as_bytes()) && is_synced_in(before, name) => {
             is_same(content, seen_in(before, name))
         }
-        DiskCall::SyncedFolder(_) => may_leave,
+        _ => may_leave_in(before, name, content),
     }
 }
 
