@@ -5,7 +5,7 @@
 //! of the allocator within. [`MemDisk`] is proved to be an honest disk with folders, of which a stop may leave whatever
 //! the contract of disks allows after calls that were done; a call that fails changes nothing there. [`Stopping`] is
 //! proved a disk over any other, though each of its calls may be the one that the machine stops at. What else the
-//! comments say has no contract: `stream_and_image_tests` shows it.
+//! comments say has no contract: `store_and_stream_tests` shows it.
 #![tactic(auto)]
 
 mod failing;
