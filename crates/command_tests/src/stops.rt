@@ -46,6 +46,7 @@ const CASES: &[Case] = &[
     (&[Call::Ledger, Call::Print], Call::Print, &[(Call::Print, PRINTS)]),
     (&[Call::Ledger, Call::Print], Call::PrintAuto, &[(Call::Print, PRINTS)]),
     (&[Call::Ledger, Call::Print], Call::Give, &[(Call::Print, PRINTS_AROUND_GIVE), (Call::Give, GIVES)]),
+    (&[Call::Ledger, Call::Print], Call::GiveLast, &[(Call::Print, PRINTS_AROUND_GIVE), (Call::Give, GIVES)]),
     (&[Call::Ledger], Call::Take, &[(Call::Take, &[b"taken left 12\n", b"refused Old\n"])]),
     (&[], Call::Scan(LABELS), &[(Call::Import(BOTH), &[ADDED_BOTH, ADDED_SECOND, ADDED_NONE])]),
     (&[Call::Scan(LABEL)], Call::Import(BOTH), &[(Call::Import(BOTH), &[ADDED_SECOND, ADDED_NONE])]),

@@ -156,7 +156,8 @@ impl Shown {
 
     // Whether the other has taken a ticket that it did not take yet.
     fn lacks_taken(&self, other: &Shown) -> bool
-        ensures { result ≡ list_any (λ last. not (test_of_old self.now.givers last.number last.serial)) other.now.givers }
+        ensures { result
+            ≡ list_any (λ last. not (test_of_old self.now.givers last.number last.serial)) other.now.givers }
     {
         other
             .givers()

@@ -72,13 +72,13 @@ pub static EXPLANATIONS: [&str; 45] = [
     What to do: a ledger is made only once; use another path.\n",
     "Device\n  From: all.\n  A file could not be used: it can't be read, is not a plain file, has a\n  \
     second name, is in use by another program, can't be locked, or its folder is\n  missing or can't be synced.\n  \
-    What to do: read the line `relay: PATH: WHY`. Check the path, its rights and\n  \
-    the disk, or wait for the other program. After `ledger` check with `left`:\n  the ledger may be there.\n",
+    What to do: read the line `relay: PATH: WHY`. Correct what it names, or wait\n  \
+    for the other program. After `ledger` check with `left`: the ledger may be\n  there.\n",
     "Save\n  From: all that save but `ledger`.\n  \
     The save failed, perhaps because the folder is missing or the lock file was\n  \
     removed. The ID or the range may be used up, the page held, the document\n  \
     forgotten; nothing was printed or given.\n  \
-    What to do: check the folder, its rights and the disk, and run the command\n  again.\n",
+    What to do: read the line `relay: PATH: WHY`, and run the command again.\n",
     "Write\n  From: all; `read` and `scan` write no line.\n  \
     The output refused a write. What was saved stays saved: the ledger is made,\n  \
     the ID used, the range given or taken, the pages held, the document\n  forgotten.\n  \

@@ -7,8 +7,8 @@ use clap::{Arg, ArgAction, ArgGroup, Command};
 use relay_command::SCHEMES;
 use std::alloc::{AllocError, Global};
 
-// How an argument stands on a line: `--NAME VALUE`, where nothing says more; `With` this other argument alone; with this
-// `Default` where it is left out; as a `Flag`, `--NAME`; as at most one `Word`, or any number of `Words`.
+// How an argument stands on a line: `--NAME VALUE`, where nothing says more; `With` this other argument alone; with
+// this `Default` where it is left out; as a `Flag`, `--NAME`; as at most one `Word`, or any number of `Words`.
 #[derive(Clone, Copy)]
 #[rattlefmt::skip]
 pub enum Kind { Optional, With(&'static str), Required, Default(&'static str), Flag, Word, Words }

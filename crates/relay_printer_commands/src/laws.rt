@@ -1,10 +1,16 @@
-//! Laws of the texts of tickets, and of audits. The functions do nothing: their contracts are the laws.
+//! Laws of the texts of tickets, of audits, and of limits. The functions do nothing: their contracts are the laws.
 
-ghost use Rattle.std.specs.Prelude.{◌≢◌, ◌≤◌, List, ℕ};
+ghost use Rattle.std.specs.Prelude.{◌≡◌, ◌≢◌, ◌≤◌, List, ℕ};
 ghost use Rattle.dm_gf256.specs.Field.{differ};
 ghost use Rattle.relay_printer_commands.specs.Printers.{AuditIsExact, check_text, HasTicket, IsCheckText, IsChecked, IsGroupedText};
 
+use crate::audit::TICKETS_BYTES;
 use dm_print_ledger::laws::numbers_and_givers;
+
+/// The limit by number: no definition moves with a constant.
+pub fn limits_by_number()
+    ensures { TICKETS_BYTES ≡ 1048577 }
+{}
 
 /// If one or two of the twelve bytes that a text in the check form spells are changed, the new text is no ticket's.
 pub fn changed_bytes_are_refused()
