@@ -99,9 +99,8 @@ pub data EndsDraw (form : Form) (plain : Bool) (old : StreamsView) (status : ℕ
 
 -- how many codewords were corrected, how many modules of the finder patterns are wrong, the bytes, and the line's end
 abbrev pub line_tail : ℕ → ℕ → List ℕ → List ℕ
-line_tail corrected wrong bytes =
-    codes " corrected " ++ (decimal corrected ++
-    (codes " wrong " ++ (decimal wrong ++ (32 ∷ (hexadecimal bytes ++ 10 ∷ [])))))
+line_tail corrected wrong bytes = codes " corrected " ++ (decimal corrected ++ (codes " wrong " ++ (decimal wrong
+    ++ (32 ∷ (hexadecimal bytes ++ 10 ∷ [])))))
 
 -- `label`, the two codewords of the ID in hexadecimal, m and n, and the end
 abbrev pub label_line : PageView → ℕ → ℕ → List ℕ
@@ -128,14 +127,15 @@ pub data HasLine (grid : GridView) : List ℕ → Type 0 where
       → HasLine grid (symbol_line (side grid.size) (differ (words_of_grid grid) words) (wrong_frame_modules grid) bytes)
 
 -- Why a grid has no line: its codewords can't be corrected; they have the head of a label and no page; they have no
--- head and no text; or memory was refused.
+-- head and no text; or memory was refused for the text or the line that it has.
 pub data RefusesGrid (grid : GridView) : ReadRefusal → Type 0 where
   symbol : (fault : SymbolFault) → CorrectsGrid grid (Err fault) → RefusesGrid grid (Label (symbol_fault fault))
   page : (words : List ℕ) (fault : LabelFault) → IsReadAs grid words → fault ≢ NotAppended
       → ReadsPage (data_of grid.size words) (Err fault) → RefusesGrid grid (Label fault)
   text : (words : List ℕ) (fault : DecodeFault) → HasNoHead grid words
-      → (fault ≢ text_faults.Memory → StuckOnly 1 (data_of grid.size words) fault) → RefusesGrid grid (Text fault)
-  memory : RefusesGrid grid Memory
+      → (fault ≢ text_faults.Memory → StuckOnly 1 (data_of grid.size words) fault) → (fault ≡ text_faults.Memory
+      → (bytes : List ℕ) × ReadsOnly 1 (data_of grid.size words) bytes) → RefusesGrid grid (Text fault)
+  memory : (line : List ℕ) → HasLine grid line → RefusesGrid grid Memory
 
 -- ---- one image
 

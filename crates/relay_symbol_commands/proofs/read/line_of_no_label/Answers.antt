@@ -1,4 +1,4 @@
-use Rattle.std.proofs.Common.{◌≡◌, rules, string_bytes}
+use Rattle.std.proofs.Common.{◌≡◌, Err, ap, rules, string_bytes}
 use Rattle.std.proofs.lemmas.Result.{err_from_is_err_and}
 use Rattle.dm_size.specs.Sizes.{side}
 use Rattle.relay_symbol_commands.specs.Symbols.{symbol_line, HasLine.symbol, RefusesGrid.memory, RefusesGrid.text}
@@ -8,17 +8,20 @@ pub returns-in-Err : goal.returns-in-Err
 returns-in-Err g c = λ grid is none.
     text c.args.symbol.now.words c.in-Err.fault none
     (λ other. rw (c.data.ensures.data, is.same_size) at (c.in-Err.ensures.stuck other))
+    (λ same. rw (c.data.ensures.data, is.same_size) at (c.in-Err.ensures.memory (ap Err same)))
 
 pub returns-in_err-write : goal.returns-in_err-write
 returns-in_err-write g c =
     let p = err_from_is_err_and c.from_residual.result c.from_residual.ensures.1 in
-    rw (p.1, p.2) (λ grid is none. memory)
+    rw (p.1, p.2) (λ grid is none. memory _ (symbol c.args.symbol.now.words c.in-Ok.bytes.items none
+    (rw (c.data.ensures.data, is.same_size) at c.in-Ok.ensures.read)))
 
 pub returns-in_err-push_line_end : goal.returns-in_err-push_line_end
 returns-in_err-push_line_end g c =
     let last = c.from_residual-in_err-push_line_end in
     let p = err_from_is_err_and last.result last.ensures.1 in
-    rw (p.1, p.2) (λ grid is none. memory)
+    rw (p.1, p.2) (λ grid is none. memory _ (symbol c.args.symbol.now.words c.in-Ok.bytes.items none
+    (rw (c.data.ensures.data, is.same_size) at c.in-Ok.ensures.read)))
 
 pub returns : goal.returns
 returns g c = λ grid is none.
