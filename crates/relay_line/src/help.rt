@@ -28,10 +28,10 @@ pub const PROGRAM: Page = Page {
 Without a command, relay does `words` with its defaults. `relay help COMMAND`
 and `relay COMMAND --help` say more of each.
 
-Exit status: 0 where all was done; 1 where something was refused, as a line
-`refused NAME` or `file NAME FAULT` says, or where the output failed; 2 where
-the command line was refused; 3 where the script `./relay` could not build the
-program. `relay explain NAME` says what a refusal means.",
+Exit status: 0 where all was done; 1 where something was refused or found, as
+`refused NAME`, `file NAME FAULT` or a line of `audit` says, or where the output
+failed; 2 where the command line was refused; 3 where the script `./relay` could
+not build the program. `relay explain NAME` says what a refusal means.",
 };
 
 static OF_SYMBOLS: [Page; 3] = [
@@ -140,9 +140,9 @@ Example:
         more: "\
 The IDs are saved as gone, and then `ticket HEX` is printed. Only the printer
 that it is for can take it, and only once. A ticket that is lost takes its IDs
-with it. With --count the last N IDs go that are free and follow one another; if
-there are none, `refused NotFree` is printed, and how many the longest range has
-goes to standard error. A refusal goes to standard output.
+with it. With --count the last N consecutive free IDs go; if there are none,
+`refused NotFree` is printed, and how many the longest range has goes to
+standard error. A refusal goes to standard output.
 
 Example:
   relay give --file north.ledger --number 1 --to 2 --first 5000 --last 5999",
@@ -258,8 +258,8 @@ Example:
         more: "\
 Writes the document, which stays at the desk, and nothing else. Where a page is
 missing nothing is written but `refused Incomplete`, on standard error. With
-`--to` the document is on the disk once the command has ended with 0, and FILE
-must not be there before.
+`--to` the document is on the disk once the command exits with 0; FILE must not
+exist before.
 
 Example:
   relay deliver --file desk --id 0101 > letter",
@@ -283,7 +283,7 @@ Example:
         more: "\
 The pages stay at the desk. `relay import` takes them in at another. A refusal
 goes to standard error. With `--to` the pages are on the disk once the command
-has ended with 0, and FILE must not be there before.
+exits with 0; FILE must not exist before.
 
 Example:
   relay export --file desk --id 0101 > 0101.pages",

@@ -85,7 +85,7 @@ WhatLinesDeliverWasPrinted A = (among : List ℕ → Bool) (lines : List (LineRa
     Each (TakesPrinted (λ path. IsTrue (among path))) [] (all_commands lines) →
     Each (DeliversPrinted (λ path. IsTrue (among path))) [] (all_commands lines)
 
--- Where a line exits with 0 its command has ended so, and all that this has written is out.
+-- Where a line that does its command here exits with 0, the command has ended so, and all of its output is out.
 abbrev pub AllIsOut : Type 0 → Type 0
 AllIsOut A = (command : Command) (images : List (Option (List ℕ))) (old new : SystemView) →
     (at : DoesAt A command images old 0 new) →

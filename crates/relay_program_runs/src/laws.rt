@@ -26,7 +26,7 @@ pub fn what_lines_deliver_was_printed<A: Allocator>()
     ensures { WhatLinesDeliverWasPrinted A }
 {}
 
-/// What the command of a line wrote is out where the line exits with 0.
+/// The output of a command is out where its line exits with 0.
 pub fn all_is_out<A: Allocator>()
     ensures { AllIsOut A }
 {}
