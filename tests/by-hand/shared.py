@@ -77,9 +77,12 @@ def check_done(what, answer, line=None):
         fail(f"{what}: {seen(answer)}, and not {line or 'done'}")
 
 
-def check_refused(what, answer, name):
+def check_refused(what, answer, name, why=""):
+    """What was refused has this name, and a note says why, if that is given."""
     if answer.returncode != 1 or refusal(answer) != name:
         fail(f"{what}: {seen(answer)}, and not refused {name}")
+    if why and not answer.stderr.decode().endswith(f": {why}\n"):
+        fail(f"{what}: {answer.stderr}, which doesn't end with {why}")
 
 
 def make_ledger(path, number, first, last):
