@@ -94,6 +94,16 @@ impl<D: Disk, A: Allocator> Store for Filed<D, AtFile, A> {
         Ok(Some(bytes))
     }
 
+    fn load_unsettled(&mut self, limit: usize) -> Result<Option<Vec<u8, D::Memory>>, StoreFault>
+        ensures loads { Loads (λ bytes. bytes.items)
+            (saved_under (D.state self.old.disk) self.old.path) limit result
+            (saved_under (D.state self.new.disk) self.new.path) }
+        ensures path { self.new.path ≡ self.old.path }
+        ensures kept { KeepsAll (D.state self.old.disk) (D.state self.new.disk) }
+    {
+        self.disk.read(self.path.as_str(), limit)
+    }
+
     fn replace(&mut self, bytes: &[u8]) -> Result<(), StoreFault>
         ensures replaces { Replaces (saved_under (D.state self.old.disk) self.old.path) bytes.now
             result (saved_under (D.state self.new.disk) self.new.path) }

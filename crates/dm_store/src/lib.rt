@@ -18,7 +18,8 @@
 //! has answered `Ok`; a save touches no file but its own and the draft beside it; and no stop takes back what a load
 //! gave of a file whose bytes are on the disk, as those of a save are. So a stop leaves what a store under an open plan
 //! may hold. [`FileSet`] is a set in a folder of a disk that has the calls of [`Folders`], and the same is proved of
-//! the file of each key; a remove leaves the old bytes or none, and none once it has answered `Ok`.
+//! the file of each key; a remove leaves the old bytes or none, and none once it has answered `Ok`. [`Unsettled`] is a
+//! store whose loads a stop may take back, for those who tell nothing of them before their next save.
 //!
 //! [`RealDisk`] is the system's own files: it claims nothing. That its few lines do what the contract says is trusted,
 //! and tested; so is the sync by which a folder that was made is kept, which no clause speaks of.
@@ -37,6 +38,7 @@ mod mem_store;
 mod real_disk;
 mod set;
 mod store;
+mod unsettled;
 
 pub use disk::{Disk, Folders};
 pub use filed::{AtFile, AtFolder, FileSet, FileStore, Filed};
@@ -48,3 +50,4 @@ pub use mem_store::{MemStore, NextSave};
 pub use real_disk::RealDisk;
 pub use set::StoreSet;
 pub use store::{Store, StoreFault};
+pub use unsettled::Unsettled;

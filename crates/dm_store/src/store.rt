@@ -39,6 +39,14 @@ pub trait Store: Drop {
     fn load(&mut self, limit: usize) -> Result<Option<Vec<u8, Self::Memory>>, StoreFault>
         ensures loads { Loads (λ bytes. bytes.items) (state self.old) limit result (state self.new) };
 
+    /// The same, but a stop of the machine may take back what it gives: for those who tell nothing of it before their
+    /// next save is done.
+    fn load_unsettled(&mut self, limit: usize) -> Result<Option<Vec<u8, Self::Memory>>, StoreFault>
+        ensures loads { Loads (λ bytes. bytes.items) (state self.old) limit result (state self.new) }
+    {
+        self.load(limit)
+    }
+
     /// Puts the bytes in place of the saved ones.
     fn replace(&mut self, bytes: &[u8]) -> Result<(), StoreFault>
         ensures replaces { Replaces (state self.old) bytes.now result (state self.new) }

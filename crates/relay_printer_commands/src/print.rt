@@ -13,7 +13,7 @@ use dm_encodation::Scheme;
 use dm_pbm_io::image_of;
 use dm_print_ledger::{Job, PrintFault, label_count};
 use dm_size::Size;
-use dm_store::Store;
+use dm_store::{Store, Unsettled};
 use relay_command::Labels;
 use relay_shared::{DOCUMENT_BYTES, Ended, Refusal, Streams, read_document, refuse};
 use relay_streams::Output;
@@ -127,12 +127,17 @@ pub fn print_command<A: Allocator + Copy, S: Store, R: Read, W: Write, E: Write>
         let status = refuse(&mut streams.errors, PrintFault::TooLong.name());
         return Ended { status, store };
     };
+    // Nothing is told of what was loaded before the next ledger is saved.
+    let store = Unsettled(store);
     let mut printer = match open_printer(alloc, store, &mut streams.errors, number) {
         Ok(printer) => printer,
-        Err(ended) => return ended,
+        Err(Ended { status, store }) => {
+            let Unsettled(store) = store;
+            return Ended { status, store };
+        }
     };
     let answer = printer.print(&document, size, scheme);
     let status = tell_print(alloc, streams, answer, printer.left());
-    let store = printer.close();
+    let Unsettled(store) = printer.close();
     Ended { status, store }
 }
