@@ -198,3 +198,29 @@ fn a_move_stopped_twice_keeps_both_documents(rt: HostRuntime) -> Result<(), Fail
     }
     Ok(())
 }
+
+// A scan that is stopped, and then another of the same label, which goes on. What the second has told as held stays
+// held whatever a stop leaves after it, though the first may have been stopped before its file was settled.
+fn keeps_what_it_told(alloc: Global, passes: u32, kept: Kept) -> Result<bool, Fail> {
+    let machine = Machine::new(alloc, MemDisk::new(alloc), passes, kept)?;
+    let disk = made(alloc, machine, Call::Scan(LABEL))?.disk;
+    let ended = made(alloc, Machine::whole(alloc, disk)?, Call::Scan(LABEL))?;
+    let left = LeftFiles::on(alloc, &ended.disk, &ended.old, &ended.files)?;
+    let mut keeps = ended.status == 0;
+    for number in 0..left.count() {
+        let look = (Call::Import(BOTH), [ADDED_SECOND].as_slice());
+        keeps &= saves_on(alloc, left.way(alloc, number)?, &[look])? & 1 == 1;
+    }
+    Ok(keeps)
+}
+
+#[test]
+fn a_page_told_as_held_stays_held(rt: HostRuntime) -> Result<(), Fail> {
+    for passes in 0..MOST_CALLS {
+        for kept in [Kept::Old, Kept::New] {
+            let keeps = keeps_what_it_told(rt.alloc(), passes, kept)?;
+            assert!(rt; keeps, "{passes} {kept:?}");
+        }
+    }
+    Ok(())
+}

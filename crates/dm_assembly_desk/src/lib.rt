@@ -1,6 +1,7 @@
 //! Desks, which gather the pages of documents from scanned labels, and save each document in a file of its own.
 //!
-//! [`Desk::open`] makes a desk over a set of stores, which holds the documents whose files the set has.
+//! [`Desk::open`] makes a desk over a set of stores, which holds the documents whose files the set has, and settles what
+//! it found; after [`Desk::open_unsettled`] that is left to [`Desk::settle`].
 //! [`Desk::accept`] opens a scanned label and saves its page, [`Desk::pages`] lends what is held of a document,
 //! [`Desk::held`] lists all documents, [`Desk::document`] joins the pages of one where each of them is held, and
 //! [`Desk::forget`] lets it go. [`Desk::export`] gives the pages held of a document as a file, and [`Desk::import`]

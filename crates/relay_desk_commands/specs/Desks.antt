@@ -216,6 +216,11 @@ IsIdOn grid id = (page : PageView) × (corrected wrong : ℕ) × OpensAs grid pa
 abbrev pub HasNoGrid : Picture → ShapeFault → Type 0
 HasNoGrid p fault = (fault ≡ Shape → ¬ HasShape p) × (fault ≡ Memory → HasShape p)
 
+-- the desk would have answered to the grid, and saved nothing, but what it holds could not be settled
+abbrev pub IsUnsettled : Type 0 → GridView → StoreFault → DeskView → Type 0
+IsUnsettled A grid why desk = (reply : Result Accepted ScanFault) × AcceptsGrid A grid desk reply desk
+    × Settles desk.saved (Err why) desk.saved
+
 -- What is said of a picture, and the desk and the standard error afterwards: its grid is handed to the desk, or it has
 -- none; a refusal is noted. `A` is what the desk allocates in.
 pub data ScansPicture (A : Type 0) (number : ℕ) (p : Picture) (before : AtDesk) : Said → AtDesk → Type 0 where
@@ -226,6 +231,10 @@ pub data ScansPicture (A : Type 0) (number : ℕ) (p : Picture) (before : AtDesk
       → AcceptsGrid A grid before.desk (Err fault) after.desk → IfSome id (IsIdOn grid)
       → NotesPicture (is_of_image fault) p number id (scan_fault_name fault) before.errors after.errors
       → ScansPicture A number p before (refusal_of (scan_fault_name fault)) after
+  unsettled : {errors : OutputView} (grid : GridView) (why : StoreFault) → HasShape p → IsGridInside p grid
+      → IsUnsettled A grid why before.desk
+      → NotesImage number None (move_fault_name (move_fault_of why)) [] before.errors errors
+      → ScansPicture A number p before (refusal_of (move_fault_name (move_fault_of why))) (record before { errors = errors })
   no_grid : {errors : OutputView} (fault : ShapeFault) → HasNoGrid p fault
       → NotesPicture (is_of_shape fault) p number None (shape_fault_name fault) before.errors errors
       → ScansPicture A number p before (refusal_of (shape_fault_name fault)) (record before { errors = errors })

@@ -6,7 +6,7 @@ ghost use Rattle.dm_assembly_desk.specs.Documents.{DeskIsInOrder};
 ghost use Rattle.relay_shared.specs.Command.{TellsRefusal};
 
 use dm_append_label::FileId;
-use dm_assembly_desk::{Desk, move_pages};
+use dm_assembly_desk::{Desk, MoveFault, move_pages};
 use dm_store::{Store, StoreSet};
 use relay_shared::{EndedDesk, refuse};
 use relay_streams::Output;
@@ -44,9 +44,37 @@ impl<S: Store, T: StoreSet, A: Allocator + Copy> OpenDesk<S, T, A> {
     }
 }
 
-/// Moves the documents of a joint file to the set, and opens the desk; or writes the line `refused NAME`, and says how
-/// the command ends.
+/// Moves the documents of a joint file to the set, opens the desk, and settles what was found; or writes the line
+/// `refused NAME`, and says how the command ends.
 pub(crate) fn open_desk<A: Allocator + Copy, S: Store, T: StoreSet, W: Write>(
+    alloc: A,
+    store: S,
+    set: T,
+    output: &mut Output<W>,
+    capacity: u16,
+) -> Result<OpenDesk<S, T, A>, EndedDesk<S, T>>
+    ensures { MatchResult result
+        (λ opened. OpensDesk (record { joint = S.state store; set = T.state set }) capacity (S.state opened.store)
+        opened.desk × (output.new ≡ output.old) × DeskIsInOrder opened.desk)
+        (λ ended. (name : List ℕ) × HasNoDesk (record { joint = S.state store; set = T.state set }) capacity name
+        (record { joint = S.state ended.store; set = T.state ended.set })
+        × TellsRefusal name output.old ended.status output.new) }
+{
+    let mut opened = match open_unsettled(alloc, store, set, output, capacity) {
+        Ok(opened) => opened,
+        Err(ended) => return Err(ended),
+    };
+    match opened.desk.settle() {
+        Ok(()) => Ok(opened),
+        Err(fault) => {
+            let status = refuse(output, MoveFault::from(fault).name());
+            Err(opened.end(status))
+        }
+    }
+}
+
+/// The same, but what was found is not settled.
+pub(crate) fn open_unsettled<A: Allocator + Copy, S: Store, T: StoreSet, W: Write>(
     alloc: A,
     store: S,
     set: T,
@@ -69,7 +97,7 @@ pub(crate) fn open_desk<A: Allocator + Copy, S: Store, T: StoreSet, W: Write>(
             return Err(EndedDesk { status, store, set });
         }
     }
-    match Desk::open(alloc, set, capacity) {
+    match Desk::open_unsettled(alloc, set, capacity) {
         Ok(desk) => Ok(OpenDesk { store, desk }),
         Err(refused) => {
             let status = refuse(output, refused.fault.name());

@@ -1,18 +1,20 @@
 //! `relay scan`: labels gathered at a desk.
 
-ghost use Rattle.std.specs.Prelude.{◌≡◌, map, false, true, IfSome, MatchResult};
+ghost use Rattle.std.specs.Prelude.{◌≡◌, map, false, true, IfSome, MatchResult, Result};
 ghost use Rattle.std.specs.Io.KnownBytes.{Appends};
-ghost use Rattle.dm_assembly_desk.specs.Documents.{KeepsPages, DeskIsInOrder};
+ghost use Rattle.dm_assembly_desk.specs.Desk.{AcceptsGrid, Scans};
+ghost use Rattle.dm_assembly_desk.specs.Documents.{DeskView, KeepsPages, DeskIsInOrder};
+ghost use Rattle.dm_append_label.specs.declared.{fault.LabelFault.LabelFault, opening.Opened.Opened};
 ghost use Rattle.relay_streams.specs.Streams.{AppendsPart, refused_line};
-ghost use Rattle.relay_desk_commands.specs.Desks.{desk_at, EndsScan, IsIdOn, scan_images};
+ghost use Rattle.relay_desk_commands.specs.Desks.{desk_at, EndsScan, IsIdOn, IsUnsettled, scan_images};
 
-use crate::desk_opening::{OpenDesk, open_desk};
+use crate::desk_opening::{OpenDesk, open_unsettled};
 use dm_append_label::LabelFault::{Block, Border};
 use dm_append_label::{FileId, open_label};
-use dm_assembly_desk::{Desk, ScanFault};
+use dm_assembly_desk::{Accepted, Desk, Kind, MoveFault, ScanFault};
 use dm_finder_frame::Grid;
 use dm_pbm_io::{Image, ShapeFault, grid_of};
-use dm_store::{Store, StoreSet};
+use dm_store::{Store, StoreFault, StoreSet};
 use relay_shared::{
     Answered, DONE, EndedDesk, ImageFile, OnImages, REFUSED, Streams, each_input, note_ending,
     put_accepted, put_image_note,
@@ -51,6 +53,39 @@ fn put_refused<W: Write>(
 #[derive(Drop)]
 struct Scanning<T: StoreSet, A: Allocator + Copy> {
     desk: Desk<T, A>,
+    // Whether what was held when the desk was opened is settled.
+    is_settled: bool,
+}
+
+impl<T: StoreSet, A: Allocator + Copy> Scanning<T, A> {
+    // Whether an answer rests on what was held before. Then nothing was saved.
+    fn rests_on_held(answer: &Result<Accepted, ScanFault>) -> bool
+        ensures { (opened : Result (Opened A) LabelFault) → (before after : DeskView)
+            → Scans opened before answer.now after → result ≡ true → after ≡ before }
+    {
+        match answer {
+            Ok(accepted) => matches!(accepted.kind, Kind::Again),
+            Err(fault) => matches!(fault, ScanFault::Conflict | ScanFault::Full),
+        }
+    }
+
+    // Hands a grid to the desk. An answer that rests on what was held before is given once that is settled: a page that
+    // is told as held is never taken back by a stop of the machine. What a save has kept is settled by it.
+    fn accept(&mut self, grid: &Grid<A>) -> Result<Result<Accepted, ScanFault>, StoreFault>
+        requires { self.old.desk.is_failed ≡ false }
+        ensures answers { MatchResult result (λ answer. AcceptsGrid A grid.now self.old.desk answer self.new.desk)
+            (λ why. IsUnsettled A grid.now why self.old.desk × (self.new.desk ≡ self.old.desk)) }
+        ensures kept { KeepsPages self.old.desk.held self.new.desk.held }
+        ensures order { DeskIsInOrder self.new.desk }
+    {
+        let answer = self.desk.accept(grid);
+        if self.is_settled | !Self::rests_on_held(&answer) {
+            return Ok(answer);
+        }
+        self.desk.settle()?;
+        self.is_settled = true;
+        Ok(answer)
+    }
 }
 
 impl<T: StoreSet, A: Allocator + Copy> OnImages<A> for Scanning<T, A> {
@@ -78,7 +113,15 @@ impl<T: StoreSet, A: Allocator + Copy> OnImages<A> for Scanning<T, A> {
                 return put_refused(output, name, false);
             }
         };
-        match self.desk.accept(&grid) {
+        let accepted = match self.accept(&grid) {
+            Ok(accepted) => accepted,
+            Err(fault) => {
+                let name = MoveFault::from(fault).name();
+                put_image_note(errors, number, None, name, "");
+                return put_refused(output, name, false);
+            }
+        };
+        match accepted {
             Ok(accepted) => {
                 let kind = accepted.kind.name();
                 put_accepted(output, accepted.id, accepted.m, accepted.n, kind)?;
@@ -114,7 +157,8 @@ impl<T: StoreSet, A: Allocator + Copy> OnImages<A> for Scanning<T, A> {
 
 /// Reads the images of all files, or of the input where there is none, one after another. It hands the grid of each to
 /// the desk, which holds and saves its page, and prints `IIII m/n new`, `again` or `complete` after the save, or
-/// `refused NAME`. The desk is opened before anything is read.
+/// `refused NAME`. The desk is opened before anything is read; what it holds then is settled before the first answer
+/// that rests on it.
 ///
 /// A refused image doesn't end the command; a save that failed does. Bytes that are no image and a plain image end
 /// their file, and the next file is read. At most 65,536 images of a file are read. Which image a refusal is of goes to
@@ -139,12 +183,15 @@ pub fn scan_command<
     ensures { EndsScan A capacity (map F.remaining images.now) (desk_at (S.state store) (T.state set) streams.old)
         result.status (desk_at (S.state result.store) (T.state result.set) streams.new) }
 {
-    let opened = match open_desk(alloc, store, set, &mut streams.output, capacity) {
+    let opened = match open_unsettled(alloc, store, set, &mut streams.output, capacity) {
         Ok(opened) => opened,
         Err(ended) => return ended,
     };
     let OpenDesk { store, desk } = opened;
-    let mut scanning = Scanning { desk };
+    let mut scanning = Scanning {
+        desk,
+        is_settled: false,
+    };
     let status = each_input(
         alloc,
         &mut scanning,

@@ -22,7 +22,7 @@ use Rattle.relay_shared.specs.Command.TellsFile.{not_opened, opened as was_opene
 use Rattle.relay_shared.specs.Command.TellsFiles.{last_file, next_file, no_file}
 use Rattle.relay_shared.specs.Command.TellsInputs.{of_files, of_input}
 use Rattle.relay_desk_commands.specs.Desks.{AtDesk, EndsScan, ScansPicture, scan_images}
-use Rattle.relay_desk_commands.specs.Desks.ScansPicture.{accepted, refused, no_grid}
+use Rattle.relay_desk_commands.specs.Desks.ScansPicture.{accepted, refused, unsettled, no_grid}
 use Rattle.relay_desk_commands.specs.Desks.EndsAtDesk.{no_desk, opened}
 use Rattle.relay_desk_runs.specs.Answered.{grids_at_end, grids_before, grids_of_bytes, grids_of_file, grids_of_files, grids_of_images, grids_of_inputs, grids_of_picture, grids_scanned, if_saved, EachScanKeeps, HasNoDocuments, HoldsPrinted, HasPrinted, IsNearPrinted, IsOfLabel}
 use Rattle.relay_desk_runs.proofs.Saving.{MayBeAdded, ShowsPrinted, adding}
@@ -95,6 +95,7 @@ module _ (A : Type 0) (labels : List Label) (printed : ArePrinted labels) where
       accepts grid before.desk desk (Ok reply) clean (λ may. near.0) does
   picture {before = before} {after = after} (refused grid fault id shape inside does is notes) clean near =
       accepts grid before.desk after.desk (Err fault) clean (if_in grid fault near) does
+  picture (unsettled grid why shape inside is notes) clean near = clean
   picture (no_grid fault has notes) clean near = clean
 
   come : {count : ℕ} {now after : AtDesk} {bytes : List ℕ} {rest : InputView} {said : Said} {last : Bool}

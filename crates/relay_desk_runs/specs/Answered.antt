@@ -20,7 +20,7 @@ use Rattle.relay_shared.specs.Command.TellsInputs.{of_files, of_input}
 use Rattle.relay_desk_commands.specs.Desks.{EndsCopy, GivesCopy, AtDesk, EndsExport, EndsImport, EndsScan, OnDesk, ScansPicture, scan_images, EndsDeliver, EndsForget, IsTextOfId}
 use Rattle.relay_desk_commands.specs.Desks.{EndsCopyOf.no_side, EndsCopyOf.of_side, EndsOnId.no_id, EndsOnId.of_id}
 use Rattle.relay_desk_commands.specs.declared.copy.CopyOptions.{CopyOptions}
-use Rattle.relay_desk_commands.specs.Desks.ScansPicture.{accepted, refused, no_grid}
+use Rattle.relay_desk_commands.specs.Desks.ScansPicture.{accepted, refused, unsettled, no_grid}
 use Rattle.relay_desk_commands.specs.Desks.{EndsAtDesk.no_desk, EndsAtDesk.opened, EndsImport.not_read, EndsImport.read}
 use Rattle.std.specs.{List.AllByRecursion, Result.result_ok, Io.KnownBytes.Appends}
 use Rattle.dm_symbol.specs.Correction.{IsNear}
@@ -42,6 +42,7 @@ abbrev pub grids_of_picture : {A : Type 0} {number : ℕ} {p : Picture} {before 
     ScansPicture A number p before said after → List GridView
 grids_of_picture (accepted grid reply shape inside accepts) = grid ∷ []
 grids_of_picture (refused grid fault id shape inside accepts is notes) = if_saved fault grid
+grids_of_picture (unsettled grid why shape inside is notes) = []
 grids_of_picture (no_grid fault has notes) = []
 
 abbrev pub grids_of_bytes : {A : Type 0} {count : ℕ} {now after : AtDesk} {bytes : List ℕ} {rest : InputView} {said : Said}

@@ -19,7 +19,7 @@ use Rattle.relay_shared.specs.Command.TellsImages.{ended, stopped}
 use Rattle.relay_printer_commands.proofs.Sizes.{same_size}
 use Rattle.relay_printer_commands.specs.Printers.{images_of}
 use Rattle.relay_desk_commands.specs.Desks.{AtDesk, EndsScan, OnDesk, ScansPicture, scan_images}
-use Rattle.relay_desk_commands.specs.Desks.ScansPicture.{accepted, refused, no_grid}
+use Rattle.relay_desk_commands.specs.Desks.ScansPicture.{accepted, refused, unsettled, no_grid}
 use Rattle.relay_desk_commands.specs.Desks.EndsAtDesk.{no_desk, opened}
 use Rattle.relay_desk_runs.specs.Answered.{grids_at_end, grids_before, grids_of_bytes, grids_of_images, grids_of_inputs, grids_of_picture, grids_scanned, if_saved}
 
@@ -157,6 +157,7 @@ module _ (A : Type 0) (Q : GridView → Type 0) where
       by_fault : (fault : ScanFault) → Q grid → AllByRecursion Q (if_saved fault grid)
       by_fault scan_fault.Save so = (so, tt)
       by_fault other so = tt
+  picture_so g p is same (unsettled grid why shape inside unsettled_is notes) = tt
   picture_so g p is same (no_grid fault has notes) = tt
 
   -- what comes of the images of these labels

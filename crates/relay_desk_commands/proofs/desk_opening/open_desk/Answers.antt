@@ -1,21 +1,26 @@
-use Rattle.std.proofs.Common.{refl, sym}
-use Rattle.relay_desk_commands.specs.Desks.HasNoDesk.{not_moved, not_opened}
+use Rattle.std.specs.Prelude.{◌≡◌, ℕ, Err}
+use Rattle.std.proofs.Common.{ap, inl, refl, ◌∙◌}
+use Rattle.dm_store.specs.Saved.{SavedSet, Settles}
+use Rattle.dm_store.specs.declared.store.StoreFault.{StoreFault, TheVariants.Device, TheVariants.Memory}
+use Rattle.dm_assembly_desk.specs.Documents.{IsCapacity}
+use Rattle.dm_assembly_desk.specs.Desk.{HasDeskFault, desk_fault_name, move_fault_name, move_fault_of}
+use Rattle.dm_assembly_desk.specs.declared.fault.DeskFault.{DeskFault}
+use Rattle.dm_assembly_desk.specs.declared.fault.DeskFault.TheVariants as faults
+use Rattle.relay_desk_commands.specs.Desks.HasNoDesk.{not_opened}
 use Rattle.relay_desk_commands.proofs.desk_opening.open_desk.Goals as goal
 
-pub returns-in-Err : goal.returns-in-Err
-returns-in-Err g c = (_, not_moved c.in-Err.fault c.in-Err.ensures c.name.ensures, c.refuse-status.ensures)
+desk_fault : (set : SavedSet) (capacity : ℕ) (why : StoreFault) → IsCapacity capacity → Settles set (Err why) set
+    → (fault : DeskFault) × HasDeskFault set capacity fault × (move_fault_name (move_fault_of why) ≡ desk_fault_name fault)
+desk_fault set capacity Device is settles = (faults.Device, (is, settles.device refl), refl)
+desk_fault set capacity Memory is settles = (faults.Memory, (is, inl (settles.memory refl)), refl)
 
-pub returns-in-Ok-open : goal.returns-in-Ok-open
-returns-in-Ok-open g c =
-    let opens = c.in-Ok-open.ensures.ok in
-    let moves = rw (sym opens.same) at c.in-Ok.ensures in
-    let is = rw (sym opens.same) at opens in
-    (record { moves = (_, moves); opens = is }, refl, c.in-Ok-open.ensures.order)
-
-pub returns-in-Err-open : goal.returns-in-Err-open
-returns-in-Err-open g c =
-    let same = sym c.in-Err-open.ensures.same in
-    let fault = rw same at c.in-Err-open.ensures.fault in
-    let moves = rw same at c.in-Ok.ensures in
-    let none = not_opened c.in-Err-open.refused.fault (c.in-Ok.field-0, moves) fault c.name-in-Err-open.ensures in
-    (_, none, c.refuse-status-in-Err-open.ensures)
+pub returns-in-Err-settle : goal.returns-in-Err-settle
+returns-in-Err-settle g c =
+    let opens = c.in-Ok.ensures.0 in
+    let settles = rw c.settle.ensures.same at c.in-Err-settle.ensures.settles in
+    let found = desk_fault _ c.args.capacity c.in-Err-settle.fault opens.opens.room settles in
+    rw (c.end.ensures.store, c.end.ensures.set, c.settle.ensures.same) (
+      _,
+      not_opened found.0 opens.moves found.1 (ap move_fault_name c.from.ensures ∙ found.2),
+      rw (← c.in-Ok.ensures.1, c.end.ensures.status, ← c.name.ensures) c.refuse-status.ensures,
+    )

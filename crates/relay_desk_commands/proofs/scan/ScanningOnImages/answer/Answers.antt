@@ -1,6 +1,6 @@
 use Rattle.std.proofs.Common.{◌≡◌, true, true≢false, Ok, Err, ap, refl, sym, ◌∙◌}
 use Rattle.std.proofs.lemmas.Result.{err_from_is_err_and}
-use Rattle.relay_desk_commands.specs.Desks.ScansPicture.{accepted, no_grid, refused}
+use Rattle.relay_desk_commands.specs.Desks.ScansPicture.{accepted, no_grid, refused, unsettled}
 use Rattle.dm_assembly_desk.specs.declared.fault.ScanFault.TheVariants.{Label}
 use Rattle.relay_desk_commands.specs.Desks.{is_of_image, is_of_shape}
 use Rattle.relay_desk_commands.proofs.ScanLaws.{after_scan, either, ends_note, no_save}
@@ -23,31 +23,41 @@ returns-in-Err-clause-answer g c =
       told = rw (c.requires.running, ← c.name-name.ensures) c.put_refused.ensures;
     }
 
-pub returns-in-Ok-accept-clause-answer : goal.returns-in-Ok-accept-clause-answer
-returns-in-Ok-accept-clause-answer g c =
-    let accepts = c.in-Ok-accept.ensures.scanned c.requires.running in
-    let reply = Ok c.in-Ok-accept.accepted in
-    let runs = after_scan accepts.opened _ reply c.accept.new.self c.requires.running accepts.scans in record {
+pub returns-in-Err-accept-clause-answer : goal.returns-in-Err-accept-clause-answer
+returns-in-Err-accept-clause-answer g c =
+    let why = c.in-Err-accept.ensures.answers in
+    rw why.1 record {
       said = _;
-      answers = accepted c.in-Ok.grid c.in-Ok-accept.accepted c.in-Ok.ensures.grid.0 c.in-Ok.ensures.grid.1 accepts;
-      told = (rw c.name-kind.ensures at c.in_ok-put_accepted-in-Ok-accept.ensures.written, refl, sym runs);
+      answers = unsettled c.in-Ok.grid c.in-Err-accept.fault c.in-Ok.ensures.grid.0 c.in-Ok.ensures.grid.1 why.0
+          (rw (c.name-name-in-Err-accept.ensures, c.from.ensures) at c.put_image_note-in-Err-accept.ensures);
+      told = rw (c.requires.running, ← c.from.ensures, ← c.name-name-in-Err-accept.ensures) c.put_refused-in-Err-accept.ensures;
     }
 
-pub returns-in_err-put_accepted-in-Ok-accept-clause-answer : goal.returns-in_err-put_accepted-in-Ok-accept-clause-answer
-returns-in_err-put_accepted-in-Ok-accept-clause-answer g c =
+pub returns-in-Ok-accepted-clause-answer : goal.returns-in-Ok-accepted-clause-answer
+returns-in-Ok-accepted-clause-answer g c =
+    let accepts = rw c.in-Ok-accepted.is at c.in-Ok-accept.ensures.answers in
+    let reply = Ok c.in-Ok-accepted.accepted in
+    let runs = after_scan accepts.opened _ reply c.accept.new.self.desk c.requires.running accepts.scans in record {
+      said = _;
+      answers = accepted c.in-Ok.grid c.in-Ok-accepted.accepted c.in-Ok.ensures.grid.0 c.in-Ok.ensures.grid.1 accepts;
+      told = (rw c.name-kind.ensures at c.in_ok-put_accepted-in-Ok-accepted.ensures.written, refl, sym runs);
+    }
+
+pub returns-in_err-put_accepted-in-Ok-accepted-clause-answer : goal.returns-in_err-put_accepted-in-Ok-accepted-clause-answer
+returns-in_err-put_accepted-in-Ok-accepted-clause-answer g c =
     let last = err_from_is_err_and c.from_residual.result c.from_residual.ensures.1 in
     rw last.1 record {
       said = _;
-      answers = accepted c.in-Ok.grid c.in-Ok-accept.accepted c.in-Ok.ensures.grid.0 c.in-Ok.ensures.grid.1
-          (c.in-Ok-accept.ensures.scanned c.requires.running);
-      told = (rw c.name-kind.ensures at c.put_accepted.ensures.part, c.in_err-put_accepted-in-Ok-accept.ensures.failed);
+      answers = accepted c.in-Ok.grid c.in-Ok-accepted.accepted c.in-Ok.ensures.grid.0 c.in-Ok.ensures.grid.1
+          (rw c.in-Ok-accepted.is at c.in-Ok-accept.ensures.answers);
+      told = (rw c.name-kind.ensures at c.put_accepted.ensures.part, c.in_err-put_accepted-in-Ok-accepted.ensures.failed);
     }
 
 pub returns-clause-answer : goal.returns-clause-answer
 returns-clause-answer g c =
-    let fault = c.in-Err-accept.fault in
-    let accepts = c.in-Err-accept.ensures.scanned c.requires.running in
-    let ends = after_scan accepts.opened _ (Err fault) c.accept.new.self c.requires.running accepts.scans in
+    let fault = c.in-Err-accepted.fault in
+    let accepts = rw c.in-Err-accepted.is at c.in-Ok-accept.ensures.answers in
+    let ends = after_scan accepts.opened _ (Err fault) c.accept.new.self.desk c.requires.running accepts.scans in
     let border : c.match-matches-2.matches ≡ true → is_of_image fault ≡ true = elim c.match-matches-2.branch [
       | in-Label-Border w ↦ λ e.
           (let is = w.in-Label-Border.is in ap is_of_image (is ∙ ap Label (rw is at w.in-Label-Border.field-0-is)))
@@ -61,16 +71,16 @@ returns-clause-answer g c =
       | in_default-matches-2-2 w ↦ λ e. absurd (true≢false (sym e ∙ w.matches-is))
     ] in
     let may = either c.match-matches-2.matches c.match-matches-3.matches border block in
-    let last : c.match-matches-4.matches ≡ c.accept.new.self.is_failed = elim c.match-matches-4.branch [
+    let last : c.match-matches-4.matches ≡ c.accept.new.self.desk.is_failed = elim c.match-matches-4.branch [
       | in-Save w ↦ w.matches-is ∙ sym (rw w.in-Save.is at ends)
       | in_default-matches-3 w ↦ w.matches-is ∙ sym (ends ∙ no_save fault w.in_default-matches-3.not-Save)
     ] in record {
       said = _;
       answers = refused c.in-Ok.grid fault c.id_of_label-id.result c.in-Ok.ensures.grid.0 c.in-Ok.ensures.grid.1 accepts
           c.id_of_label-id.ensures (
-            c.deref-in-Err-accept.result.now,
-            ends_note may c.deref-in-Err-accept.ensures c.note_ending-ending-in-Err-accept.ensures,
-            rw c.name-name-in-Err-accept.ensures at c.put_image_note-in-Err-accept.ensures,
+            c.deref-in-Err-accepted.result.now,
+            ends_note may c.deref-in-Err-accepted.ensures c.note_ending-ending-in-Err-accepted.ensures,
+            rw c.name-name-in-Err-accepted.ensures at c.put_image_note-in-Err-accepted.ensures,
           );
-      told = rw (c.name-name-in-Err-accept.ensures, last) at c.put_refused-in-Err-accept.ensures;
+      told = rw (c.name-name-in-Err-accepted.ensures, last) at c.put_refused-in-Err-accepted.ensures;
     }
