@@ -1,4 +1,4 @@
-// Printers over stores that stop, allocators that refuse, and spoiled ledgers and tickets.
+// Printers over allocators that refuse, and spoiled ledgers and tickets.
 
 mod calls;
 mod spoiled;

@@ -1,13 +1,12 @@
-// A desk whose set stops at each of the device calls, under both ends of a stopped save, and a desk to which each
-// growth of memory is refused in turn. A call that was refused for lack of memory is done when it is made again; after
-// a save that failed each such call is refused, and what is saved is what was answered, or one save more.
-use super::{FIRST, FULL, THIRD, WHOLE};
+// A desk to which each growth of memory is refused in turn. A call that was refused for lack of memory is done when it
+// is made again.
+use super::{FULL, THIRD, WHOLE};
 use dm_append_label::{FileId, Page, seal};
 use dm_assembly_desk::{Desk, Kind};
 use dm_encodation::Scheme;
 use dm_finder_frame::Grid;
 use dm_size::Size;
-use dm_store::{FuseSet, Kept, MemSet, StoreSet};
+use dm_store::{MemSet, StoreSet};
 use std::alloc::Global;
 use std::process::Abort;
 use test_helpers::Refusing;
@@ -38,23 +37,6 @@ const CALLS: [(Call, &str); 8] = [
     (Call::Import(FULL), "complete"),
     (Call::Forget, "done"),
     (Call::Import(THIRD), "new"),
-];
-
-// The files of the documents 0 and 9, where no bytes stand for a document that has none.
-type Files = [&'static [u8]; 2];
-
-// After how many device calls the set stops, and what is saved then. It is opened by three: the keys, a load of one
-// file, and the settle of what was found. Then the save that it stops at has kept the old files, or the new ones.
-const STOPS: [(u32, Files, Files); 9] = [
-    (0, [b"", THIRD], [b"", THIRD]),
-    (1, [b"", THIRD], [b"", THIRD]),
-    (2, [b"", THIRD], [b"", THIRD]),
-    (3, [b"", THIRD], [FIRST, THIRD]),
-    (4, [FIRST, THIRD], [WHOLE, THIRD]),
-    (5, [WHOLE, THIRD], [WHOLE, FULL]),
-    (6, [WHOLE, FULL], [WHOLE, b""]),
-    (7, [WHOLE, b""], [WHOLE, THIRD]),
-    (8, [WHOLE, THIRD], [WHOLE, THIRD]),
 ];
 
 // More growths than all calls together ask for.
@@ -143,43 +125,6 @@ fn filled<'a>(rt: &impl Abort, memory: &'a Memory) -> MemSet<&'a Memory> {
     set
 }
 
-// Whether a set has these files.
-fn has(set: &MemSet<&Memory>, [zero, nine]: Files) -> bool {
-    set.content(0).unwrap_or(b"") == zero && set.content(9).unwrap_or(b"") == nine
-}
-
-// The set of a desk after all calls, or after the first that was stopped.
-fn used<'a, S: StoreSet>(rt: &impl Abort, memory: &'a Memory, mut desk: Desk<S, &'a Memory>) -> S {
-    for (call, wanted) in CALLS {
-        let answer = made(&mut desk, memory, call);
-        if answer != wanted {
-            assert!(rt; answer == "Save" && made(&mut desk, memory, call) == "Failed");
-            break;
-        }
-    }
-    desk.close()
-}
-
-// Whether these files are saved in a set that stops after this number of device calls.
-fn are_saved(rt: &impl Abort, memory: &Memory, passes: u32, kept: Kept, files: Files) -> bool {
-    let set = FuseSet::new(filled(rt, memory), passes, kept);
-    let set = match Desk::open(memory, set, 4) {
-        Ok(desk) => used(rt, memory, desk),
-        Err(refused) => refused.store,
-    };
-    set.spent() == (passes < 8) && has(&set.into_inner(), files)
-}
-
-#[test]
-fn the_set_stops_at_each_call(rt: HostRuntime) {
-    let memory = Refusing::new(rt.alloc(), u64::MAX);
-    for (passes, old, new) in STOPS.iter() {
-        let is_old = are_saved(&rt, &memory, *passes, Kept::Old, *old);
-        let is_new = are_saved(&rt, &memory, *passes, Kept::New, *new);
-        assert!(rt; is_old && is_new, "{passes}");
-    }
-}
-
 type MemDesk<'a> = Desk<MemSet<&'a Memory>, &'a Memory>;
 
 // A desk over a set that holds the document 9, opened again where it was refused.
@@ -220,7 +165,8 @@ fn refused_calls(rt: &impl Abort, memory: &Memory) -> u8 {
             refused |= 1u8 << (place % 8);
         }
     }
-    assert!(rt; has(&desk.close(), [WHOLE, THIRD]));
+    let set = desk.close();
+    assert!(rt; set.content(0) == Some(WHOLE) && set.content(9) == Some(THIRD));
     refused
 }
 

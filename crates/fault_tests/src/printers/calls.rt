@@ -1,17 +1,14 @@
-// A printer whose store stops at each of the device calls, under both ends of a stopped save, and a printer to which
-// each growth of memory is refused in turn. A call that was refused for lack of memory is done when it is made again;
-// after a save that failed each call is refused, and what is saved is what was answered, or one save more.
+// A printer to which each growth of memory is refused in turn. A call that was refused for lack of memory is done when
+// it is made again.
 use dm_encodation::Scheme;
 use dm_print_ledger::{Printer, Range, Ticket};
 use dm_size::Size;
-use dm_store::{FuseStore, Kept, MemStore, Store};
+use dm_store::{MemStore, Store};
 use std::alloc::Global;
 use std::process::Abort;
 use test_helpers::Refusing;
 
 type Memory = Refusing<Global>;
-
-type FusedStore<'a> = FuseStore<MemStore<&'a Memory>>;
 
 // A call on the printer 0 of the numbers 0 to 9.
 #[derive(Clone, Copy)]
@@ -32,22 +29,11 @@ const GIVEN: [u8; 10] = [0, 0, 0, 0, 0, 3, 0, 5, 0, 6];
 
 const TAKEN: [u8; 10] = [0, 1, 0, 0, 0, 0, 0, 20, 0, 21];
 
-const CREATED: &[u8] = b"DMLG\x02\x00\x00\x00\x00\x01\x00\x00\x00\x09\x00\xff\xf5";
-
-const FIRST_PRINT: &[u8] = b"DMLG\x02\x00\x00\x00\x00\x01\x00\x01\x00\x09\x00\xff\xf6";
-
-const AFTER_GIVE: &[u8] =
-    b"DMLG\x02\x00\x00\x00\x01\x02\x00\x01\x00\x04\x00\x07\x00\x09\x00\xff\xf8";
-
-const AFTER_TAKE: &[u8] =
-    b"DMLG\x02\x00\x00\x00\x01\x03\x00\x01\x00\x04\x00\x07\x00\x09\x00\x14\x00\x15\
-    \x01\x00\x01\x00\x00\xff\xf6";
-
 const SECOND_PRINT: &[u8] =
     b"DMLG\x02\x00\x00\x00\x01\x03\x00\x02\x00\x04\x00\x07\x00\x09\x00\x14\x00\x15\
     \x01\x00\x01\x00\x00\xff\xf7";
 
-// More growths than all calls together ask for, and more device calls than they make.
+// More growths than all calls together ask for.
 const MANY: u32 = 1000;
 
 // What is answered to a call.
@@ -68,56 +54,6 @@ fn made<S: Store>(printer: &mut Printer<S, &Memory>, call: Call) -> &'static str
             Some(Err(fault)) => fault.name(),
             None => "no ticket",
         },
-    }
-}
-
-// After how many device calls the store of a printer stops, and what is saved then: where the save that it stops at has
-// kept the old ledger, and where it has kept the new one.
-const STOPS: [(u32, Option<&[u8]>, Option<&[u8]>); 7] = [
-    (0, None, None),
-    (1, None, Some(CREATED)),
-    (2, Some(CREATED), Some(FIRST_PRINT)),
-    (3, Some(FIRST_PRINT), Some(AFTER_GIVE)),
-    (4, Some(AFTER_GIVE), Some(AFTER_TAKE)),
-    (5, Some(AFTER_TAKE), Some(SECOND_PRINT)),
-    (6, Some(SECOND_PRINT), Some(SECOND_PRINT)),
-];
-
-// The store of a printer after all calls, or after the first that was stopped.
-fn used<'a>(rt: &impl Abort, mut printer: Printer<FusedStore<'a>, &'a Memory>) -> FusedStore<'a> {
-    for call in CALLS {
-        let answer = made(&mut printer, call);
-        if answer != "done" {
-            assert!(rt; answer == "Save" && made(&mut printer, call) == "Failed");
-            break;
-        }
-    }
-    printer.close()
-}
-
-// Whether this is saved in a store that stops after this number of device calls.
-fn is_saved(
-    rt: &impl Abort,
-    memory: &Memory,
-    passes: u32,
-    kept: Kept,
-    wanted: Option<&[u8]>,
-) -> bool {
-    let store = FuseStore::new(MemStore::new(memory), passes, kept);
-    let store = match Printer::create(memory, store, 0, RANGE) {
-        Ok(printer) => used(rt, printer),
-        Err(refused) => refused.store,
-    };
-    store.spent() == (passes < 6) && store.into_inner().content() == wanted
-}
-
-#[test]
-fn the_store_stops_at_each_call(rt: HostRuntime) {
-    let memory = Refusing::new(rt.alloc(), u64::MAX);
-    for (passes, old, new) in STOPS.iter() {
-        let is_old = is_saved(&rt, &memory, *passes, Kept::Old, *old);
-        let is_new = is_saved(&rt, &memory, *passes, Kept::New, *new);
-        assert!(rt; is_old && is_new, "{passes}");
     }
 }
 
