@@ -33,11 +33,8 @@ pub printed : {A : Type 0} (old : WorldView A) (labels : List (LeftLabel A)) (se
 printed {A} old labels seen printer document size scheme stop reply actor after is was ends =
     printer_steps old labels old.tickets seen (Print printer document size scheme stop) reply printer actor after
     (MayLackFirst (Calls print_faults stop (PrintComes (length old.labels) document size scheme))) is was
-    (λ shown number s. lets_as ShowsPrinter
-    (MayLackFirst (Calls print_faults stop (PrintComes (length old.labels) document size scheme)))
-    (λ goods. Left old.labels [] [] goods labels [] [])
-    (λ goods. Left old.labels old.tickets old.exports goods labels old.tickets old.exports) shown reply after
-    (left_labels_alone old.labels labels old.tickets old.exports) (ends shown s))
+    (λ shown number s. lets_as _ _ _ _ shown reply after (left_labels_alone old.labels labels old.tickets old.exports)
+    (ends shown s))
     (λ relay next s there goes. inl (
       there,
       subst (λ (n : ℕ). PrinterGoes relay printer
@@ -56,11 +53,8 @@ pub gave : {A : Type 0} (old : WorldView A) (tickets : List TicketView) (seen : 
 gave {A} old tickets seen printer receiver range stop reply actor after is was ends =
     printer_steps old old.labels tickets seen (Give printer receiver range stop) reply printer actor after
     (MayLackFirst (Calls give_faults stop (GiveComes (length old.tickets) receiver range))) is was
-    (λ shown number s. lets_as ShowsPrinter
-    (MayLackFirst (Calls give_faults stop (GiveComes (length old.tickets) receiver range)))
-    (λ goods. Left {A = A} [] old.tickets [] goods [] tickets [])
-    (λ goods. Left old.labels old.tickets old.exports goods old.labels tickets old.exports) shown reply after
-    (left_tickets_alone old.labels old.tickets tickets old.exports) (ends shown s))
+    (λ shown number s. lets_as _ _ _ _ shown reply after (left_tickets_alone old.labels old.tickets tickets old.exports)
+    (ends shown s))
     (λ relay next s there goes. inl (
       there,
       subst (λ (n : ℕ). PrinterGoes relay printer
@@ -78,10 +72,7 @@ pub took : {A : Type 0} (old seen : WorldView A) (printer number : ℕ) (ticket 
 took {A} old seen printer number ticket stop reply actor after is was it ends =
     printer_steps old old.labels old.tickets seen (Take printer number stop) reply printer actor after
     (Calls take_faults stop (TakeComes number ticket)) is was
-    (λ shown its s. lets_as ShowsPrinter (Calls take_faults stop (TakeComes number ticket))
-    (λ goods. Left {A = A} [] [] [] goods [] [] [])
-    (λ goods. Left old.labels old.tickets old.exports goods old.labels old.tickets old.exports) shown reply after
-    (left_none old.labels old.tickets old.exports) (ends shown s))
+    (λ shown its s. lets_as _ _ _ _ shown reply after (left_none old.labels old.tickets old.exports) (ends shown s))
     (λ relay next s there goes.
     let own = subst (λ (ts : List TicketView). slice_get ts number ≡ Some ticket) s.tickets it in
     inl ((there, slice_get_within relay.tickets number ticket own), (ticket, own, goes)))
@@ -94,10 +85,8 @@ pub restarted : {A : Type 0} (old seen : WorldView A) (printer : ℕ)
 restarted {A} old seen printer reply actor after is was ends =
     printer_steps old old.labels old.tickets seen (RestartPrinter printer) reply printer actor after
     (Restarts (PrinterRefused open_fault.Memory)) is was
-    (λ shown number s. lets_as ShowsPrinter (Restarts (PrinterRefused open_fault.Memory))
-    (λ goods. Left {A = A} [] [] [] goods [] [] [])
-    (λ goods. Left old.labels old.tickets old.exports goods old.labels old.tickets old.exports) shown reply after
-    (left_none old.labels old.tickets old.exports) (ends shown s number))
+    (λ shown number s. lets_as _ _ _ _ shown reply after (left_none old.labels old.tickets old.exports)
+    (ends shown s number))
     (λ relay next s there goes. inl (there, goes))
 
 -- ---- desks
@@ -108,10 +97,8 @@ none_leaves : {A : Type 0} (old : WorldView A) (room : ℕ) (Acts : Actor Docume
     EndsSo (ShowsDesk room) Acts (λ goods. Left {A = A} [] [] [] goods [] [] []) shown reply after →
     EndsSo (ShowsDesk room) Acts
     (λ goods. Left old.labels old.tickets old.exports goods old.labels old.tickets old.exports) shown reply after
-none_leaves {A} old room Acts shown reply after ends = lets_as (ShowsDesk room) Acts
-    (λ goods. Left {A = A} [] [] [] goods [] [] [])
-    (λ goods. Left old.labels old.tickets old.exports goods old.labels old.tickets old.exports) shown reply after
-    (left_none old.labels old.tickets old.exports) ends
+none_leaves {A} old room Acts shown reply after ends =
+    lets_as _ _ _ _ shown reply after (left_none old.labels old.tickets old.exports) ends
 
 abbrev pub desk_after : {A : Type 0} → WorldView A → ℕ → ℕ → DeskState A → WorldView A
 desk_after old desk capacity after = world_of old.printers
@@ -145,9 +132,7 @@ pub scanned : {A : Type 0} (old seen : WorldView A) (desk number : ℕ) (flips :
 scanned {A} old seen desk number flips stop left reply actor after is was it within ends =
     desk_steps old old.exports seen (Scan desk number flips stop) reply desk actor after
     (λ relay s room. MayLackFirst (Calls scan_faults stop (ScanComes room (flipped left.grid flips)))) is was
-    (λ relay s room same shown t. none_leaves old room
-    (MayLackFirst (Calls scan_faults stop (ScanComes room (flipped left.grid flips)))) shown reply after
-    (ends room shown t))
+    (λ relay s room same shown t. none_leaves old room _ shown reply after (ends room shown t))
     (λ relay next s there goes.
     let own = get_map_from (left_label {A = A}) relay.labels number left
     (subst (λ (ls : List (LeftLabel A)). slice_get ls number ≡ Some left) s.labels it) in
@@ -170,8 +155,7 @@ pub forgot : {A : Type 0} (old seen : WorldView A) (desk id : ℕ) (stop : Stop)
 forgot {A} old seen desk id stop reply actor after is was ends =
     desk_steps old old.exports seen (Forget desk id stop) reply desk actor after
     (λ relay s room. Calls forget_faults stop (ForgetComes id)) is was
-    (λ relay s room same shown t. none_leaves old room (Calls forget_faults stop (ForgetComes id)) shown reply after
-    (ends room shown t))
+    (λ relay s room same shown t. none_leaves old room _ shown reply after (ends room shown t))
     (λ relay next s there goes. inl (there, goes))
 
 pub asked : {A : Type 0} (old seen : WorldView A) (desk id : ℕ) (reply : Reply A) (actor : DeskActor A) →
@@ -185,8 +169,7 @@ asked {A} old seen desk id reply actor is was ends =
     (world_of old.printers desks old.labels old.tickets old.exports)) (same_set old.desks desk actor was)
     (desk_steps old old.exports seen (Ask desk id) reply desk actor actor.state
     (λ relay s room. Looks (AskTells id)) is was
-    (λ relay s room same shown t. none_leaves old room (Looks (AskTells id)) shown reply actor.state
-    (ends room shown t))
+    (λ relay s room same shown t. none_leaves old room _ shown reply actor.state (ends room shown t))
     (λ relay next s there goes. inl (there, goes))))
 
 pub desk_restarted : {A : Type 0} (old seen : WorldView A) (desk : ℕ) (reply : Reply A) (actor : DeskActor A)
@@ -197,7 +180,7 @@ pub desk_restarted : {A : Type 0} (old seen : WorldView A) (desk : ℕ) (reply :
 desk_restarted {A} old seen desk reply actor after is was ends =
     desk_steps old old.exports seen (RestartDesk desk) reply desk actor after
     (λ relay s room. Restarts (DeskRefused desk_fault.Memory)) is was
-    (λ relay s room same shown t. none_leaves old room (Restarts (DeskRefused desk_fault.Memory)) shown reply after
+    (λ relay s room same shown t. none_leaves old room _ shown reply after
     (subst (λ (n : ℕ). EndsEach (ShowsDesk n) (Restarts (DeskRefused desk_fault.Memory))
     (λ goods. Left {A = A} [] [] [] goods [] [] []) actor.state reply after) (sym same) ends shown t))
     (λ relay next s there goes. inl (there, goes))
@@ -212,9 +195,7 @@ exported {A} old exports seen desk id reply actor is was ends =
     (world_of old.printers desks old.labels old.tickets exports)) (same_set old.desks desk actor was)
     (desk_steps old exports seen (Export desk id) reply desk actor actor.state
     (λ relay s room. MayLackFirst (Looks (ExportTells (length old.exports) id))) is was
-    (λ relay s room same shown t. lets_as (ShowsDesk room) (MayLackFirst (Looks (ExportTells (length old.exports) id)))
-    (λ goods. Left [] [] old.exports goods [] [] exports)
-    (λ goods. Left old.labels old.tickets old.exports goods old.labels old.tickets exports) shown reply actor.state
+    (λ relay s room same shown t. lets_as _ _ _ _ shown reply actor.state
     (left_exports_alone old.labels old.tickets old.exports exports) (ends room shown t))
     (λ relay next s there goes. inl (
       there,
@@ -232,8 +213,7 @@ pub imported : {A : Type 0} (old seen : WorldView A) (desk number : ℕ) (stop :
 imported {A} old seen desk number stop left reply actor after is was it ends =
     desk_steps old old.exports seen (Import desk number stop) reply desk actor after
     (λ relay s room. Calls import_faults stop (ImportComes room (own relay s).0)) is was
-    (λ relay s room same shown t. none_leaves old room (Calls import_faults stop (ImportComes room (own relay s).0))
-    shown reply after
+    (λ relay s room same shown t. none_leaves old room _ shown reply after
     (ends (own relay s).0 (s.entries number (own relay s).0 (own relay s).1)
     (sym (ap (λ (l : LeftExport A). l.bytes) (own relay s).2)) room shown t))
     (λ relay next s there goes. inl (

@@ -1,14 +1,8 @@
+use Rattle.std.proofs.Common.{rules}
 use Rattle.dm_event_world.proofs.DeskCalls.{made_under}
 use Rattle.dm_event_world.proofs.desk_act.accept_under.Goals as goal
 
 pub returns : goal.returns
 returns g c =
-    made_under _ _ c.args.stop c.next_save.result c.args.desk.now c.set_next.new.self c.accept-answer.new.self
-    c.set_next-2.new.self c.accept-answer.result c.next_save.ensures c.set_next.ensures
-    (record {
-      failed = c.accept-answer.ensures.failed;
-      done = c.accept-answer.ensures.scanned;
-      before = c.accept-answer.ensures.before;
-      after = c.accept-answer.ensures.after;
-    })
-    c.set_next-2.ensures
+    made_under _ _ c.args.stop c.next_save.result c.args.desk.now c.set_next.new.self c.accept-answer.new.self _
+    c.accept-answer.result c.next_save.ensures c.set_next.ensures (search rules) c.set_next-2.ensures

@@ -1,26 +1,20 @@
 use Rattle.std.proofs.Common.{Ok, Err, Vec, ℕ, refl}
-use Rattle.std.specs.FinMap as finite
-use Rattle.dm_assembly_desk.specs.Desk.{ask_verdict}
-use Rattle.dm_event_history.specs.Steps.{Looks, AskTells}
 use Rattle.dm_event_world.proofs.DeskLooks.{asked, down_answers, given_so, refused_so}
 use Rattle.dm_event_world.proofs.desk_act.ask.Goals as goal
 
 pub returns-in_default : goal.returns-in_default
 returns-in_default g c = record {
-  ends = λ room. down_answers room (Looks (AskTells c.args.id)) (λ stored. refl) _ c.args.state.now c.in_default.field-0
-      c.in_default.is;
+  ends = λ room. down_answers room _ (λ stored. refl) _ c.args.state.now c.in_default.field-0 c.in_default.is;
 }
 
 pub returns-in-Ok : goal.returns-in-Ok
 returns-in-Ok g c = record {
   ends = λ room. asked room c.args.id c.args.state.now c.in-Running.desk (Ok c.in-Ok.bytes.items) c.in-Running.is
-      (given_so (λ v. v.items) (ask_verdict (finite.get c.in-Running.desk.held c.args.id)) c.in-Ok.bytes
-      c.in-Ok.ensures.asks);
+      (given_so (λ v. v.items) _ c.in-Ok.bytes c.in-Ok.ensures.asks);
 }
 
 pub returns-in-Err : goal.returns-in-Err
 returns-in-Err g c = record {
   ends = λ room. asked room c.args.id c.args.state.now c.in-Running.desk (Err c.in-Err.fault) c.in-Running.is
-      (refused_so (Vec ℕ g.row.A.Denot) (λ v. v.items) (ask_verdict (finite.get c.in-Running.desk.held c.args.id))
-      c.in-Err.fault c.in-Err.ensures.asks);
+      (refused_so (Vec ℕ g.row.A.Denot) (λ v. v.items) _ c.in-Err.fault c.in-Err.ensures.asks);
 }

@@ -1,33 +1,30 @@
 use Rattle.std.proofs.Common.{◌≡◌, ◌++◌, ◌∷◌, [], Ok, Option, Vec, ℕ, length, refl, sym, subst, ◌∙◌, arith}
 use Rattle.dm_assembly_desk.specs.{Desk.Exports, Documents.Pages}
-use Rattle.dm_event_history.specs.Steps.{Looks, MayLackFirst, ExportTells}
+use Rattle.dm_event_history.specs.Steps.{Looks, ExportTells}
 use Rattle.dm_event_world.proofs.DeskLooks.{down_answers, exported, lacks_its, no_bytes, not_held}
 use Rattle.dm_event_world.proofs.desk_act.export.Goals as goal
 
 pub returns-in_default : goal.returns-in_default
 returns-in_default g c = record {
-  ends = λ room. down_answers room (MayLackFirst (Looks (ExportTells (length c.args.exports.now.items) c.args.id)))
-      (λ stored. refl) c.args.exports.now.items c.args.state.now c.in_default.field-0 c.in_default.is;
+  ends = λ room. down_answers room _ (λ stored. refl) _ c.args.state.now c.in_default.field-0 c.in_default.is;
 }
 
 pub returns-then-is_err : goal.returns-then-is_err
 returns-then-is_err g c = record {
-  ends = λ room. rw c.reserve.ensures.items (lacks_its room (Looks (ExportTells (length c.args.exports.now.items) c.args.id))
-      c.args.exports.now.items c.args.state.now c.in-Running.desk c.in-Running.is);
+  ends = λ room. rw c.reserve.ensures.items
+      (lacks_its room (Looks (ExportTells (length c.args.exports.now.items) c.args.id)) _ _ _ c.in-Running.is);
 }
 
 pub returns-in_default-pages : goal.returns-in_default-pages
 returns-in_default-pages g c = record {
-  ends = λ room. rw c.reserve.ensures.items (not_held room (length c.args.exports.now.items) c.args.id
-      c.args.exports.now.items c.args.state.now c.in-Running.desk c.in-Running.is
-      (sym c.pages.ensures.held ∙ c.in_default-pages.is));
+  ends = λ room. rw c.reserve.ensures.items
+      (not_held room _ _ _ _ _ c.in-Running.is (sym c.pages.ensures.held ∙ c.in_default-pages.is));
 }
 
 pub returns-in-Err : goal.returns-in-Err
 returns-in-Err g c = record {
-  ends = λ room. rw c.reserve.ensures.items (no_bytes {X = Vec ℕ g.row.A.Denot} (λ v. v.items) room
-      (length c.args.exports.now.items) c.args.id c.args.exports.now.items c.args.state.now c.in-Running.desk
-      c.in-Some.pages c.in-Err.fault c.in-Running.is (sym c.pages.ensures.held ∙ c.in-Some.is) c.in-Err.ensures.exports);
+  ends = λ room. rw c.reserve.ensures.items (no_bytes {X = Vec ℕ g.row.A.Denot} (λ v. v.items) room _ _ _ _ _ _ _
+      c.in-Running.is (sym c.pages.ensures.held ∙ c.in-Some.is) c.in-Err.ensures.exports);
 }
 
 pub returns : goal.returns
@@ -42,9 +39,8 @@ returns g c =
       mask = c.mask-mask.result;
     } ∷ [] = rw c.reserve.ensures.items at c.push_reserved.ensures.items in
     record {
-      ends = λ room. exported room c.args.id c.args.exports.now.items c.push_reserved.new.self.items c.args.state.now
-          c.in-Running.desk c.in-Some.pages c.in-Ok.bytes.items c.len-index.result c.n-n.result c.mask-mask.result
-          c.in-Running.is c.pages.ensures.order at
+      ends = λ room. exported room _ _ _ _ _ c.in-Some.pages c.in-Ok.bytes.items _ _ _ c.in-Running.is
+          c.pages.ensures.order at
           (subst (λ (o : Option Pages). Exports {X = Vec ℕ g.row.A.Denot} (λ v. v.items) c.args.id o (Ok c.in-Ok.bytes)) at
           c.in-Ok.ensures.exports) index c.n-n.ensures c.mask-mask.ensures.mask all;
     }

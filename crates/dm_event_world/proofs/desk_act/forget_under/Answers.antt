@@ -1,14 +1,8 @@
+use Rattle.std.proofs.Common.{rules}
 use Rattle.dm_event_world.proofs.DeskCalls.{made_under}
 use Rattle.dm_event_world.proofs.desk_act.forget_under.Goals as goal
 
 pub returns : goal.returns
 returns g c =
-    made_under _ _ c.args.stop c.next_save.result c.args.desk.now c.set_next.new.self c.forget-answer.new.self
-    c.set_next-2.new.self c.forget-answer.result c.next_save.ensures c.set_next.ensures
-    (record {
-      failed = c.forget-answer.ensures.failed;
-      done = c.forget-answer.ensures.forgotten;
-      before = c.forget-answer.ensures.before;
-      after = c.forget-answer.ensures.after;
-    })
-    c.set_next-2.ensures
+    made_under _ _ c.args.stop c.next_save.result c.args.desk.now c.set_next.new.self c.forget-answer.new.self _
+    c.forget-answer.result c.next_save.ensures c.set_next.ensures (search rules) c.set_next-2.ensures

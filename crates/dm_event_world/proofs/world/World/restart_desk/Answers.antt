@@ -1,17 +1,12 @@
 use Rattle.std.proofs.Common.{arith}
-use Rattle.dm_event_world.proofs.Changing.{world_of, names_none_still, no_desk, read_at}
+use Rattle.dm_event_world.proofs.Changing.{names_none_still, no_desk, read_at}
 use Rattle.dm_event_world.proofs.EachEvent.{desk_restarted}
 use Rattle.dm_event_world.proofs.world.World.restart_desk.Goals as goal
 
 pub returns : goal.returns
-returns g c =
-    desk_restarted (world_of c.self.inside.printers.items c.self.inside.desks.items c.self.inside.labels.items
-    c.self.inside.tickets.items c.self.inside.exports.items) _ c.args.desk c.restart.result c.in-Some.actor.now _ c.self.view_is
+returns g c = desk_restarted _ _ _ _ _ _ c.self.view_is
     (read_at _ _ _ c.in-Some.ensures.item.3.0 c.in-Some.ensures.value) c.restart.ensures.ends
 
 pub returns-in_default : goal.returns-in_default
-returns-in_default g c =
-    names_none_still (world_of c.self.inside.printers.items c.self.inside.desks.items c.self.inside.labels.items
-    c.self.inside.tickets.items c.self.inside.exports.items) _ _ c.self.view_is
-    (λ relay s named. no_desk _ relay c.args.desk
+returns-in_default g c = names_none_still _ _ _ c.self.view_is (λ relay s named. no_desk _ relay c.args.desk
     (λ there. (let no = c.in_default.ensures.variant.1 (omega (arith, c.self.inside.desks.ok.0)) in cc)) s named)

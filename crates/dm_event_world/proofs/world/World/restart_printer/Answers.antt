@@ -1,5 +1,5 @@
 use Rattle.std.proofs.Common.{◌<◌, ◌≤◌, length, arith}
-use Rattle.dm_event_world.proofs.Changing.{world_of, names_none_still, no_printer, read_at}
+use Rattle.dm_event_world.proofs.Changing.{names_none_still, no_printer, read_at}
 use Rattle.dm_event_world.proofs.EachEvent.{restarted}
 use Rattle.dm_event_world.proofs.world.World.restart_printer.Goals as goal
 
@@ -10,14 +10,9 @@ overflow_cast-printer g c =
     omega arith
 
 pub returns : goal.returns
-returns g c =
-    restarted (world_of c.self.inside.printers.items c.self.inside.desks.items c.self.inside.labels.items
-    c.self.inside.tickets.items c.self.inside.exports.items) _ c.args.printer c.restart.result c.in-Some.actor.now c.restart.new.actor c.self.view_is
+returns g c = restarted _ _ _ _ _ _ c.self.view_is
     (read_at _ _ _ c.in-Some.ensures.item.3.0 c.in-Some.ensures.value) c.restart.ensures.ends
 
 pub returns-in_default : goal.returns-in_default
-returns-in_default g c =
-    names_none_still (world_of c.self.inside.printers.items c.self.inside.desks.items c.self.inside.labels.items
-    c.self.inside.tickets.items c.self.inside.exports.items) _ _ c.self.view_is
-    (λ relay s named. no_printer _ relay c.args.printer
+returns-in_default g c = names_none_still _ _ _ c.self.view_is (λ relay s named. no_printer _ relay c.args.printer
     (λ there. (let no = c.in_default.ensures.variant.1 (omega (arith, c.self.inside.printers.ok.0)) in cc)) s named)

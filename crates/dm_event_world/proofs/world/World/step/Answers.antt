@@ -19,61 +19,31 @@ step_stands {A} old new event reply steps ranges rooms h s =
     }
 
 pub returns-in-Print : goal.returns-in-Print
-returns-in-Print g c = record {
-  stands = step_stands c.args.self.now c.print.new.self c.args.event.now c.print.result
-      (rw (c.in-Print.is, ← c.as_slice.ensures) c.print.ensures);
-}
+returns-in-Print g c = record { stands = step_stands _ _ _ _ (rw (c.in-Print.is, ← c.as_slice.ensures) c.print.ensures) }
 
 pub returns-in-Scan : goal.returns-in-Scan
-returns-in-Scan g c = record {
-  stands = step_stands c.args.self.now c.scan.new.self c.args.event.now c.scan.result
-      (rw (c.in-Scan.is, ← c.as_slice-in-Scan.ensures) c.scan.ensures);
-}
+returns-in-Scan g c = record { stands = step_stands _ _ _ _ (rw (c.in-Scan.is, ← c.as_slice-in-Scan.ensures) c.scan.ensures) }
 
 pub returns-in-RestartPrinter : goal.returns-in-RestartPrinter
-returns-in-RestartPrinter g c = record {
-  stands = step_stands c.args.self.now c.restart_printer.new.self c.args.event.now c.restart_printer.result
-      (rw c.in-RestartPrinter.is c.restart_printer.ensures);
-}
+returns-in-RestartPrinter g c = record { stands = step_stands _ _ _ _ (rw c.in-RestartPrinter.is c.restart_printer.ensures) }
 
 pub returns-in-RestartDesk : goal.returns-in-RestartDesk
-returns-in-RestartDesk g c = record {
-  stands = step_stands c.args.self.now c.restart_desk.new.self c.args.event.now c.restart_desk.result
-      (rw c.in-RestartDesk.is c.restart_desk.ensures);
-}
+returns-in-RestartDesk g c = record { stands = step_stands _ _ _ _ (rw c.in-RestartDesk.is c.restart_desk.ensures) }
 
 pub returns-in-Ask : goal.returns-in-Ask
-returns-in-Ask g c = record {
-  stands = step_stands c.args.self.now c.ask.new.self c.args.event.now c.ask.result
-      (rw c.in-Ask.is c.ask.ensures);
-}
+returns-in-Ask g c = record { stands = step_stands _ _ _ _ (rw c.in-Ask.is c.ask.ensures) }
 
 pub returns-in-Forget : goal.returns-in-Forget
-returns-in-Forget g c = record {
-  stands = step_stands c.args.self.now c.forget.new.self c.args.event.now c.forget.result
-      (rw c.in-Forget.is c.forget.ensures);
-}
+returns-in-Forget g c = record { stands = step_stands _ _ _ _ (rw c.in-Forget.is c.forget.ensures) }
 
 pub returns-in-Give : goal.returns-in-Give
-returns-in-Give g c = record {
-  stands = step_stands c.args.self.now c.give.new.self c.args.event.now c.give.result
-      (rw c.in-Give.is c.give.ensures);
-}
+returns-in-Give g c = record { stands = step_stands _ _ _ _ (rw c.in-Give.is c.give.ensures) }
 
 pub returns-in-Take : goal.returns-in-Take
-returns-in-Take g c = record {
-  stands = step_stands c.args.self.now c.take.new.self c.args.event.now c.take.result
-      (rw c.in-Take.is c.take.ensures);
-}
+returns-in-Take g c = record { stands = step_stands _ _ _ _ (rw c.in-Take.is c.take.ensures) }
 
 pub returns-in-Export : goal.returns-in-Export
-returns-in-Export g c = record {
-  stands = step_stands c.args.self.now c.export.new.self c.args.event.now c.export.result
-      (rw c.in-Export.is c.export.ensures);
-}
+returns-in-Export g c = record { stands = step_stands _ _ _ _ (rw c.in-Export.is c.export.ensures) }
 
 pub returns-in-Import : goal.returns-in-Import
-returns-in-Import g c = record {
-  stands = step_stands c.args.self.now c.import.new.self c.args.event.now c.import.result
-      (rw c.in-Import.is c.import.ensures);
-}
+returns-in-Import g c = record { stands = step_stands _ _ _ _ (rw c.in-Import.is c.import.ensures) }
