@@ -2,7 +2,7 @@
 
 ghost use Rattle.std.specs.Prelude.{◌≡◌, ◌+◌, ◌<◌, ◌++◌, ◌∷◌, [], IfOk, IfSome};
 ghost use Rattle.dm_encodation.specs.inner.Reading;
-ghost use Rattle.dm_encodation.specs.inner.Reading.{seen, seen_value, seen_values, bytes_of, option_bytes, fault_of, IsMode};
+ghost use Rattle.dm_encodation.specs.inner.Reading.{seen, seen_value, bytes_of, option_bytes, fault_of, IsMode};
 
 use crate::characters::byte_in;
 use crate::fault::DecodeFault;
@@ -97,7 +97,7 @@ fn values_step(
     second: u8,
     third: u8,
 ) -> Result<(Pending, Decoded), ValueFault>
-    ensures { seen_values result ≡ Reading.values_step letters pending (first ∷ second ∷ third ∷ []) }
+    ensures { seen result ≡ Reading.values_step letters pending (first ∷ second ∷ third ∷ []) }
 {
     let (pending, first) = value_step(letters, pending, first)?;
     let (pending, second) = value_step(letters, pending, second)?;

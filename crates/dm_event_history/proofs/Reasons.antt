@@ -14,8 +14,8 @@ use Rattle.dm_event_history.specs.declared.event.Event.{Event, TheVariants.Print
 use Rattle.dm_event_history.specs.declared.{reply.Reply.Reply, reply.Reply.TheVariants.PrintRefused, stop.Stop.Stop}
 use Rattle.dm_event_history.specs.{declared.stop.Stop.TheVariants.SaveFault, Headline.IsFairEvent}
 use Rattle.dm_event_history.specs.Relay.{Actor, Running, Goods, Label, Relay}
-use Rattle.dm_event_history.specs.Steps.{Answers, Calls, Course, Ending, Faults, Looks, MayLackFirst, Reaches, Restarts, ends, HasParts, print_faults, MayBe, ScanComes, scan_course, scan_faults, Acts, DeskGoes, PrinterGoes, Step}
-use Rattle.dm_event_history.specs.Told.{EachStepIsRefusedSo, IsFramedSo, IsToFail, failed_after}
+use Rattle.dm_event_history.specs.Steps.{Answers, Calls, Course, Ending, Faults, Looks, MayLackFirst, Reaches, Restarts, ends, HasParts, print_faults, MayBe, ScanComes, scan_course, scan_faults, Acts, DeskGoes, PrinterGoes, Step, stop_of}
+use Rattle.dm_event_history.specs.Told.{EachStepIsRefusedSo, IsFramedSo, failed_after}
 use Rattle.dm_event_history.proofs.ByKind.{ArePlain, IsPlainAnswer, IsPlainCourse, by_kind}
 
 -- ---- saves that fail
@@ -63,7 +63,7 @@ desk_fails : {A : Type 0} (Why : Type 0) (old new : Relay) (number : ℕ)
 desk_fails {A} Why old new number Acts reply each g save = grind arith
 
 acts_fail : {A : Type 0} (old new : Relay) (event : Event A) (reply : Reply A) → Acts old event reply new →
-    failed_after reply false ≡ true → IsToFail event
+    failed_after reply false ≡ true → (kept : Kept) × (stop_of event ≡ Some (SaveFault kept))
 acts_fail old new event reply acts save =
     by_kind old new event reply (λ C stop Does. FailsOnly ((kept : Kept) × (stop ≡ Some (SaveFault kept))) Does) _
     (λ C. calls_fail) (λ C stop. may_lack_fails _) (λ C. looks_fail _) (λ some C refused is. restarts_fail _ refused is.unfailed)
@@ -125,7 +125,7 @@ each_step_is_refused_so A old new event reply printed step = record {
       no_parts size scheme document r.held r.parts r.cut r.verdict;
 }
   where
-    by_save : Step old event reply new → failed_after reply false ≡ true → IsToFail event
+    by_save : Step old event reply new → failed_after reply false ≡ true → (kept : Kept) × (stop_of event ≡ Some (SaveFault kept))
     by_save (inl acts) save = acts_fail old new event reply acts.1 save
     by_save (inr none) save = never _ (ap (λ (r : Reply A). failed_after r false) none.1) save
 

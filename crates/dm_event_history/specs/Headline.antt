@@ -88,6 +88,12 @@ abbrev pub AreOfOneDocument : List Label → Type 0
 AreOfOneDocument labels = (i j : ℕ) (one other : Label) → slice_get labels i ≡ Some one →
     slice_get labels j ≡ Some other → one.page.id ≡ other.page.id → one.cut ≡ other.cut
 
+-- the bytes are what each label of this ID is cut from, and there is one
+abbrev pub IsTheDocument : List Label → ℕ → List ℕ → Type 0
+IsTheDocument labels id bytes =
+    ((number : ℕ) (label : Label) → slice_get labels number ≡ Some label → label.page.id ≡ id → label.cut.bytes ≡ bytes)
+    × (number : ℕ) × (label : Label) × (slice_get labels number ≡ Some label) × (label.page.id ≡ id)
+
 -- ---- laws
 
 -- each label that leaves is as it was printed
@@ -100,13 +106,11 @@ abbrev pub EachStepKeepsClean : Type 0 → Type 0
 EachStepKeepsClean A = (old new : Relay) (event : Event A) (reply : Reply A) (desk : ℕ) → ArePrinted old.labels →
     IsClean old desk → IsHarmless old event desk → Step old event reply new → IsClean new desk
 
--- What a clean desk gives for an ID is the document that all labels which left under it are cut from.
+-- what a clean desk gives for an ID is the document that all labels which left under it are cut from
 abbrev pub EachCleanDeskGives : Type 0 → Type 0
 EachCleanDeskGives A = (old new : Relay) (desk id : ℕ) (bytes : List ℕ) → ArePrinted old.labels →
     AreOfOneDocument old.labels → IsClean old desk → Step {A = A} old (Ask desk id) (Document bytes) new →
-    ((number : ℕ) (label : Label) → slice_get old.labels number ≡ Some label → label.page.id ≡ id →
-    label.cut.bytes ≡ bytes)
-    × (number : ℕ) × (label : Label) × (slice_get old.labels number ≡ Some label) × (label.page.id ≡ id)
+    IsTheDocument old.labels id bytes
 
 -- ---- Where numbers are: free at a printer, on a ticket that was not taken, used, or lost.
 
@@ -178,24 +182,17 @@ abbrev pub EachStepKeepsNumbers : Type 0 → Type 0
 EachStepKeepsNumbers A = (old new : Relay) (event : Event A) (reply : Reply A) → RelayIsInOrder old →
     Step old event reply new → RelayIsInOrder new × ((number : ℕ) → places new number ≡ places old number)
 
--- each label that left has a number that was used
-abbrev pub AreUsed : Relay → Type 0
-AreUsed relay = (i : ℕ) (label : Label) → slice_get relay.labels i ≡ Some label → 1 ≤ gone relay.moves label.page.id
-
 -- no two labels that left have one ID and one number
 abbrev pub AreOnce : List Label → Type 0
 AreOnce labels = (i j : ℕ) (one other : Label) → slice_get labels i ≡ Some one → slice_get labels j ≡ Some other →
     one.page.id ≡ other.page.id → one.page.m ≡ other.page.m → i ≡ j
 
--- each number is in one place at most
-abbrev pub HasEachNumberOnce : Relay → Type 0
-HasEachNumberOnce relay = (number : ℕ) → places relay number ≤ 1
-
--- what holds of each relay that a run from disjoint ranges reaches
+-- What holds of each relay that a run from disjoint ranges reaches: each number is in one place at most, and that of
+-- each label that left was used.
 pub record RelayIsSound (relay : Relay) : Type 0 where
   pub order : RelayIsInOrder relay
-  pub apart : HasEachNumberOnce relay
-  pub used : AreUsed relay
+  pub apart : (number : ℕ) → places relay number ≤ 1
+  pub used : (i : ℕ) (label : Label) → slice_get relay.labels i ≡ Some label → 1 ≤ gone relay.moves label.page.id
   pub one_document : AreOfOneDocument relay.labels
   pub once : AreOnce relay.labels
 
@@ -222,12 +219,6 @@ pub record AreAllClean (relay : Relay) : Type 0 where
   pub desks : (desk : ℕ) → IsClean relay desk
   pub exports : (number : ℕ) (export : Export) → slice_get relay.exports number ≡ Some export →
       IsCleanExport relay.labels export
-
--- the bytes are what each label of this ID is cut from, and there is one
-abbrev pub IsTheDocument : List Label → ℕ → List ℕ → Type 0
-IsTheDocument labels id bytes =
-    ((number : ℕ) (label : Label) → slice_get labels number ≡ Some label → label.page.id ≡ id → label.cut.bytes ≡ bytes)
-    × (number : ℕ) × (label : Label) × (slice_get labels number ≡ Some label) × (label.page.id ≡ id)
 
 -- No ID is ever printed twice: a number is used once at most, no label leaves twice, and labels of one
 -- ID are cut from one document.

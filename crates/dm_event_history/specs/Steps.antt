@@ -296,9 +296,7 @@ ExportsHeld before id (Some pages) reply goods =
 abbrev pub ExportTells : {A : Type 0} → ℕ → ℕ → Documents → Reply A → Goods → Type 0
 ExportTells before id held reply goods = ExportsHeld before id (finite.get held id) reply goods
 
--- ---- steps
-
--- Who acts by an event, which events may have saved, what one event does to a relay, and runs of events.
+-- ---- Who acts by an event, which events may have saved, what one event does to a relay, and runs of events.
 
 -- a printer or a desk, by its number
 pub data Named : Type 0 where

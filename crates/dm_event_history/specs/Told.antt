@@ -154,17 +154,13 @@ IsFramedSo grid (ScanRefused (scan_fault.Label fault)) = ⊥
 IsFramedSo grid (ScanRefused fault) = HasGoodFrame grid
 IsFramedSo grid reply = Unit {0}
 
--- the stop of the event is a fault of its save
-abbrev pub IsToFail : {A : Type 0} → Event A → Type 0
-IsToFail event = (kept : Kept) × (stop_of event ≡ Some (stops.SaveFault kept))
-
 -- A fair scan is refused as its label for its finder patterns alone; `Save` is answered only where the save was to
 -- fail, and `TooLong` only where the document has no parts.
 pub record IsRefusedSo {A : Type 0} (old : Relay) (event : Event A) (reply : Reply A) : Type 0 where
   pub framed : (desk number : ℕ) (flips : List (ℕ × ℕ)) (stop : Stop) (label : Label) →
       event ≡ Scan desk number flips stop → slice_get old.labels number ≡ Some label → IsFairEvent old event →
       IsFramedSo (flipped label.grid flips) reply
-  pub save : failed_after reply false ≡ true → IsToFail event
+  pub save : failed_after reply false ≡ true → (kept : Kept) × (stop_of event ≡ Some (stops.SaveFault kept))
   pub too_long : (printer : ℕ) (document : List ℕ) (size : Size) (scheme : Scheme) (stop : Stop) →
       event ≡ Print printer document size scheme stop → reply ≡ PrintRefused print_fault.TooLong →
       HasNoEnds size scheme document
@@ -236,14 +232,6 @@ EachExhaustedIsSo A = (ranges : List Range) (rooms : List ℕ) (moment : Moment 
 abbrev pub stored_at : Relay → ℕ → Option LedgerView
 stored_at relay printer = option_map (λ (actor : Actor LedgerView). stored_of actor) (slice_get relay.printers printer)
 
--- the serial of its next ticket, and of the last that it took from a giver, by what it stores
-abbrev pub next_serial : Relay → ℕ → ℕ
-next_serial relay printer = option_map_or (λ (ledger : LedgerView). ledger.next_serial) (stored_at relay printer) 0
-
-abbrev pub last_from : Relay → ℕ → ℕ → Option ℕ
-last_from relay printer giver =
-    option_map_or (λ (ledger : LedgerView). last_taken ledger.givers giver) (stored_at relay printer) None
-
 -- one for a give, and the serial of the ticket that an event takes, if this is its giver
 abbrev pub gives : {A : Type 0} → Relay → Event A → ℕ
 gives before (Give printer receiver range stop) = 1
@@ -265,8 +253,10 @@ newest_saved (moment ∷ earlier) end printer giver =
 -- A printer's next serial is the number of its gives that saved, and its givers are those of its takes that saved, each
 -- with the serial of the newest.
 pub record CountsTickets {A : Type 0} (h : List (Moment A)) (relay : Relay) (printer : ℕ) : Type 0 where
-  pub gave : next_serial relay printer ≡ sum_saved gives h relay printer
-  pub took : (giver : ℕ) → last_from relay printer giver ≡ newest_saved h relay printer giver
+  pub gave : option_map_or (λ (ledger : LedgerView). ledger.next_serial) (stored_at relay printer) 0
+      ≡ sum_saved gives h relay printer
+  pub took : (giver : ℕ) → option_map_or (λ (ledger : LedgerView). last_taken ledger.givers giver)
+      (stored_at relay printer) None ≡ newest_saved h relay printer giver
 
 abbrev pub EachRunCountsTickets : Type 0 → Type 0
 EachRunCountsTickets A = (ranges : List Range) (rooms : List ℕ) (h : List (Moment A)) (end : Relay) (printer : ℕ) →
@@ -303,9 +293,7 @@ NothingIsOpenButMemory A = (old one other : Relay) (event : Event A) (reply answ
     Step old event reply one → Step old event answer other →
     (((reply ≡ answer) × (one ≡ other)) ⊎ (IsOfMemory reply ⊎ IsOfMemory answer)) × (reply ≡ answer → one ≡ other)
 
--- ---- replies of desks that agree with what was printed
-
--- Replies of desks that agree with what was printed, and with what was scanned, imported and forgotten there.
+-- ---- Replies of desks that agree with what was printed, and with what was scanned, imported and forgotten there.
 
 -- the label of this number is that of page m of a document
 abbrev pub IsLabelOfPage : List Label → ℕ → ℕ → ℕ → Type 0

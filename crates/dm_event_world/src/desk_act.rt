@@ -3,7 +3,7 @@
 //! A call that is stopped before its save is not made. Any other is made, the next save's plan being that of the stop;
 //! and if it is to end before its reply the desk is down then, over its set, unless the call's own memory was refused.
 
-ghost use Rattle.std.specs.Prelude.{◌≡◌, ℕ, [], All, length};
+ghost use Rattle.std.specs.Prelude.{◌≡◌, ℕ, [], All, length, Err};
 ghost use Rattle.dm_finder_frame.specs.Frame.{IsInGrid, flipped};
 ghost use Rattle.dm_assembly_desk.specs.Documents.{IsEntry, file};
 ghost use Rattle.dm_event_history.specs.declared.reply.Reply.TheVariants.{DeskRefused as desk_refused};
@@ -11,7 +11,11 @@ ghost use Rattle.dm_event_history.specs.Steps.{Calls, Looks, MayLackFirst, Resta
 ghost use Rattle.dm_event_history.specs.Relay.{Export};
 ghost use Rattle.dm_event_world.specs.Shows.{ShowsDesk};
 ghost use Rattle.dm_event_world.specs.inner.Calls.{IsMadeUnder, EndsEach, Left, state_after, ended_reply};
-ghost use Rattle.dm_event_world.specs.inner.Desks.{AcceptsOne, ForgetsOne, ImportsIn, down_desk, desk_planned, desk_saved};
+ghost use Rattle.dm_event_world.specs.inner.Desks.{Calling, down_desk, desk_planned, desk_saved};
+ghost use Rattle.dm_assembly_desk.specs.Desk.{AcceptsGrid, Forgets, ImportsBytes};
+ghost use Rattle.dm_assembly_desk.specs.declared.fault.ScanFault.TheVariants.{Failed as scan_failed};
+ghost use Rattle.dm_assembly_desk.specs.declared.fault.ForgetFault.TheVariants.{Failed as forget_failed};
+ghost use Rattle.dm_assembly_desk.specs.declared.fault.ImportFault.TheVariants.{Failed as import_failed};
 
 use crate::actor::{DeskState, LeftExport};
 use crate::call::{is_stopped_before, is_stopping, lacks_memory, next_save};
@@ -96,7 +100,8 @@ fn accept_under<A: Allocator + Copy>(
     grid: &Grid<A>,
     stop: Stop,
 ) -> Result<Accepted, ScanFault>
-    ensures { IsMadeUnder desk_planned stop (AcceptsOne A grid.now) desk.old result desk.new }
+    ensures { IsMadeUnder desk_planned stop (Calling (Err scan_failed) (AcceptsGrid A grid.now))
+        desk.old result desk.new }
 {
     desk.set_next(next_save(stop));
     let answer = desk.accept(grid);
@@ -150,7 +155,7 @@ fn forget_under<A: Allocator + Copy>(
     id: FileId,
     stop: Stop,
 ) -> Result<(), ForgetFault>
-    ensures { IsMadeUnder desk_planned stop (ForgetsOne id) desk.old result desk.new }
+    ensures { IsMadeUnder desk_planned stop (Calling (Err forget_failed) (Forgets id)) desk.old result desk.new }
 {
     desk.set_next(next_save(stop));
     let answer = desk.forget(id);
@@ -197,7 +202,8 @@ fn import_under<A: Allocator + Copy>(
     bytes: &[u8],
     stop: Stop,
 ) -> Result<Imported, ImportFault>
-    ensures { IsMadeUnder desk_planned stop (ImportsIn bytes.now) desk.old result desk.new }
+    ensures { IsMadeUnder desk_planned stop (Calling (Err import_failed) (ImportsBytes bytes.now))
+        desk.old result desk.new }
 {
     desk.set_next(next_save(stop));
     let answer = desk.import(bytes);

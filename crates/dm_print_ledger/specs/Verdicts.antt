@@ -45,9 +45,7 @@ pub record Creates (old : Saved) (number : ℕ) (range : Range) (answer : Result
       ((answer ≡ Err creating.Range) × (new ≡ old))
   pub runs : IfOk answer (λ printer. printer ≡ running new (opening number range))
 
--- ---- verdicts
-
--- What a print, a give and a take come to: lists of ranges, verdicts, and how a printer carries them out.
+-- ---- What a print, a give and a take come to: lists of ranges, verdicts, and how a printer carries them out.
 
 -- one range has all numbers of the other
 abbrev pub covers : Range → Range → Bool

@@ -60,9 +60,7 @@ ticket_taken (take_opened ticket before after answer has is opens takes same tol
 ticket_taken (no_ticket has same told) = None
 ticket_taken (take_not_opened fault has opens same told) = None
 
--- ---- runs
-
--- A command of a printer does to its store, and lets out, what a run of the machine does.
+-- ---- A command of a printer does to its store, and lets out, what a run of the machine does.
 
 -- the store is honest, and holds the file of the sound ledger that the printer stores
 pub record KeepsLedger (saved : Saved) (actor : Actor LedgerView) : Type 0 where

@@ -154,9 +154,7 @@ unfoldable pub reading : Mode → ℕ → List ℕ → Result (List ℕ) DecodeF
 reading m p [] = finish m p
 reading m p (w ∷ ws) = step m p w >>= λ n. prepend n.1 (reading n.0 (p + 1) ws)
 
--- ---- results with their bytes as lists
-
--- The results of the reader's functions with their bytes as lists, as they stand above.
+-- ---- The results of the reader's functions with their bytes as lists, as they stand above.
 
 -- the bytes that one codeword gives
 abbrev pub bytes_of : Decoded → List ℕ
@@ -170,8 +168,8 @@ abbrev pub option_bytes : Option ℕ → List ℕ
 option_bytes None = []
 option_bytes (Some b) = b ∷ []
 
--- the result of a step, of the end of the codewords, of a value, of three values, and of an end without bytes
-abbrev pub seen : Result (Mode × Decoded) DecodeFault → Stepped
+-- the result of a step or of three values, of the end of the codewords, of a value, and of an end without bytes
+abbrev pub seen : {X E : Type 0} → Result (X × Decoded) E → Result (X × List ℕ) E
 seen (Ok x) = Ok (x.0, bytes_of x.1)
 seen (Err f) = Err f
 
@@ -182,10 +180,6 @@ seen_end (Err f) = Err f
 abbrev pub seen_value : Result (Pending × Option ℕ) ValueFault → Valued
 seen_value (Ok x) = Ok (x.0, option_bytes x.1)
 seen_value (Err f) = Err f
-
-abbrev pub seen_values : Result (Pending × Decoded) ValueFault → Valued
-seen_values (Ok x) = Ok (x.0, bytes_of x.1)
-seen_values (Err f) = Err f
 
 abbrev pub seen_unit : Result (Unit {0}) DecodeFault → Result (List ℕ) DecodeFault
 seen_unit (Ok x) = Ok []

@@ -1,15 +1,7 @@
 -- Calls of desks as a world makes them.
-use Rattle.std.specs.Prelude.{◌≡◌, ℕ, true, false, List, Some, Result, Err, length, slice_get}
+use Rattle.std.specs.Prelude.{◌≡◌, ℕ, true, false, List, Some, length, slice_get}
 use Rattle.std.specs.FinMap as map
-use Rattle.dm_finder_frame.specs.Frame.{GridView}
 use Rattle.dm_store.specs.{Saved.SavedSet, Saved.save_plan_of, declared.mem_store.NextSave.NextSave}
-use Rattle.dm_assembly_desk.specs.declared.{reply.Accepted.Accepted, fault.ScanFault.ScanFault}
-use Rattle.dm_assembly_desk.specs.declared.reply.Imported as imported_type
-use Rattle.dm_assembly_desk.specs.declared.fault.ScanFault.TheVariants as scan_fault
-use Rattle.dm_assembly_desk.specs.declared.fault.{ForgetFault.ForgetFault, ImportFault.ImportFault}
-use Rattle.dm_assembly_desk.specs.declared.fault.ForgetFault.TheVariants as forget_fault
-use Rattle.dm_assembly_desk.specs.declared.fault.ImportFault.TheVariants as import_fault
-use Rattle.dm_assembly_desk.specs.Desk.{AcceptsGrid, Forgets, ImportsBytes}
 use Rattle.dm_assembly_desk.specs.Documents.{DeskView, DeskIsInOrder}
 use Rattle.dm_event_history.specs.Relay as actor_states
 use Rattle.dm_event_world.specs.declared.actor.{DeskActor.DeskActor, DeskState.DeskState}
@@ -35,15 +27,6 @@ pub record Calling {X : Type 0} (failed_answer : X) (Call : DeskView → X → D
   pub done : old.is_failed ≡ false → Call old answer new
   pub before : DeskIsInOrder old
   pub after : DeskIsInOrder new
-
-abbrev pub AcceptsOne : Type 0 → GridView → DeskView → Result Accepted ScanFault → DeskView → Type 0
-AcceptsOne A grid = Calling (Err scan_fault.Failed) (AcceptsGrid A grid)
-
-abbrev pub ForgetsOne : ℕ → DeskView → Result (Unit {0}) ForgetFault → DeskView → Type 0
-ForgetsOne id = Calling (Err forget_fault.Failed) (Forgets id)
-
-abbrev pub ImportsIn : List ℕ → DeskView → Result imported_type.Imported ImportFault → DeskView → Type 0
-ImportsIn bytes = Calling (Err import_fault.Failed) (ImportsBytes bytes)
 
 -- the desks that a world begins with: one for each capacity, which holds nothing
 pub record AreEmpty {A : Type 0} (capacities : List ℕ) (desks : List (DeskActor A)) : Type 0 where
