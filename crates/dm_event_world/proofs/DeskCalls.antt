@@ -36,7 +36,7 @@ use Rattle.dm_event_world.specs.declared.actor.DeskState.TheVariants as states
 use Rattle.dm_event_world.specs.Shows.{DeskIs, IsReady, ShowsDesk}
 use Rattle.dm_event_world.specs.inner.Calls.{IsMadeUnder, next_save_of, stops_before, EndsEach, EndsSo, Left, state_after, ended_reply, lacks_memory}
 use Rattle.dm_event_world.specs.inner.Desks.{Calling, desk_planned, down_desk}
-use Rattle.dm_event_world.proofs.Endings.{Ends, IsEmpty, TellsMemory, empty, finish, lacks_first, none_left, not_first, plain, reaches, stopped_before, unsaved_empty, with_goods}
+use Rattle.dm_event_world.proofs.Endings.{Ends, IsEmpty, TellsMemory, answers_end, lacks_end, empty, finish, lacks_first, none_left, not_first, plain, reaches, stopped_before, unsaved_empty, with_goods}
 
 pub down_shows : {A : Type 0} (room : ℕ) (state : DeskState A) (shown : Actor Documents) → ShowsDesk room state shown →
     ShowsDesk room (down_desk state) (Down (stored_of shown))
@@ -47,16 +47,6 @@ same_again : (A : Type 0) (room : ℕ) (view mid : DeskView) (plan : NextSave) (
     ShowsDesk {A = A} room (states.Running view) shown → IsReady view.saved.is_honest view.saved.load_plan view.saved.save_plan → mid ≡ desk_planned view plan →
     ShowsDesk {A = A} room (states.Running (desk_planned mid next_save.Fine)) shown
 same_again A room view mid plan shown s ready same = grind arith
-
--- a call that answers without a save, under any plan
-answers_end : {A C S : Type 0} (Shows : S → Actor C → Type 0) (faults : Faults A) (stop : Stop) (old : Actor C)
-    (reply : Reply A) (state : S) → Shows state old → Ends Shows faults (plain stop) (Answers reply) old reply state
-answers_end Shows faults stop old reply state s = grind arith
-
--- one whose memory is refused
-lacks_end : {A C S : Type 0} (Shows : S → Actor C → Type 0) (faults : Faults A) (stop : Stop) (old : Actor C)
-    (state : S) → Shows state old → Ends Shows faults (plain stop) LacksMemory old faults.memory state
-lacks_end Shows faults stop old state s = grind arith
 
 -- ---- a verdict that is carried out
 

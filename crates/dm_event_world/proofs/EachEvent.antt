@@ -5,11 +5,10 @@ use Rattle.dm_size.specs.declared.size.Size.{Size}
 use Rattle.dm_encodation.specs.declared.scheme.Scheme.{Scheme}
 use Rattle.dm_finder_frame.specs.Frame.{GridView, flipped}
 use Rattle.dm_print_ledger.specs.{declared.range.Range.Range, Ledger.TicketView}
-use Rattle.dm_print_ledger.specs.declared.fault.OpenFault.TheVariants as open_fault
 use Rattle.dm_assembly_desk.specs.declared.fault.DeskFault.TheVariants as desk_fault
 use Rattle.dm_assembly_desk.specs.Documents.{Documents, IsEntry, file}
 use Rattle.dm_event_history.specs.declared.event.Event.TheVariants.{Print, Scan, RestartPrinter, RestartDesk, Ask, Forget, Give, Take, Export, Import}
-use Rattle.dm_event_history.specs.declared.reply.Reply.{Reply, TheVariants.PrinterRefused, TheVariants.DeskRefused}
+use Rattle.dm_event_history.specs.declared.reply.Reply.{Reply, TheVariants.DeskRefused}
 use Rattle.dm_event_history.specs.{declared.stop.Stop.Stop, Relay.Actor, Relay.Goods, Relay.Label, Relay.Relay}
 use Rattle.dm_event_history.specs.Relay as relays
 use Rattle.dm_event_history.specs.Steps.{Ending, Calls, MayLackFirst, Looks, Restarts, PrintComes, GiveComes, TakeComes, print_faults, give_faults, take_faults, ScanComes, ForgetComes, ImportComes, AskTells, ExportTells, scan_faults, forget_faults, import_faults, DeskGoes, HasModules, PrinterGoes}
@@ -31,8 +30,7 @@ pub printed : {A : Type 0} (old : WorldView A) (labels : List (LeftLabel A)) (se
     StepsEach seen (Print printer document size scheme stop) reply
     (world_of (slice_set old.printers printer after) old.desks labels old.tickets old.exports)
 printed {A} old labels seen printer document size scheme stop reply actor after is was ends =
-    printer_steps old labels old.tickets seen (Print printer document size scheme stop) reply printer actor after
-    (MayLackFirst (Calls print_faults stop (PrintComes (length old.labels) document size scheme))) is was
+    printer_steps old labels old.tickets seen _ reply printer actor after _ is was
     (λ shown number s. lets_as _ _ _ _ shown reply after (left_labels_alone old.labels labels old.tickets old.exports)
     (ends shown s))
     (λ relay next s there goes. inl (
@@ -51,8 +49,7 @@ pub gave : {A : Type 0} (old : WorldView A) (tickets : List TicketView) (seen : 
     StepsEach seen (Give printer receiver range stop) reply
     (world_of (slice_set old.printers printer after) old.desks old.labels tickets old.exports)
 gave {A} old tickets seen printer receiver range stop reply actor after is was ends =
-    printer_steps old old.labels tickets seen (Give printer receiver range stop) reply printer actor after
-    (MayLackFirst (Calls give_faults stop (GiveComes (length old.tickets) receiver range))) is was
+    printer_steps old old.labels tickets seen _ reply printer actor after _ is was
     (λ shown number s. lets_as _ _ _ _ shown reply after (left_tickets_alone old.labels old.tickets tickets old.exports)
     (ends shown s))
     (λ relay next s there goes. inl (
@@ -70,8 +67,7 @@ pub took : {A : Type 0} (old seen : WorldView A) (printer number : ℕ) (ticket 
     StepsEach seen (Take printer number stop) reply
     (world_of (slice_set old.printers printer after) old.desks old.labels old.tickets old.exports)
 took {A} old seen printer number ticket stop reply actor after is was it ends =
-    printer_steps old old.labels old.tickets seen (Take printer number stop) reply printer actor after
-    (Calls take_faults stop (TakeComes number ticket)) is was
+    printer_steps old old.labels old.tickets seen _ reply printer actor after _ is was
     (λ shown its s. lets_as _ _ _ _ shown reply after (left_none old.labels old.tickets old.exports) (ends shown s))
     (λ relay next s there goes.
     let own = subst (λ (ts : List TicketView). slice_get ts number ≡ Some ticket) s.tickets it in
@@ -83,8 +79,7 @@ pub restarted : {A : Type 0} (old seen : WorldView A) (printer : ℕ)
     StepsEach seen (RestartPrinter printer) reply
     (world_of (slice_set old.printers printer after) old.desks old.labels old.tickets old.exports)
 restarted {A} old seen printer reply actor after is was ends =
-    printer_steps old old.labels old.tickets seen (RestartPrinter printer) reply printer actor after
-    (Restarts (PrinterRefused open_fault.Memory)) is was
+    printer_steps old old.labels old.tickets seen _ reply printer actor after _ is was
     (λ shown number s. lets_as _ _ _ _ shown reply after (left_none old.labels old.tickets old.exports)
     (ends shown s number))
     (λ relay next s there goes. inl (there, goes))
@@ -130,8 +125,7 @@ pub scanned : {A : Type 0} (old seen : WorldView A) (desk number : ℕ) (flips :
     (λ goods. Left {A = A} [] [] [] goods [] [] []) actor.state reply after) →
     StepsEach seen (Scan desk number flips stop) reply (desk_after old desk actor.capacity after)
 scanned {A} old seen desk number flips stop left reply actor after is was it within ends =
-    desk_steps old old.exports seen (Scan desk number flips stop) reply desk actor after
-    (λ relay s room. MayLackFirst (Calls scan_faults stop (ScanComes room (flipped left.grid flips)))) is was
+    desk_steps old old.exports seen _ reply desk actor after _ is was
     (λ relay s room same shown t. none_leaves old room _ shown reply after (ends room shown t))
     (λ relay next s there goes.
     let own = get_map_from (left_label {A = A}) relay.labels number left
@@ -153,8 +147,7 @@ pub forgot : {A : Type 0} (old seen : WorldView A) (desk id : ℕ) (stop : Stop)
     (λ goods. Left {A = A} [] [] [] goods [] [] []) actor.state reply after) →
     StepsEach seen (Forget desk id stop) reply (desk_after old desk actor.capacity after)
 forgot {A} old seen desk id stop reply actor after is was ends =
-    desk_steps old old.exports seen (Forget desk id stop) reply desk actor after
-    (λ relay s room. Calls forget_faults stop (ForgetComes id)) is was
+    desk_steps old old.exports seen _ reply desk actor after _ is was
     (λ relay s room same shown t. none_leaves old room _ shown reply after (ends room shown t))
     (λ relay next s there goes. inl (there, goes))
 
@@ -167,8 +160,7 @@ asked {A} old seen desk id reply actor is was ends =
     subst (λ (w : WorldView A). StepsEach seen (Ask desk id) reply w) is
     (subst (λ (desks : List (DeskActor A)). StepsEach seen (Ask desk id) reply
     (world_of old.printers desks old.labels old.tickets old.exports)) (same_set old.desks desk actor was)
-    (desk_steps old old.exports seen (Ask desk id) reply desk actor actor.state
-    (λ relay s room. Looks (AskTells id)) is was
+    (desk_steps old old.exports seen _ reply desk actor actor.state _ is was
     (λ relay s room same shown t. none_leaves old room _ shown reply actor.state (ends room shown t))
     (λ relay next s there goes. inl (there, goes))))
 
@@ -178,8 +170,7 @@ pub desk_restarted : {A : Type 0} (old seen : WorldView A) (desk : ℕ) (reply :
     (λ goods. Left {A = A} [] [] [] goods [] [] []) actor.state reply after →
     StepsEach seen (RestartDesk desk) reply (desk_after old desk actor.capacity after)
 desk_restarted {A} old seen desk reply actor after is was ends =
-    desk_steps old old.exports seen (RestartDesk desk) reply desk actor after
-    (λ relay s room. Restarts (DeskRefused desk_fault.Memory)) is was
+    desk_steps old old.exports seen _ reply desk actor after _ is was
     (λ relay s room same shown t. none_leaves old room _ shown reply after
     (subst (λ (n : ℕ). EndsEach (ShowsDesk n) (Restarts (DeskRefused desk_fault.Memory))
     (λ goods. Left {A = A} [] [] [] goods [] [] []) actor.state reply after) (sym same) ends shown t))
@@ -193,8 +184,7 @@ pub exported : {A : Type 0} (old : WorldView A) (exports : List (LeftExport A)) 
 exported {A} old exports seen desk id reply actor is was ends =
     subst (λ (desks : List (DeskActor A)). StepsEach seen (Export desk id) reply
     (world_of old.printers desks old.labels old.tickets exports)) (same_set old.desks desk actor was)
-    (desk_steps old exports seen (Export desk id) reply desk actor actor.state
-    (λ relay s room. MayLackFirst (Looks (ExportTells (length old.exports) id))) is was
+    (desk_steps old exports seen _ reply desk actor actor.state _ is was
     (λ relay s room same shown t. lets_as _ _ _ _ shown reply actor.state
     (left_exports_alone old.labels old.tickets old.exports exports) (ends room shown t))
     (λ relay next s there goes. inl (
@@ -211,8 +201,7 @@ pub imported : {A : Type 0} (old seen : WorldView A) (desk number : ℕ) (stop :
     (λ goods. Left {A = A} [] [] [] goods [] [] []) actor.state reply after) →
     StepsEach seen (Import desk number stop) reply (desk_after old desk actor.capacity after)
 imported {A} old seen desk number stop left reply actor after is was it ends =
-    desk_steps old old.exports seen (Import desk number stop) reply desk actor after
-    (λ relay s room. Calls import_faults stop (ImportComes room (own relay s).0)) is was
+    desk_steps old old.exports seen _ reply desk actor after _ is was
     (λ relay s room same shown t. none_leaves old room _ shown reply after
     (ends (own relay s).0 (s.entries number (own relay s).0 (own relay s).1)
     (sym (ap (λ (l : LeftExport A). l.bytes) (own relay s).2)) room shown t))

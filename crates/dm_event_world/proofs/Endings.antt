@@ -30,6 +30,16 @@ pub record Ends {A C S : Type 0} (Shows : S → Actor C → Type 0) (faults : Fa
   pub reply_is : reply ≡ (ends faults stop course old).reply
   pub shows : Shows state (ends faults stop course old).actor
 
+-- a call that answers without a save, under any plan
+pub answers_end : {A C S : Type 0} (Shows : S → Actor C → Type 0) (faults : Faults A) (stop : Stop) (old : Actor C)
+    (reply : Reply A) (state : S) → Shows state old → Ends Shows faults (plain stop) (Answers reply) old reply state
+answers_end Shows faults stop old reply state s = grind arith
+
+-- one whose memory is refused
+pub lacks_end : {A C S : Type 0} (Shows : S → Actor C → Type 0) (faults : Faults A) (stop : Stop) (old : Actor C)
+    (state : S) → Shows state old → Ends Shows faults (plain stop) LacksMemory old faults.memory state
+lacks_end Shows faults stop old state s = grind arith
+
 module _ {A C S : Type 0} (Shows : S → Actor C → Type 0) (down : S → S)
     (down_shows : (state : S) (actor : Actor C) → Shows state actor → Shows (down state) (Down (stored_of actor)))
     (faults : Faults A) where

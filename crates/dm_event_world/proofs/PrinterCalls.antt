@@ -17,7 +17,7 @@ use Rattle.dm_event_history.specs.Steps.{Answers, Calls, Course, Faults, LacksMe
 use Rattle.dm_event_world.specs.{declared.actor.PrinterActor.PrinterActor, Shows.ShowsPrinter, Shows.StoresLedger, Shows.IsReady, inner.Calls.planned}
 use Rattle.dm_event_world.specs.declared.actor.PrinterActor.TheVariants as actors
 use Rattle.dm_event_world.specs.inner.Calls.{next_save_of, stops_before, EndsSo, state_after, ended_reply, lacks_memory, down_printer, planned}
-use Rattle.dm_event_world.proofs.Endings.{Ends, IsEmpty, TellsMemory, failed_empty, finish, plain, reaches, unsaved_empty}
+use Rattle.dm_event_world.proofs.Endings.{Ends, IsEmpty, TellsMemory, answers_end, lacks_end, failed_empty, finish, plain, reaches, unsaved_empty}
 use Rattle.dm_store.specs.{Saved.Replaces, declared.store.StoreFault.StoreFault, declared.mem_store.NextSave.NextSave}
 
 -- Plans of stores and sets that are set for one call, and fine again.
@@ -38,16 +38,6 @@ same_again : (A : Type 0) (view mid : PrinterView) (plan : NextSave) (shown : Ac
     ShowsPrinter {A = A} (actors.Running view) shown → StoresLedger view.saved (stored_of shown) →
     mid ≡ planned view plan → ShowsPrinter {A = A} (actors.Running (planned mid next_save.Fine)) shown
 same_again A view mid plan shown s store same = grind arith
-
--- a call that answers without a save, under any plan
-pub answers_end : {A C S : Type 0} (Shows : S → Actor C → Type 0) (faults : Faults A) (stop : Stop) (old : Actor C)
-    (reply : Reply A) (state : S) → Shows state old → Ends Shows faults (plain stop) (Answers reply) old reply state
-answers_end Shows faults stop old reply state s = grind arith
-
--- one whose memory is refused
-pub lacks_end : {A C S : Type 0} (Shows : S → Actor C → Type 0) (faults : Faults A) (stop : Stop) (old : Actor C)
-    (state : S) → Shows state old → Ends Shows faults (plain stop) LacksMemory old faults.memory state
-lacks_end Shows faults stop old state s = grind arith
 
 -- What leaves by a call that saves, and its reply; `Gives` says how the goods come of the answer.
 pub record Lets {A X F : Type 0} (Leaves : Goods → Reply A → Type 0) (Gives : X → Goods → Type 0) (tell : X → Reply A)

@@ -37,42 +37,18 @@ old_or_new plan old new held after = grind arith
 -- a save that was done is one under a fine plan
 pub saves_fine : (old new : Saved) (bytes : List ℕ) → Replaces old bytes (Ok tt) new →
     Replaces (under old next_save.Fine) bytes (Ok tt) (fine new)
-saves_fine old new bytes saves = record {
-  same_honesty = saves.same_honesty;
-  same_memory = saves.same_memory;
-  same_load_plan = refl;
-  follows = refl;
-  done = saves.done;
-  refused = λ is. cc (is);
-  faulted = λ is. cc (is);
-}
+saves_fine old new bytes saves = grind arith
 
 -- a save of an honest store that met a fault is one under the plan of this fault
 pub saves_old : (old new : Saved) (bytes : List ℕ) → Replaces old bytes (Err replacing.Device) new →
     new.content ≡ old.content →
     Replaces (under old next_save.FaultOld) bytes (Err replacing.Device) (fine new)
-saves_old old new bytes saves is_old = record {
-  same_honesty = saves.same_honesty;
-  same_memory = saves.same_memory;
-  same_load_plan = refl;
-  follows = refl;
-  done = λ is. cc (is);
-  refused = λ is. cc (is);
-  faulted = λ is honest. is_old;
-}
+saves_old old new bytes saves is_old = grind arith
 
 pub saves_new : (old new : Saved) (bytes : List ℕ) → Replaces old bytes (Err replacing.Device) new →
     new.content ≡ Some bytes →
     Replaces (under old next_save.FaultNew) bytes (Err replacing.Device) (fine new)
-saves_new old new bytes saves is_new = record {
-  same_honesty = saves.same_honesty;
-  same_memory = saves.same_memory;
-  same_load_plan = refl;
-  follows = refl;
-  done = λ is. cc (is);
-  refused = λ is. cc (is);
-  faulted = λ is honest. is_new;
-}
+saves_new old new bytes saves is_new = grind arith
 
 -- the printer over its store with nothing that is to fail
 abbrev pub fine_printer : PrinterView → PrinterView
