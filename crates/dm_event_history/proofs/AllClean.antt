@@ -136,12 +136,6 @@ all_stay_clean old new event reply printed all fair (inr none) = grind arith
 
 -- ---- scans that did not save
 
-to_all : (labels : List Label) (actor : Actor Documents) → IsCleanActor labels actor → HasAll (HaveLeft labels) actor
-to_all labels actor h = grind arith
-
-of_all : (labels : List Label) (actor : Actor Documents) → HasAll (HaveLeft labels) actor → IsCleanActor labels actor
-of_all labels actor h = grind arith
-
 -- what a scan that was answered so comes to is not kept
 pub unsaved_course : {A : Type 0} (Q : Documents → Type 0) (desk number : ℕ) (flips : List (ℕ × ℕ)) (stop : Stop)
     (reply : Reply A) (held : Documents) (k : Result (Opened A) LabelFault) (room : ℕ) (course : Course A Documents) →
@@ -155,7 +149,7 @@ unsaved_clean : {A : Type 0} (old new : Relay) (desk number : ℕ) (flips : List
 unsaved_clean {A} old new desk number flips stop reply all unsaved acts = record {
   desks = λ own. subst (λ (r : Relay). IsClean r own) (sym g.new_is) (λ d is. elim (set_at old.desks desk own _ d is) [
     | inl here ↦ subst (λ (x : Desk). IsCleanActor (old.labels ++ g.end.goods.labels) x.actor) here.1
-        (actor_more old.labels g.end.goods.labels g.end.actor (of_all old.labels g.end.actor kept))
+        (actor_more old.labels g.end.goods.labels g.end.actor kept)
     | inr there ↦ actor_more old.labels g.end.goods.labels d.actor (all.desks own d there.1)
   ]);
   exports = acts_send old new (Scan desk number flips stop) reply all acts;
@@ -167,7 +161,7 @@ unsaved_clean {A} old new desk number flips stop reply all unsaved acts = record
 
     kept : HasAll (HaveLeft old.labels) g.end.actor
     kept =
-        let before = to_all old.labels g.desk.actor (all.desks desk g.desk g.was) in
+        let before = all.desks desk g.desk g.was in
         may_lack_has (HaveLeft old.labels) (Calls scan_faults stop (ScanComes g.desk.room (flipped acts.0.grid flips)))
         g.desk.actor g.end before
         (λ called. calls_have (HaveLeft old.labels) (HaveLeft old.labels) scan_faults stop

@@ -14,7 +14,7 @@ use Rattle.dm_event_history.specs.declared.{event.Event.TheVariants.Ask, reply.R
 use Rattle.dm_event_history.specs.declared.reply.Reply.TheVariants.{Document}
 use Rattle.dm_event_history.specs.Relay.{CutDocument, Actor, Label}
 use Rattle.dm_event_history.specs.Steps.{Ending, Looks, AskTells, ask_reply, Step}
-use Rattle.dm_event_history.specs.Headline.{AreOfOneDocument, ArePrinted, EachCleanDeskGives, HasLeft, HaveLeft, IsCleanActor}
+use Rattle.dm_event_history.specs.Headline.{AreOfOneDocument, ArePrinted, EachCleanDeskGives, HasLeft, HaveLeft, IsCleanActor, IsTheDocument}
 use Rattle.dm_event_history.proofs.MergedPages.{whole_pages}
 
 same_lists : {X : Type 0} (xs ys : List X) → length xs ≡ length ys →
@@ -67,19 +67,13 @@ module _ (labels : List Label) (printed : ArePrinted labels) (one : AreOfOneDocu
 abbrev Gives : Type 0
 Gives = Result (List ℕ) AskFault
 
--- what is given for an ID is what each label of it is cut from, and there is one
-abbrev IsItsDocument : List Label → ℕ → List ℕ → Type 0
-IsItsDocument labels id bytes =
-    ((number : ℕ) (label : Label) → slice_get labels number ≡ Some label → label.page.id ≡ id → label.cut.bytes ≡ bytes)
-    × (number : ℕ) × (label : Label) × (slice_get labels number ≡ Some label) × (label.page.id ≡ id)
-
 by_test : (labels : List Label) → ArePrinted labels → AreOfOneDocument labels → (held : Documents) →
     HaveLeft labels held → (id : ℕ) (pages : Pages) (bytes : List ℕ) → finite.get held id ≡ Some pages → (test : Bool) →
     list_all is_some pages ≡ test →
     (let given : Gives = Ok bytes in
     asking.GivesByVerdict (λ b. b) ask_fault.Memory
     (if test then Ok (document_of pages) else Err (ask_fault.Incomplete (missing_mask pages))) given) →
-    IsItsDocument labels id bytes
+    IsTheDocument labels id bytes
 by_test labels printed one held left id pages bytes at true all given =
     let c = left.counts id pages at in (
       (λ number label there own.
@@ -93,25 +87,25 @@ by_test labels printed one held left id pages bytes at false all given = cc (giv
 
 by_held : (labels : List Label) → ArePrinted labels → AreOfOneDocument labels → (held : Documents) →
     HaveLeft labels held → (id : ℕ) (bytes : List ℕ) (o : Option Pages) → finite.get held id ≡ o →
-    (let given : Gives = Ok bytes in Asks (λ b. b) o given) → IsItsDocument labels id bytes
+    (let given : Gives = Ok bytes in Asks (λ b. b) o given) → IsTheDocument labels id bytes
 by_held labels printed one held left id bytes None at given = cc (given)
 by_held labels printed one held left id bytes (Some pages) at given =
     by_test labels printed one held left id pages bytes at (list_all is_some pages) refl given
 
 by_answer : {A : Type 0} (labels : List Label) → ArePrinted labels → AreOfOneDocument labels → (held : Documents) →
     HaveLeft labels held → (id : ℕ) (bytes : List ℕ) (given : Gives) → ◌≡◌ {A = Reply A} (Document bytes) (ask_reply given) →
-    Asks (λ b. b) (finite.get held id) given → IsItsDocument labels id bytes
+    Asks (λ b. b) (finite.get held id) given → IsTheDocument labels id bytes
 by_answer labels printed one held left id bytes given told asks = grind (arith, by_held)
 
 by_actor : {A : Type 0} (labels : List Label) → ArePrinted labels → AreOfOneDocument labels →
     (actor : Actor Documents) → IsCleanActor labels actor → (id : ℕ) (bytes : List ℕ) (end : Ending A Documents) →
-    ◌≡◌ {A = Reply A} (Document bytes) end.reply → Looks (AskTells {A = A} id) actor end → IsItsDocument labels id bytes
+    ◌≡◌ {A = Reply A} (Document bytes) end.reply → Looks (AskTells {A = A} id) actor end → IsTheDocument labels id bytes
 by_actor labels printed one actor clean id bytes end told looks = grind (arith, by_answer)
 
 pub each_clean_desk_gives : (A : Type 0) → EachCleanDeskGives A
 each_clean_desk_gives A old new desk id bytes printed one clean step = by_case step
   where
-    by_case : Step {A = A} old (Ask desk id) (Document bytes) new → IsItsDocument old.labels id bytes
+    by_case : Step {A = A} old (Ask desk id) (Document bytes) new → IsTheDocument old.labels id bytes
     by_case (inl acts) = by_actor old.labels printed one acts.1.desk.actor (clean acts.1.desk acts.1.was) id bytes
         acts.1.end acts.1.reply_is acts.1.acts
     by_case (inr none) = cc (none.1)

@@ -61,33 +61,26 @@ legal_ends : {A C : Type 0} (faults : Faults A) (stop : Stop) (course : Course A
     Reaches stop (IsPlainCourse course) →
     IsCallLegal (Some stop) (Running held) (ends faults stop course (Running held)).reply
 legal_ends faults stops.None (Saves next goods reply) held fine own =
-    legal_reply (Some stops.None) (Running held) reply (λ d. d) (λ s. s) own.up (λ _. refl)
+    legal_reply _ _ _ (λ d. d) (λ s. s) own.up (λ _. refl)
 legal_ends faults (SaveFault Old) (Saves next goods reply) held fine own =
-    legal_reply (Some (SaveFault Old)) (Running held) faults.save (λ d. d) (λ s. s) fine.save_up
-    (untold faults.save fine.save_untold)
+    legal_reply _ _ _ (λ d. d) (λ s. s) fine.save_up (untold faults.save fine.save_untold)
 legal_ends faults (SaveFault New) (Saves next goods reply) held fine own =
-    legal_reply (Some (SaveFault New)) (Running held) faults.save (λ d. d) (λ s. s) fine.save_up
-    (untold faults.save fine.save_untold)
-legal_ends faults stops.None (Answers reply) held fine own =
-    legal_reply (Some stops.None) (Running held) reply (λ d. d) (λ s. s) own.0.up (λ _. refl)
+    legal_reply _ _ _ (λ d. d) (λ s. s) fine.save_up (untold faults.save fine.save_untold)
+legal_ends faults stops.None (Answers reply) held fine own = legal_reply _ _ _ (λ d. d) (λ s. s) own.0.up (λ _. refl)
 legal_ends faults (SaveFault kept) (Answers reply) held fine own =
-    legal_reply (Some (SaveFault kept)) (Running held) reply (λ d. d) (λ s. s) own.0.up (untold reply own.1)
-legal_ends faults stops.None LacksMemory held fine own =
-    legal_reply (Some stops.None) (Running held) faults.memory (λ d. d) (λ s. s) fine.memory.up (λ _. refl)
+    legal_reply _ _ _ (λ d. d) (λ s. s) own.0.up (untold reply own.1)
+legal_ends faults stops.None LacksMemory held fine own = legal_reply _ _ _ (λ d. d) (λ s. s) fine.memory.up (λ _. refl)
 legal_ends faults (SaveFault kept) LacksMemory held fine own =
-    legal_reply (Some (SaveFault kept)) (Running held) faults.memory (λ d. d) (λ s. s) fine.memory.up
-    (untold faults.memory fine.memory_untold)
+    legal_reply _ _ _ (λ d. d) (λ s. s) fine.memory.up (untold faults.memory fine.memory_untold)
 legal_ends {A} faults (InSave New) LacksMemory held fine own = grind (arith, legal_memory)
 legal_ends {A} faults (AfterLabels most) LacksMemory held fine own = grind (arith, legal_memory)
 legal_ends {A} faults stop course held fine own = legal_stopped A (Some stop) (Running held) (λ d. d) tt
 
 legal_failed : {A C : Type 0} (faults : Faults A) (stop : Stop) (shown stored : C) → ArePlain faults →
     IsCallLegal (Some stop) (Failed shown stored) (ends faults stop (Answers faults.failed) (Failed shown stored)).reply
-legal_failed faults stops.None shown stored fine =
-    legal_reply (Some stops.None) (Failed shown stored) faults.failed (λ d. d) (λ s. s) fine.failed_up (λ _. refl)
+legal_failed faults stops.None shown stored fine = legal_reply _ _ _ (λ d. d) (λ s. s) fine.failed_up (λ _. refl)
 legal_failed faults (SaveFault kept) shown stored fine =
-    legal_reply (Some (SaveFault kept)) (Failed shown stored) faults.failed (λ d. d) (λ s. s) fine.failed_up
-    (untold faults.failed fine.failed_untold)
+    legal_reply _ _ _ (λ d. d) (λ s. s) fine.failed_up (untold faults.failed fine.failed_untold)
 legal_failed {A} faults (InSave Old) shown stored fine = grind (arith, legal_stopped)
 legal_failed {A} faults stop shown stored fine = legal_stopped A (Some stop) (Failed shown stored) (λ d. d) tt
 

@@ -1,5 +1,5 @@
 -- A printer is opened over its store and called: what the proofs of worlds ask of a printer that runs in memory.
-use Rattle.std.proofs.Common.{◌≡◌, refl, arith}
+use Rattle.std.proofs.Common.{◌≡◌, arith}
 use Rattle.dm_store.specs.Saved.{Saved}
 use Rattle.dm_print_ledger.specs.Ledger.{LedgerView, PrinterView, running}
 use Rattle.dm_event_history.specs.declared.{reply.Reply.Reply, stop.Stop.Stop}
@@ -13,14 +13,7 @@ use Rattle.relay_runs.proofs.{Plans.IsMet, Plans.fine_printer, Files.HoldsFile, 
 -- it is shown as a printer in memory that runs
 pub shows_opened : (A : Type 0) (saved : Saved) (actor : Actor LedgerView) → KeepsLedger saved actor →
     ShowsPrinter {A = A} (actors.Running (fine_printer (running saved (stored_of actor)))) (Running (stored_of actor))
-shows_opened A saved actor keeps = (
-  record {
-    ready = record { honest = keeps.honest; loads_fine = refl; saves_fine = refl };
-    holds = holds saved actor keeps;
-  },
-  refl,
-  refl,
-)
+shows_opened A saved actor keeps = grind (arith, holds)
 
 -- what is shown so is kept
 pub keeps_shown : (A : Type 0) (view : PrinterView) (shown : Actor LedgerView) → HoldsFile view.saved →

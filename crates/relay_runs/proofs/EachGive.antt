@@ -3,12 +3,10 @@ use Rattle.std.proofs.Common.{◌≡◌, inl, ℕ, [], ◌∷◌, Some, None, Re
 use Rattle.std.specs.Result.{result_ok}
 use Rattle.dm_store.specs.Saved.{Saved}
 use Rattle.dm_print_ledger.specs.declared.{fault.GiveFault.GiveFault, range.Range.Range}
-use Rattle.dm_print_ledger.specs.declared.fault.GiveFault.TheVariants as give_fault
 use Rattle.dm_print_ledger.specs.Ledger.{LedgerView, PrinterView, TicketView, running}
-use Rattle.dm_print_ledger.specs.Verdicts.{GivesTicket, give_verdict}
+use Rattle.dm_print_ledger.specs.Verdicts.{GivesTicket}
 use Rattle.dm_event_history.specs.declared.event.Event.{Event, TheVariants.Give}
 use Rattle.dm_event_history.specs.Relay.{Actor, Relay, stored_of, with_printer}
-use Rattle.dm_event_history.specs.Steps.{Calls, GiveComes, MayLackFirst, give_faults}
 use Rattle.dm_event_world.specs.inner.Calls.{give_reply}
 use Rattle.relay_printer_commands.specs.Printers.{EndsGive, EndsGiveLast, OnLedger}
 use Rattle.relay_printer_commands.specs.Printers.EndsGive.{opened as was_opened, not_opened}
@@ -34,9 +32,7 @@ module _ (A : Type 0) (relay : Relay) (place : ℕ) (actor : Actor LedgerView) (
             ∷ restart A relay place actor was ∷ [];
         goods = g.end.goods;
         after = with_printer (restarted relay place (stored_of actor)) place g.end.actor g.end.goods;
-        runs = run_of A relay place actor was new.saved event
-            (MayLackFirst (Calls give_faults g.stop
-            (GiveComes (length (restarted relay place (stored_of actor)).tickets) to range)))
+        runs = run_of A relay place actor was new.saved event _
             (give_reply (length (restarted relay place (stored_of actor)).tickets) answer) g.end g.acts g.reply_is
             (subst (λ (s : Saved). KeepsLedger s g.end.actor) (sym same) (keeps_shown A after g.end.actor file g.shows))
             (λ next goes. inl (still_within A relay place actor was, goes));
@@ -48,24 +44,20 @@ module _ (A : Type 0) (relay : Relay) (place : ℕ) (actor : Actor LedgerView) (
 
   give_by : (ends : EndsGive number to range old status new) →
       FollowsRun A relay place old.streams.input new.saved None (ticket_given ends)
-  give_by (not_opened fault opens same told) =
-      uncalled A relay place old.streams.input old.saved new.saved actor None None was keeps same refl refl
+  give_by (not_opened fault opens same told) = uncalled _ _ _ _ _ _ _ _ _ was keeps same refl refl
   give_by (was_opened before after answer opens gives same told only) =
       let is_open = opened old.saved actor number before keeps opens in
       let does = subst (λ (v : PrinterView). GivesTicket v to range answer after) is_open.1 gives in
       let file : HoldsFile old.saved =
       record { ledger = stored_of actor; sound = keeps.sound; content = keeps.content } in
       called_so after answer same
-      (holds_file give_fault.Failed give_fault.Memory give_fault.Save
-      (give_verdict (stored_of actor) to range) (running old.saved (stored_of actor)) after answer refl
-      keeps.honest file does.0)
+      (holds_file _ _ _ _ (running old.saved (stored_of actor)) after answer refl keeps.honest file does.0)
       (given_so A (restarted relay place (stored_of actor)).tickets to range
       (running old.saved (stored_of actor)) after (stored_of actor) answer refl keeps.honest
       (shows_opened A old.saved actor keeps) does)
 
 pub give_follows : (A : Type 0) → EachGiveIsARun A
-give_follows A relay place actor to range number old new status was keeps ends =
-    give_by A relay place actor to range number old new status was keeps ends
+give_follows = give_by
 
 -- so is each give of the last
 pub give_last_follows : (A : Type 0) (relay : Relay) (place : ℕ) (actor : Actor LedgerView) (to count number : ℕ)
@@ -77,7 +69,5 @@ give_last_follows A relay place actor to count number old new status was keeps
     give_follows A relay place actor to range number old new status was keeps
     (was_opened before after answer opens gives same told only)
 give_last_follows A relay place actor to count number old new status was keeps
-    (too_few before most put opens longest less same told notes reads) =
-    uncalled A relay place old.streams.input old.saved new.saved actor None None was keeps same refl refl
-give_last_follows A relay place actor to count number old new status was keeps (unopened fault opens same told) =
-    uncalled A relay place old.streams.input old.saved new.saved actor None None was keeps same refl refl
+    (too_few before most put opens longest less same told notes reads) = uncalled _ _ _ _ _ _ _ _ _ was keeps same refl refl
+give_last_follows A relay place actor to count number old new status was keeps (unopened fault opens same told) = uncalled _ _ _ _ _ _ _ _ _ was keeps same refl refl

@@ -1,15 +1,13 @@
 -- Each print over an honest store is a run.
 use Rattle.std.proofs.Common.{◌≡◌, inl, ℕ, List, [], ◌∷◌, Some, None, Result, Ok, Err, length, slice_get, refl, sym, ap, subst}
-use Rattle.std.specs.{Prelude.is_some, Result.result_ok}
+use Rattle.std.specs.{Result.result_ok}
 use Rattle.dm_size.specs.declared.size.Size.{Size}
 use Rattle.dm_encodation.specs.declared.scheme.Scheme.{Scheme}
 use Rattle.dm_store.specs.Saved.{Saved}
-use Rattle.dm_print_ledger.specs.{declared.fault.PrintFault.PrintFault, Verdicts.Prints, Verdicts.print_verdict}
-use Rattle.dm_print_ledger.specs.declared.fault.PrintFault.TheVariants as print_fault
+use Rattle.dm_print_ledger.specs.{declared.fault.PrintFault.PrintFault, Verdicts.Prints}
 use Rattle.dm_print_ledger.specs.Ledger.{JobView, LedgerView, PrinterView, running}
 use Rattle.dm_event_history.specs.declared.event.Event.{Event, TheVariants.Print}
 use Rattle.dm_event_history.specs.Relay.{Actor, Label, Relay, stored_of, with_printer}
-use Rattle.dm_event_history.specs.Steps.{Calls, MayLackFirst, PrintComes, print_faults}
 use Rattle.dm_event_world.specs.inner.Calls.{print_reply}
 use Rattle.relay_command.specs.declared.command.Labels.{Labels}
 use Rattle.relay_streams.specs.Streams.{InputView}
@@ -62,9 +60,7 @@ module _ (A : Type 0) (relay : Relay) (place : ℕ) (actor : Actor LedgerView) (
             ∷ restart A relay place actor was ∷ [];
         goods = p.end.goods;
         after = with_printer (restarted relay place (stored_of actor)) place p.end.actor p.end.goods;
-        runs = run_of A relay place actor was new.saved event
-            (MayLackFirst (Calls print_faults p.stop
-            (PrintComes (length (restarted relay place (stored_of actor)).labels) document size scheme)))
+        runs = run_of A relay place actor was new.saved event _
             (print_reply (length (restarted relay place (stored_of actor)).labels) answer) p.end p.acts p.reply_is
             (subst (λ (s : Saved). KeepsLedger s p.end.actor) (sym same) (keeps_shown A after p.end.actor file p.shows))
             (λ next goes. inl (still_within A relay place actor was, goes));
@@ -78,31 +74,24 @@ module _ (A : Type 0) (relay : Relay) (place : ℕ) (actor : Actor LedgerView) (
       ReadsDocument old.streams.input rest document → (prints : PrintsDocument number size scheme document
       (record old { streams = record old.streams { input = rest } }) status new) →
       FollowsRun A relay place old.streams.input new.saved (job_printed prints) None
-  by_document size document rest is_read (not_opened fault opens same told) =
-      uncalled A relay place old.streams.input old.saved new.saved actor None None was keeps same refl refl
+  by_document size document rest is_read (not_opened fault opens same told) = uncalled _ _ _ _ _ _ _ _ _ was keeps same refl refl
   by_document size document rest is_read (was_opened before after answer opens prints same told) =
       let is_open = opened old.saved actor number before keeps opens in
       let does = subst (λ (v : PrinterView). Prints v size scheme document answer after) is_open.1 prints in
       let file : HoldsFile old.saved =
       record { ledger = stored_of actor; sound = keeps.sound; content = keeps.content } in
       called_so document rest size after answer is_read same
-      (holds_file print_fault.Failed print_fault.Memory print_fault.Save
-      (print_verdict (stored_of actor) (is_some does.cutting)) (running old.saved (stored_of actor)) after answer refl
-      keeps.honest file does.carries)
+      (holds_file _ _ _ _ (running old.saved (stored_of actor)) after answer refl keeps.honest file does.carries)
       (printed_so A (restarted relay place (stored_of actor)).labels document size scheme
       (running old.saved (stored_of actor)) after (stored_of actor) answer refl keeps.honest
       (shows_opened A old.saved actor keeps) does)
 
   print_by : (ends : EndsPrint number labels scheme old status new) →
       FollowsRun A relay place old.streams.input new.saved (job_ended ends) None
-  print_by (no_side side same told) =
-      uncalled A relay place old.streams.input old.saved new.saved actor None None was keeps same refl refl
-  print_by (not_read fault rest side failed same told) =
-      uncalled A relay place old.streams.input old.saved new.saved actor None None was keeps same refl refl
-  print_by (too_long document rest side is_read long same told) =
-      uncalled A relay place old.streams.input old.saved new.saved actor None None was keeps same refl refl
+  print_by (no_side side same told) = uncalled _ _ _ _ _ _ _ _ _ was keeps same refl refl
+  print_by (not_read fault rest side failed same told) = uncalled _ _ _ _ _ _ _ _ _ was keeps same refl refl
+  print_by (too_long document rest side is_read long same told) = uncalled _ _ _ _ _ _ _ _ _ was keeps same refl refl
   print_by (was_read size document rest is_read chosen prints) = by_document size document rest is_read prints
 
 pub print_follows : (A : Type 0) → EachPrintIsARun A
-print_follows A relay place actor labels scheme number old new status was keeps ends =
-    print_by A relay place actor labels scheme number old new status was keeps ends
+print_follows = print_by

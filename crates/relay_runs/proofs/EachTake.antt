@@ -3,12 +3,11 @@ use Rattle.std.proofs.Common.{◌≡◌, inl, false, ℕ, List, [], ◌∷◌, S
 use Rattle.std.proofs.lemmas.{List.append-nil, Option.slice_get_within}
 use Rattle.std.specs.Prelude.{IfSome}
 use Rattle.dm_store.specs.Saved.{Saved}
-use Rattle.dm_print_ledger.specs.{declared.fault.TakeFault.TakeFault, Verdicts.TakesTicket, Verdicts.take_verdict}
+use Rattle.dm_print_ledger.specs.{declared.fault.TakeFault.TakeFault, Verdicts.TakesTicket}
 use Rattle.dm_print_ledger.specs.declared.fault.TakeFault.TheVariants as take_fault
 use Rattle.dm_print_ledger.specs.Ledger.{LedgerView, PrinterView, TicketView, running}
 use Rattle.dm_event_history.specs.declared.event.Event.{Event, TheVariants.Take}
 use Rattle.dm_event_history.specs.Relay.{Actor, Relay, stored_of, with_printer}
-use Rattle.dm_event_history.specs.Steps.{Calls, TakeComes, take_faults}
 use Rattle.dm_event_world.specs.inner.Calls.{take_reply}
 use Rattle.relay_printer_commands.specs.Printers.{EndsTake, OnLedger, HasTicket, IsTextOf}
 use Rattle.relay_printer_commands.specs.Printers.EndsTake.{no_ticket, opened as was_opened, not_opened}
@@ -40,8 +39,7 @@ module _ (A : Type 0) (relay : Relay) (place : ℕ) (actor : Actor LedgerView) (
         moments = calling A relay place actor was event (take_reply answer) ∷ restart A relay place actor was ∷ [];
         goods = t.end.goods;
         after = with_printer (restarted relay place (stored_of actor)) place t.end.actor t.end.goods;
-        runs = run_of A relay place actor was new.saved event
-            (Calls take_faults t.stop (TakeComes it ticket)) (take_reply answer) t.end t.acts t.reply_is
+        runs = run_of A relay place actor was new.saved event _ (take_reply answer) t.end t.acts t.reply_is
             (subst (λ (s : Saved). KeepsLedger s t.end.actor) (sym same) (keeps_shown A after t.end.actor file t.shows))
             (λ next goes. inl (
               (still_within A relay place actor was, slice_get_within _ it ticket (still_there it ticket there)),
@@ -62,20 +60,16 @@ module _ (A : Type 0) (relay : Relay) (place : ℕ) (actor : Actor LedgerView) (
         let file : HoldsFile old.saved =
         record { ledger = stored_of actor; sound = keeps.sound; content = keeps.content } in
         called_so left.0 ticket left.1 after answer same
-        (holds_file take_fault.Failed take_fault.Memory take_fault.Save
-        (take_verdict (stored_of actor) ticket) (running old.saved (stored_of actor)) after answer refl
-        keeps.honest file does)
-        (taken_so A left.0 ticket
-        (running old.saved (stored_of actor)) after (stored_of actor) answer refl keeps.honest
+        (holds_file _ _ _ _ (running old.saved (stored_of actor)) after answer refl keeps.honest file does)
+        (taken_so A left.0 ticket (running old.saved (stored_of actor)) after (stored_of actor) answer refl keeps.honest
         (text_range text ticket has is) (shows_opened A old.saved actor keeps) does)
 
     -- a refusal changes nothing
     not_taken : (fault : TakeFault) → (fault ≡ take_fault.Save → ⊥) → TakesTicket before ticket (Err fault) after → Done
     not_taken fault isnt takes =
         let runs : before.is_failed ≡ false = ap (λ (v : PrinterView). v.is_failed) is_open in
-        uncalled A relay place old.streams.input old.saved new.saved actor None None was keeps
-        (same ∙ ap (λ (v : PrinterView). v.saved) (unchanged take_fault.Failed take_fault.Memory take_fault.Save
-        (take_verdict before.ledger ticket) before after fault runs isnt takes)
+        uncalled _ _ _ _ _ _ _ _ _ was keeps
+        (same ∙ ap (λ (v : PrinterView). v.saved) (unchanged _ _ _ _ before after fault runs isnt takes)
         ∙ ap (λ (v : PrinterView). v.saved) is_open) refl refl
 
     by_answer : (answer : Result (Unit {0}) TakeFault) → TakesTicket before ticket answer after →
@@ -86,14 +80,11 @@ module _ (A : Type 0) (relay : Relay) (place : ℕ) (actor : Actor LedgerView) (
 
   take_by : (ends : EndsTake number text old status new) →
       IfSome (ticket_taken ends) (λ ticket. (it : ℕ) × (slice_get relay.tickets it ≡ Some ticket)) → Done
-  take_by (no_ticket has same told) left =
-      uncalled A relay place old.streams.input old.saved new.saved actor None None was keeps same refl refl
-  take_by (not_opened fault has opens same told) left =
-      uncalled A relay place old.streams.input old.saved new.saved actor None None was keeps same refl refl
+  take_by (no_ticket has same told) left = uncalled _ _ _ _ _ _ _ _ _ was keeps same refl refl
+  take_by (not_opened fault has opens same told) left = uncalled _ _ _ _ _ _ _ _ _ was keeps same refl refl
   take_by (was_opened ticket before after answer has is opens takes same told only) left =
       let is_open = opened old.saved actor number before keeps opens in
       by_answer ticket before after has is is_open.1 same answer takes left
 
 pub take_follows : (A : Type 0) → EachTakeIsARun A
-take_follows A relay place actor text number old new status was keeps ends left =
-    take_by A relay place actor text number old new status was keeps ends left
+take_follows = take_by

@@ -47,9 +47,7 @@ holds saved actor keeps honest =
 
 pub ok_of : (ledger : LedgerView) (verdict : Result LedgerView OpenFault) →
     (Ok ledger ≡ verdict) ⊎ ((Ok ledger ≡ Err Device) ⊎ (Ok ledger ≡ Err Memory)) → Ok ledger ≡ verdict
-ok_of ledger verdict (inl is) = is
-ok_of ledger verdict (inr (inl device)) = cc (device)
-ok_of ledger verdict (inr (inr memory)) = cc (memory)
+ok_of ledger verdict answered = grind arith
 
 -- a printer was opened: the number is its own, and it goes on with what is stored
 pub opened : (saved : Saved) (actor : Actor LedgerView) (number : ℕ) (before : PrinterView) → KeepsLedger saved actor →

@@ -9,7 +9,7 @@ use Rattle.dm_event_history.specs.{declared.stop.Stop.Stop, Relay.Running}
 use Rattle.dm_event_history.specs.Steps.{Calls, Ending, GiveComes, MayLackFirst, give_faults}
 use Rattle.dm_event_world.specs.declared.actor.PrinterActor.TheVariants as actors
 use Rattle.dm_event_world.specs.Shows.{ShowsPrinter, left_label}
-use Rattle.dm_event_world.specs.inner.Calls.{EndsSo, Left, ends_early, give_reply, left_ticket}
+use Rattle.dm_event_world.specs.inner.Calls.{ends_early, give_reply, left_ticket}
 use Rattle.dm_event_world.proofs.PrinterEvents.{give_ends}
 use Rattle.std.specs.{Result.result_ok, Option.option_to_list}
 use Rattle.relay_runs.proofs.Plans.{IsMet, IsUnder, fine_printer, under_stop}
@@ -43,11 +43,7 @@ module _ (A : Type 0) (tickets : List TicketView) (to : ℕ) (range : Range) (vi
   give_so : Under → GivenSo A (length tickets) to range stored answer after
   give_so u =
       let all : List TicketView = tickets ++ (if ends_early u.stop then [] else left_ticket answer) in
-      let e : EndsSo ShowsPrinter
-      (MayLackFirst (Calls give_faults u.stop (GiveComes (length tickets) to range)))
-      (λ goods. Left {A = A} [] tickets [] goods [] all []) (Running stored)
-      (give_reply (length tickets) answer) (actors.Running (fine_printer after)) =
-      give_ends {A = A} to range u.stop (fine_printer view) (fine_printer after)
+      let e = give_ends {A = A} to range u.stop (fine_printer view) (fine_printer after)
       (actors.Running (fine_printer view)) (actors.Running (fine_printer after)) answer
       (give_reply (length tickets) answer) (give_reply (length tickets) answer) tickets all refl u.made
       (record { mid = fine_printer after; call = (u.carries, gives.1); new_is = refl }) refl refl
@@ -66,5 +62,4 @@ module _ (A : Type 0) (tickets : List TicketView) (to : ℕ) (range : Range) (vi
       }
 
   pub given_so : GivenSo A (length tickets) to range stored answer after
-  given_so = give_so (under_stop give_fault.Failed give_fault.Memory give_fault.Save
-      (give_verdict view.ledger to range) view after answer runs honest gives.0)
+  given_so = give_so (under_stop _ _ _ _ view after answer runs honest gives.0)

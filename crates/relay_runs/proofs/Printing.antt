@@ -10,7 +10,7 @@ use Rattle.dm_print_ledger.specs.declared.fault.PrintFault.{PrintFault}
 use Rattle.dm_print_ledger.specs.declared.fault.PrintFault.TheVariants as print_fault
 use Rattle.dm_print_ledger.specs.Ledger.{JobView, LedgerView, PrinterView}
 use Rattle.dm_print_ledger.specs.Verdicts.{IsMade, Prints, least, print_verdict}
-use Rattle.dm_event_history.specs.declared.stop.Stop.{Stop}
+use Rattle.dm_event_history.specs.declared.{stop.Stop.Stop, reply.Reply.Reply}
 use Rattle.dm_event_history.specs.declared.stop.Stop.TheVariants as stops
 use Rattle.dm_event_history.specs.declared.reply.Reply.TheVariants as replies
 use Rattle.dm_event_history.specs.declared.reply.Reply.TheVariants.{Printed, PrintRefused}
@@ -20,7 +20,7 @@ use Rattle.dm_append_label.specs.Labels.{PageView}
 use Rattle.dm_event_history.proofs.LedgerFacts.{made_print}
 use Rattle.dm_event_world.specs.{declared.actor.LeftLabel.LeftLabel, Shows.ShowsPrinter, Shows.left_label}
 use Rattle.dm_event_world.specs.declared.actor.PrinterActor.TheVariants as actors
-use Rattle.dm_event_world.specs.inner.Calls.{EndsSo, Left, job_labels, left_labels, most_labels, print_reply}
+use Rattle.dm_event_world.specs.inner.Calls.{Left, job_labels, left_labels, most_labels, print_reply}
 use Rattle.dm_event_world.proofs.PrinterEvents.{few_labels, print_ends}
 use Rattle.relay_runs.specs.Runs.{grids_in, grids_of}
 use Rattle.relay_runs.proofs.{Plans.IsUnder, Plans.fine_printer, Plans.under_stop, Calling.met_ended, Calling.met_reply}
@@ -53,27 +53,35 @@ answered_grids answer = grids_in (result_ok answer)
 
 -- ---- the number that is used
 
--- a print that is answered has used this number
+-- a print that is answered has saved
+print_saved : (A : Type 0) (before id count : ℕ) (document : List ℕ) (size : Size) (scheme : Scheme) (stored : LedgerView)
+    (end : Ending A LedgerView) →
+    MayLackFirst (Calls print_faults stops.None (PrintComes before document size scheme)) (Running stored) end →
+    Printed id before count ≡ end.reply → (next : LedgerView) × (goods : Goods) × (reply : Reply A)
+    × PrintComes before document size scheme stored (Saves next goods reply) × (end.reply ≡ reply) × (end.goods ≡ goods)
+print_saved A before id count document size scheme stored end (inr (Saves next goods reply, comes, end_is)) told =
+    (next, goods, reply, comes, ap (λ (e : Ending A LedgerView). e.reply) end_is,
+      ap (λ (e : Ending A LedgerView). e.goods) end_is)
+print_saved A before id count document size scheme stored end (inl lacks) told =
+    let is : end.reply ≡ replies.Memory = ap (λ (e : Ending A LedgerView). e.reply) lacks in absurd (cc (told, is))
+print_saved A before id count document size scheme stored end (inr (Answers reply, comes, end_is)) told =
+    let is : end.reply ≡ reply = ap (λ (e : Ending A LedgerView). e.reply) end_is in
+    let refused : reply ≡ PrintRefused comes.3.0 = comes.3.2 in absurd (cc (told, is, refused))
+print_saved A before id count document size scheme stored end (inr (LacksMemory, comes, end_is)) told =
+    let is : end.reply ≡ PrintRefused print_fault.Memory = ap (λ (e : Ending A LedgerView). e.reply) end_is in
+    absurd (cc (told, is))
+
+-- and has used this number
 print_used : (A : Type 0) (before id count : ℕ) (document : List ℕ) (size : Size) (scheme : Scheme) (stored : LedgerView)
     (end : Ending A LedgerView) →
     MayLackFirst (Calls print_faults stops.None (PrintComes before document size scheme)) (Running stored) end →
     Printed id before count ≡ end.reply → end.goods.moves ≡ Used id ∷ []
-print_used A before id count document size scheme stored end (inl lacks) told =
-    let is : end.reply ≡ replies.Memory = ap (λ (e : Ending A LedgerView). e.reply) lacks in cc (told, is)
-print_used A before id count document size scheme stored end (inr (Saves next goods reply, comes, end_is)) told =
-    let made = made_print before document size scheme stored next goods reply comes in
-    let is : end.reply ≡ reply = ap (λ (e : Ending A LedgerView). e.reply) end_is in
-    let moves : end.goods.moves ≡ goods.moves = ap (λ (e : Ending A LedgerView). e.goods.moves) end_is in
-    let its : reply ≡ Printed (least stored.free) before (length made.parts) = made.left.reply_is in
-    let same : id ≡ least stored.free = cc (told, is, its) in
-    moves ∙ ap (λ (g : Goods). g.moves) made.left.goods_are ∙ ap (λ (n : ℕ). Used n ∷ []) (sym same)
-print_used A before id count document size scheme stored end (inr (Answers reply, comes, end_is)) told =
-    let is : end.reply ≡ reply = ap (λ (e : Ending A LedgerView). e.reply) end_is in
-    let refused : reply ≡ PrintRefused comes.3.0 = comes.3.2 in
-    cc (told, is, refused)
-print_used A before id count document size scheme stored end (inr (LacksMemory, comes, end_is)) told =
-    let is : end.reply ≡ PrintRefused print_fault.Memory = ap (λ (e : Ending A LedgerView). e.reply) end_is in
-    cc (told, is)
+print_used A before id count document size scheme stored end acts told =
+    let s = print_saved A before id count document size scheme stored end acts told in
+    let made = made_print before document size scheme stored s.0 s.1 s.2 s.3 in
+    let its : s.2 ≡ Printed (least stored.free) before (length made.parts) = made.left.reply_is in
+    let same : least stored.free ≡ id = cc (told, s.4, its) in
+    ap (λ (g : Goods). g.moves) (s.5 ∙ made.left.goods_are) ∙ ap (λ (n : ℕ). Used n ∷ []) same
 
 -- ---- what the labels are cut from
 
@@ -102,26 +110,15 @@ print_cut : (A : Type 0) (before id count : ℕ) (document : List ℕ) (size : S
     MayLackFirst (Calls print_faults stops.None (PrintComes before document size scheme)) (Running stored) end →
     Printed id before count ≡ end.reply → (i : ℕ) (label : Label) → slice_get end.goods.labels i ≡ Some label →
     IsCutFrom id document label
-print_cut A before id count document size scheme stored end (inl lacks) told i label there =
-    let is : end.reply ≡ replies.Memory = ap (λ (e : Ending A LedgerView). e.reply) lacks in absurd (cc (told, is))
-print_cut A before id count document size scheme stored end (inr (Saves next goods reply, comes, end_is)) told i label
-    there =
-    let made = made_print before document size scheme stored next goods reply comes in
-    let is : end.reply ≡ reply = ap (λ (e : Ending A LedgerView). e.reply) end_is in
-    let its : reply ≡ Printed (least stored.free) before (length made.parts) = made.left.reply_is in
-    let same : least stored.free ≡ id = cc (told, is, its) in
-    let labels : end.goods.labels ≡ made.left.labels =
-    ap (λ (e : Ending A LedgerView). e.goods.labels) end_is ∙ ap (λ (g : Goods). g.labels) made.left.goods_are in
+print_cut A before id count document size scheme stored end acts told i label there =
+    let s = print_saved A before id count document size scheme stored end acts told in
+    let made = made_print before document size scheme stored s.0 s.1 s.2 s.3 in
+    let its : s.2 ≡ Printed (least stored.free) before (length made.parts) = made.left.reply_is in
+    let same : least stored.free ≡ id = cc (told, s.4, its) in
+    let labels : end.goods.labels ≡ made.left.labels = ap (λ (g : Goods). g.labels) (s.5 ∙ made.left.goods_are) in
     subst (λ (n : ℕ). IsCutFrom n document label) same
     (labels_cut (cut_of document size scheme made.parts) (least stored.free) 1 made.parts made.left.labels
     made.left.are_labels i label (sym (ap (λ (ls : List Label). slice_get ls i) labels) ∙ there))
-print_cut A before id count document size scheme stored end (inr (Answers reply, comes, end_is)) told i label there =
-    let is : end.reply ≡ reply = ap (λ (e : Ending A LedgerView). e.reply) end_is in
-    let refused : reply ≡ PrintRefused comes.3.0 = comes.3.2 in
-    absurd (cc (told, is, refused))
-print_cut A before id count document size scheme stored end (inr (LacksMemory, comes, end_is)) told i label there =
-    let is : end.reply ≡ PrintRefused print_fault.Memory = ap (λ (e : Ending A LedgerView). e.reply) end_is in
-    absurd (cc (told, is))
 
 -- ---- the call
 
@@ -180,11 +177,7 @@ module _ (A : Type 0) (labels : List Label) (document : List ℕ) (size : Size) 
 
   print_so : Under → PrintedSo A (length labels) document size scheme stored answer after
   print_so u =
-      let e : EndsSo ShowsPrinter
-      (MayLackFirst (Calls print_faults u.stop (PrintComes (length left) document size scheme)))
-      (λ goods. Left left [] [] goods (left ++ job_labels (most_labels u.stop) answer) [] []) (Running stored)
-      (print_reply (length left) answer) (actors.Running (fine_printer after)) =
-      print_ends {A = A} size scheme document u.stop (fine_printer view) (fine_printer after)
+      let e = print_ends {A = A} size scheme document u.stop (fine_printer view) (fine_printer after)
       (actors.Running (fine_printer view)) (actors.Running (fine_printer after)) answer
       (print_reply (length left) answer) (print_reply (length left) answer) left
       (left ++ job_labels (most_labels u.stop) answer) refl u.made
@@ -224,5 +217,4 @@ module _ (A : Type 0) (labels : List Label) (document : List ℕ) (size : Size) 
       }
 
   pub printed_so : PrintedSo A (length labels) document size scheme stored answer after
-  printed_so = print_so (under_stop print_fault.Failed print_fault.Memory print_fault.Save
-      (print_verdict view.ledger (is_some prints.cutting)) view after answer runs honest prints.carries)
+  printed_so = print_so (under_stop _ _ _ _ view after answer runs honest prints.carries)

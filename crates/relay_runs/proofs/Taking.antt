@@ -9,7 +9,7 @@ use Rattle.dm_event_history.specs.{declared.stop.Stop.Stop, Relay.Running}
 use Rattle.dm_event_history.specs.Steps.{Calls, Ending, TakeComes, take_faults}
 use Rattle.dm_event_world.specs.declared.actor.PrinterActor.TheVariants as actors
 use Rattle.dm_event_world.specs.Shows.{ShowsPrinter, left_label}
-use Rattle.dm_event_world.specs.inner.Calls.{EndsSo, Left, take_reply}
+use Rattle.dm_event_world.specs.inner.Calls.{take_reply}
 use Rattle.dm_event_world.proofs.PrinterEvents.{take_ends}
 use Rattle.relay_runs.proofs.{Plans.IsUnder, Plans.fine_printer, Plans.under_stop, Calling.met_ended, Calling.met_reply}
 use Rattle.relay_runs.proofs.Printing.{none_mapped}
@@ -36,10 +36,7 @@ module _ (A : Type 0) (number : ℕ) (ticket : TicketView) (view after : Printer
 
   take_so : Under → TakenSo A number ticket stored answer after
   take_so u =
-      let e : EndsSo ShowsPrinter (Calls take_faults u.stop (TakeComes number ticket))
-      (λ goods. Left {A = A} [] [] [] goods [] [] []) (Running stored)
-      (take_reply answer) (actors.Running (fine_printer after)) =
-      take_ends {A = A} number ticket u.stop (fine_printer view) (fine_printer after)
+      let e = take_ends {A = A} number ticket u.stop (fine_printer view) (fine_printer after)
       (actors.Running (fine_printer view)) (actors.Running (fine_printer after)) answer
       (take_reply answer) (take_reply answer) refl u.made
       (record { mid = fine_printer after; call = u.carries; new_is = refl }) (λ fine. in_range) refl
@@ -57,5 +54,4 @@ module _ (A : Type 0) (number : ℕ) (ticket : TicketView) (view after : Printer
       }
 
   pub taken_so : TakenSo A number ticket stored answer after
-  taken_so = take_so (under_stop take_fault.Failed take_fault.Memory take_fault.Save
-      (take_verdict view.ledger ticket) view after answer runs honest takes)
+  taken_so = take_so (under_stop _ _ _ _ view after answer runs honest takes)
