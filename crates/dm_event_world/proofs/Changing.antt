@@ -284,11 +284,3 @@ desk_steps {A} old exports seen event reply number actor after Acts is was goes 
                   (subst (λ (y : Desk). (actor.capacity ≡ y.room) × ShowsDesk y.room after y.actor) own.2 (fits.0, e.shows))
               | inr there ↦ s.desks d a b there.0 there.1
             ]
-
--- ---- an ending, with other goods
-
-pub lets_as : {A C S : Type 0} (Shown : S → Actor C → Type 0) (Acts : Actor C → Ending A C → Type 0)
-    (Lets Leaves : Goods → Type 0) (shown : Actor C) (reply : Reply A) (new : S) →
-    ((goods : Goods) → Lets goods → Leaves goods) →
-    EndsSo {A = A} Shown Acts Lets shown reply new → EndsSo {A = A} Shown Acts Leaves shown reply new
-lets_as Shown Acts Lets Leaves shown reply new lets e = search arith

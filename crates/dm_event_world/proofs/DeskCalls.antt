@@ -36,7 +36,7 @@ use Rattle.dm_event_world.specs.declared.actor.DeskState.TheVariants as states
 use Rattle.dm_event_world.specs.Shows.{DeskIs, IsReady, ShowsDesk}
 use Rattle.dm_event_world.specs.inner.Calls.{IsMadeUnder, next_save_of, stops_before, EndsEach, EndsSo, Left, state_after, ended_reply, lacks_memory}
 use Rattle.dm_event_world.specs.inner.Desks.{Calling, desk_planned, down_desk}
-use Rattle.dm_event_world.proofs.Endings.{Ends, IsEmpty, TellsMemory, answers_end, lacks_end, empty, finish, lacks_first, none_left, not_first, plain, reaches, stopped_before, unsaved_empty, with_goods}
+use Rattle.dm_event_world.proofs.Endings.{lets_as, made_so, Ends, IsEmpty, TellsMemory, answers_end, lacks_end, empty, finish, lacks_first, none_left, not_first, plain, reaches, stopped_before, unsaved_empty, with_goods}
 
 pub down_shows : {A : Type 0} (room : ℕ) (state : DeskState A) (shown : Actor Documents) → ShowsDesk room state shown →
     ShowsDesk room (down_desk state) (Down (stored_of shown))
@@ -263,8 +263,7 @@ pub stopped_ends : {A : Type 0} (faults : Faults A) (Comes : Documents → Cours
 stopped_ends {A} faults Comes room stop state new view is new_is before shown s =
     subst (λ (a : DeskState A). EndsSo (ShowsDesk room) (Calls faults stop Comes) (NoneLeave A) shown replies.Stopped a)
     (sym (new_is ∙ sym (ap (λ (a : DeskState A). down_desk a) is)))
-    (with_goods (ShowsDesk room) (Calls faults stop Comes) (Calls faults stop Comes) IsEmpty (NoneLeave A) shown
-    replies.Stopped (down_desk state) (λ end acts. acts) (λ goods none. none_left [] [] [] goods none)
+    (lets_as _ _ IsEmpty _ shown _ _ (none_left [] [] [])
     (stopped_before (ShowsDesk room) down_desk (down_shows room) faults Comes state (is_up room state view is) stop shown
     before s))
 
@@ -283,18 +282,11 @@ pub made_ends : {A X : Type 0} (faults : Faults A) (reply : X → Reply A) (fail
     EndsEach (ShowsDesk room) (Calls faults stop Comes) (NoneLeave A) state result new
 made_ends {A} {X} faults reply failed_answer Call Comes room stop failed_told failed_fine made state new view after answer
     told result is under told_is result_is new_is carry shown s =
-    with_goods (ShowsDesk room) (Calls faults stop Comes) (Calls faults stop Comes) IsEmpty (NoneLeave A) shown
-    result new (λ end acts. acts) (λ goods none. none_left [] [] [] goods none)
-    (subst (λ (r : Reply A). EndsSo (ShowsDesk room) (Calls faults stop Comes) IsEmpty shown r new)
-    (sym (result_is ∙ ap (λ (t : Reply A). ended_reply stop t) told_is))
-    (subst (λ (a : DeskState A). EndsSo (ShowsDesk room) (Calls faults stop Comes) IsEmpty shown
-    (ended_reply stop (reply answer)) a) (sym same)
+    made_so (ShowsDesk room) down_desk _ _ stop (reply answer) told result shown _ new (sym told_is) result_is
+    (new_is ∙ ap (λ (v : DeskView). state_after down_desk stop told (states.Running v)) under.new_is)
+    (lets_as _ _ IsEmpty _ shown _ _ (none_left [] [] [])
     (call_ends faults reply failed_answer Call Comes room stop failed_told failed_fine made view under.mid answer under.call
-    (carry under.mid) shown (subst (λ (a : DeskState A). ShowsDesk room a shown) is s))))
-  where
-    same : new ≡ state_after down_desk stop (reply answer) (states.Running (desk_planned under.mid next_save.Fine))
-    same = new_is ∙ ap (λ (t : Reply A). state_after down_desk stop t (states.Running after)) told_is ∙
-        ap (λ (v : DeskView). state_after down_desk stop (reply answer) (states.Running v)) under.new_is
+    (carry under.mid) shown (subst (λ (a : DeskState A). ShowsDesk room a shown) is s)))
 
 -- ---- forgets
 
@@ -444,9 +436,7 @@ pub lacking : {A : Type 0} (room : ℕ) (exports : List (LeftExport A))
 lacking {A} room exports Acts state new view is same shown s =
     subst (λ (a : DeskState A). EndsSo (ShowsDesk room) (MayLackFirst Acts)
     (λ goods. Left {A = A} [] [] exports goods [] [] exports) shown replies.Memory a) same
-    (with_goods (ShowsDesk room) (MayLackFirst Acts) (MayLackFirst Acts) IsEmpty
-    (λ goods. Left {A = A} [] [] exports goods [] [] exports) shown replies.Memory state (λ end acts. acts)
-    (λ goods none. none_left [] [] exports goods none)
+    (lets_as _ _ IsEmpty _ shown _ state (none_left [] [] exports)
     (lacks_first (ShowsDesk room) Acts state (is_up room state view is) shown s))
 
 pub scan_of_flipped : {A : Type 0} (scanned grid : GridView) (room : ℕ) (stop : Stop) (view : DeskView)

@@ -12,44 +12,13 @@ use Rattle.dm_assembly_desk.specs.Documents.{Documents, HoldsFiles, IsEntry, fil
 use Rattle.dm_event_history.specs.declared.reply.Reply.{Reply}
 use Rattle.dm_event_history.specs.declared.reply.Reply.TheVariants as replies
 use Rattle.dm_event_history.specs.Relay.{Actor, Running, Failed, Down, stored_of, Export, Goods, no_goods}
-use Rattle.dm_event_history.specs.Steps.{Ending, Looks, MayLackFirst, Restarts, ending, AskTells, ExportTells, ExportsHeld, ask_reply}
+use Rattle.dm_event_history.specs.Steps.{Looks, MayLackFirst, Restarts, ending, AskTells, ExportTells, ExportsHeld, ask_reply}
 use Rattle.dm_event_world.specs.declared.actor.{DeskState.DeskState, LeftExport.LeftExport}
 use Rattle.dm_event_world.specs.declared.actor.DeskState.TheVariants as desks
 use Rattle.dm_event_world.specs.{Shows.ShowsDesk, Shows.StoresDocuments, inner.Desks.desk_saved}
 use Rattle.dm_event_world.specs.inner.Calls.{EndsEach, EndsSo, Left}
-use Rattle.dm_event_world.proofs.Endings.{IsEmpty, empty, lacks_first, none_left, not_first, with_goods}
+use Rattle.dm_event_world.proofs.Endings.{empty, none_left, not_first, with_goods}
 use Rattle.dm_assembly_desk.proofs.StoredFiles.{only_memory}
-
--- a desk that is down answers so
-pub down_answers : {A : Type 0} (room : ℕ) (Acts : Actor Documents → Ending A Documents → Type 0) →
-    ((stored : Documents) → Acts (Down stored) (ending replies.Down (Down stored) no_goods)) →
-    (exports : List (LeftExport A)) (state : DeskState A) (saved : _) → state ≡ desks.Down saved →
-    EndsEach (ShowsDesk room) Acts (λ goods. Left [] [] exports goods [] [] exports) state replies.Down state
-down_answers {A} room Acts acts exports state saved is shown s =
-    by_shown shown (subst (λ (a : DeskState A). ShowsDesk room a shown) is s) s
-  where
-    by_shown : (shown : Actor Documents) → ShowsDesk {A = A} room (desks.Down saved) shown → ShowsDesk room state shown →
-        EndsSo (ShowsDesk room) Acts (λ goods. Left [] [] exports goods [] [] exports) shown replies.Down state
-    by_shown (Running held) t s = absurd t
-    by_shown (Failed held stored) t s = absurd t
-    by_shown (Down stored) t s = record {
-      end = ending replies.Down (Down stored) no_goods;
-      acts = acts stored;
-      reply_is = refl;
-      shows = s;
-      lets = none_left [] [] exports no_goods empty;
-    }
-
--- memory for an export among the others is refused
-pub lacks_its : {A : Type 0} (room : ℕ) (Acts : Actor Documents → Ending A Documents → Type 0)
-    (exports : List (LeftExport A)) (state : DeskState A) (view : DeskView) → state ≡ desks.Running view →
-    EndsEach (ShowsDesk room) (MayLackFirst Acts) (λ goods. Left [] [] exports goods [] [] exports) state replies.Memory
-    state
-lacks_its {A} room Acts exports state view is shown s =
-    with_goods (ShowsDesk room) (MayLackFirst Acts) (MayLackFirst Acts) IsEmpty _ shown replies.Memory state
-    (λ end acts. acts) (none_left [] [] exports)
-    (lacks_first (ShowsDesk room) Acts state
-    (λ stored down. (subst (λ (a : DeskState A). ShowsDesk room a (Down stored)) is down)) shown s)
 
 -- what is shown answers, and lets these goods out
 pub looks_so : {A : Type 0} (room : ℕ) (Tells : Documents → Reply A → Goods → Type 0) (Q : Goods → Type 0)

@@ -17,7 +17,8 @@ use Rattle.dm_event_world.specs.declared.actor.{LeftLabel.LeftLabel, LeftExport.
 use Rattle.dm_event_world.specs.Shows.{WorldView, AreWithin, Shows, ShowsDesk, ShowsPrinter, left_export, left_label}
 use Rattle.dm_event_world.specs.inner.{Calls.EndsEach, Calls.EndsSo, Calls.Left, Calls.RestartsAs, Events.StepsEach}
 use Rattle.dm_event_world.proofs.Mapped.{get_map, get_map_from}
-use Rattle.dm_event_world.proofs.Changing.{world_of, printer_steps, desk_steps, lets_as, past_map, same_set, left_labels_alone, left_tickets_alone, left_exports_alone, left_none, label_count, export_count}
+use Rattle.dm_event_world.proofs.Endings.{lets_as}
+use Rattle.dm_event_world.proofs.Changing.{world_of, printer_steps, desk_steps, past_map, same_set, left_labels_alone, left_tickets_alone, left_exports_alone, left_none, label_count, export_count}
 
 -- ---- printers
 

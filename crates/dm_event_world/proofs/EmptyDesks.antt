@@ -1,5 +1,5 @@
 -- Desks that are opened on sets that hold nothing, one after another.
-use Rattle.std.proofs.Common.{◌≡◌, ◌<◌, ◌≤◌, ◌+◌, ◌++◌, ◌⊎◌, inl, inr, ℕ, zero, suc, true, List, [], ◌∷◌, Some, length, get_or, slice_get, refl, sym, ◌∙◌, ap, subst, arith}
+use Rattle.std.proofs.Common.{◌≡◌, ◌<◌, ◌≤◌, ◌+◌, ◌++◌, inl, inr, ℕ, true, List, [], ◌∷◌, Some, length, get_or, slice_get, refl, sym, ◌∙◌, ap, subst, arith}
 use Rattle.std.specs.{Prelude.IsTrue, Prelude.option_map, FinMap.get-empty, FinMap.len-empty, Ordering.nat_cmp}
 use Rattle.std.specs.FinMap as map
 use Rattle.std.proofs.lemmas.{List.length-append, Option.slice_get-get_or}
@@ -9,6 +9,7 @@ use Rattle.dm_assembly_desk.specs.Desk.{DeskOpens}
 use Rattle.dm_event_world.specs.declared.actor.{DeskActor.DeskActor, DeskState.DeskState, DeskState.TheVariants.Running}
 use Rattle.dm_event_history.specs.Relay as actors
 use Rattle.dm_event_world.specs.{Shows.IsReady, Shows.ShowsDesk, inner.Desks.AreEmpty}
+use Rattle.dm_event_world.proofs.FreshPrinters.{get_pushed}
 
 -- the desk is empty, and has this room
 abbrev pub IsEmptyDesk : {A : Type 0} → ℕ → DeskState A → Type 0
@@ -63,17 +64,6 @@ pub record AreOpened {A : Type 0} (capacities : List ℕ) (count : ℕ) (desks :
       slice_get capacities desk ≡ Some capacity → slice_get desks desk ≡ Some actor →
       (actor.capacity ≡ capacity) × IsEmptyDesk capacity actor.state
 
--- what is among a list and one more
-among_more : {X : Type 0} (xs : List X) (x y : X) (i : ℕ) → slice_get (xs ++ x ∷ []) i ≡ Some y →
-    (slice_get xs i ≡ Some y) ⊎ ((i ≡ length xs) × (x ≡ y))
-among_more [] x y zero is = inr (refl, (let e : x ≡ y = cc in e))
-among_more [] x y (suc i) is = cc
-among_more (z ∷ zs) x y zero is = inl is
-among_more (z ∷ zs) x y (suc i) is = elim (among_more zs x y i is) [
-  | inl here ↦ inl here
-  | inr last ↦ inr ((let e : i ≡ length zs = last.0 in omega arith), last.1)
-]
-
 pub one_more_opened : {A : Type 0} (capacities : List ℕ) (count capacity : ℕ) (desks all : List (DeskActor A))
     (actor : DeskActor A) → count < length capacities → capacity ≡ get_or capacities count 0 →
     actor.capacity ≡ capacity → IsEmptyDesk capacity actor.state →
@@ -81,7 +71,7 @@ pub one_more_opened : {A : Type 0} (capacities : List ℕ) (count capacity : ℕ
 one_more_opened {A} capacities count capacity desks all actor there is same empty all_is opened =
     subst (λ (l : List (DeskActor A)). AreOpened capacities (count + 1) l) (sym all_is) (record {
       count_is = length-append desks (actor ∷ []) ∙ ap (λ n. n + 1) opened.count_is;
-      each = λ desk other one here at. elim (among_more desks actor one desk at) [
+      each = λ desk other one here at. elim (get_pushed desks actor one desk at) [
         | inl before ↦ opened.each desk other one here before
         | inr last ↦ new desk other one here last.0 last.1
       ];

@@ -137,6 +137,20 @@ pub with_goods : {A C S : Type 0} (Shows : S → Actor C → Type 0) (Acts Other
     EndsSo Shows Acts P shown reply state → EndsSo Shows Others Q shown reply state
 with_goods Shows Acts Others P Q shown reply state acts lets e = search arith
 
+pub lets_as : {A C S : Type 0} (Shown : S → Actor C → Type 0) (Acts : Actor C → Ending A C → Type 0)
+    (Lets Leaves : Goods → Type 0) (shown : Actor C) (reply : Reply A) (new : S) →
+    ((goods : Goods) → Lets goods → Leaves goods) →
+    EndsSo {A = A} Shown Acts Lets shown reply new → EndsSo {A = A} Shown Acts Leaves shown reply new
+lets_as Shown Acts Lets Leaves shown reply new lets e = search arith
+
+-- what was made, and is answered so
+pub made_so : {A C S : Type 0} (Shows : S → Actor C → Type 0) (down : S → S) (Acts : Actor C → Ending A C → Type 0)
+    (Q : Goods → Type 0) (stop : Stop) (told reply result : Reply A) (shown : Actor C) (running new : S) → told ≡ reply →
+    result ≡ ended_reply stop reply → new ≡ state_after down stop reply running →
+    EndsSo Shows Acts Q shown (ended_reply stop told) (state_after down stop told running) →
+    EndsSo Shows Acts Q shown result new
+made_so Shows down Acts Q stop told reply result shown running new told_is result_is new_is e = grind arith
+
 -- where nothing leaves, all is as it was
 pub none_left : {A : Type 0} (labels : List (LeftLabel A)) (tickets : List TicketView) (exports : List (LeftExport A))
     (goods : Goods) → IsEmpty goods → Left labels tickets exports goods labels tickets exports

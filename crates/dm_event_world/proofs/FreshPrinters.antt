@@ -16,7 +16,7 @@ abbrev pub IsFresh : {A : Type 0} → ℕ → Range → PrinterActor A → Type 
 IsFresh number range actor = ShowsPrinter actor (states.Running (opening number range))
 
 -- an element of a list with one more was there, or is that one
-get_pushed : {X : Type 0} (xs : List X) (x y : X) (i : ℕ) → slice_get (xs ++ x ∷ []) i ≡ Some y →
+pub get_pushed : {X : Type 0} (xs : List X) (x y : X) (i : ℕ) → slice_get (xs ++ x ∷ []) i ≡ Some y →
     (slice_get xs i ≡ Some y) ⊎ ((i ≡ length xs) × (x ≡ y))
 get_pushed [] x y zero is = inr (refl, cc)
 get_pushed [] x y (suc i) is = cc

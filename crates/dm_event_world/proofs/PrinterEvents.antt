@@ -27,7 +27,7 @@ use Rattle.dm_event_world.specs.declared.actor.{LeftLabel.LeftLabel, LeftExport.
 use Rattle.dm_event_world.specs.declared.actor.PrinterActor.TheVariants as actors
 use Rattle.dm_event_world.specs.Shows.{ShowsPrinter, StoresLedger, left_export, left_label}
 use Rattle.dm_event_world.specs.inner.Calls.{IsMadeUnder, ends_early, most_labels, next_save_of, stops_before, EndsEach, EndsSo, Left, state_after, ended_reply, lacks_memory, RestartsAs, saved_of, down_printer, give_reply, job_labels, left_labels, left_ticket, planned, print_reply, take_reply}
-use Rattle.dm_event_world.proofs.Endings.{IsEmpty, empty, lacks_first, none_left, not_first, plain, stopped_before, with_goods}
+use Rattle.dm_event_world.proofs.Endings.{lets_as, made_so, IsEmpty, empty, lacks_first, none_left, not_first, plain, stopped_before, with_goods}
 use Rattle.dm_event_world.proofs.PrinterCalls.{Lets, call_ends, down_shows}
 
 -- How many labels a job has.
@@ -76,8 +76,7 @@ pub lacks_its : {A : Type 0} (Acts : Actor LedgerView → Ending A LedgerView �
     EndsEach ShowsPrinter (MayLackFirst Acts) (λ goods. Left labels tickets exports goods labels tickets exports) actor
     replies.Memory (actors.Running view)
 lacks_its {A} Acts labels tickets exports actor view is shown s =
-    with_goods ShowsPrinter (MayLackFirst Acts) (MayLackFirst Acts) IsEmpty _ shown replies.Memory (actors.Running view)
-    (λ end acts. acts) (none_left labels tickets exports)
+    lets_as _ _ IsEmpty _ shown _ _ (none_left labels tickets exports)
     (lacks_first ShowsPrinter Acts (actors.Running view) (not_down A view) shown
     (subst (λ (a : PrinterActor A). ShowsPrinter a shown) is s))
 
@@ -97,14 +96,6 @@ stopped_first {A} faults stop CallComes Acts acts labels tickets exports actor a
     (down_printer (actors.Running view)) (acts shown) (none_left labels tickets exports)
     (stopped_before ShowsPrinter down_printer down_shows faults CallComes (actors.Running view) (not_down A view) stop
     shown before (subst (λ (a : PrinterActor A). ShowsPrinter a shown) is s)))
-
--- it was made, and is answered so
-made_so : {A : Type 0} (Acts : Actor LedgerView → Ending A LedgerView → Type 0) (Q : Goods → Type 0) (stop : Stop)
-    (told reply result : Reply A) (shown : Actor LedgerView) (running new : PrinterActor A) → told ≡ reply →
-    result ≡ ended_reply stop reply → new ≡ state_after down_printer stop reply running →
-    EndsSo ShowsPrinter Acts Q shown (ended_reply stop told) (state_after down_printer stop told running) →
-    EndsSo ShowsPrinter Acts Q shown result new
-made_so {A} Acts Q stop told reply result shown running new told_is result_is new_is e = grind arith
 
 -- nothing leaves under any stop where nothing would
 take_nil : {X : Type 0} (k : ℕ) → (let none : List X = [] in take k none ≡ none)
@@ -145,11 +136,10 @@ pub take_ends : {A : Type 0} (number : ℕ) (ticket : TicketView) (stop : Stop) 
     actor result new
 take_ends {A} number ticket stop view after actor new answer reply result is made under range reply_is result_is new_is
     shown s =
-    made_so (Calls take_faults stop (TakeComes number ticket)) Q stop (told answer) reply result shown
-    (actors.Running (planned under.mid next_save.Fine)) new (same answer ∙ sym reply_is) result_is
+    made_so ShowsPrinter down_printer _ _ stop (take_reply answer) reply result shown _ new (sym reply_is) result_is
     (new_is ∙ ap (λ (v : PrinterView). state_after down_printer stop reply (actors.Running v)) under.new_is)
-    (call_ends take_fault.Failed take_fault.Memory take_fault.Save refuses tell (take_verdict view.ledger ticket)
-    (λ goods r. (goods ≡ took number) × (r ≡ replies.Taken)) (λ done goods. IsEmpty goods) refl refl
+    (call_ends take_fault.Failed take_fault.Memory take_fault.Save replies.TakeRefused (λ done. replies.Taken)
+    (take_verdict view.ledger ticket) (λ goods r. (goods ≡ took number) × (r ≡ replies.Taken)) (λ done goods. IsEmpty goods) refl refl
     (take_told A view.ledger ticket) stop made view under.mid answer under.call
     (λ _. record {
       goods = took number;
@@ -158,28 +148,11 @@ take_ends {A} number ticket stop view after actor new answer reply result is mad
       tells = refl;
       given = λ x at. (refl, record { labels = refl; tickets = refl; exports = refl });
     })
-    (TakeComes number ticket) Q
+    (TakeComes number ticket) _
     (λ fine course comes. (under.call.in_order.sound, range fine, comes))
     (λ fault goods at none. none_left [] [] [] goods none)
     (λ x next goods r at none p. none_left [] [] [] _ (ends_empty take_faults stop next goods r (Running view.ledger) none))
     shown (subst (λ (a : PrinterActor A). ShowsPrinter a shown) is s))
-  where
-    Q : Goods → Type 0
-    Q goods = Left {A = A} [] [] [] goods [] [] []
-
-    refuses : TakeFault → Reply A
-    refuses fault = replies.TakeRefused fault
-
-    tell : Unit {0} → Reply A
-    tell done = replies.Taken
-
-    told : Result (Unit {0}) TakeFault → Reply A
-    told (Ok done) = replies.Taken
-    told (Err fault) = replies.TakeRefused fault
-
-    same : (a : Result (Unit {0}) TakeFault) → told a ≡ take_reply a
-    same (Ok done) = refl
-    same (Err fault) = refl
 
 -- ---- gives
 
@@ -237,12 +210,12 @@ pub give_ends : {A : Type 0} (receiver : ℕ) (range : Range) (stop : Stop) (vie
     (λ goods. Left {A = A} [] tickets [] goods [] all []) actor result new
 give_ends {A} receiver range stop view after actor new answer reply result tickets all is made under reply_is all_is
     result_is new_is shown s =
-    made_so (MayLackFirst (Calls give_faults stop (GiveComes (length tickets) receiver range))) Q stop (told answer) reply
-    result shown (actors.Running (planned under.mid next_save.Fine)) new (same answer ∙ sym reply_is) result_is
+    made_so ShowsPrinter down_printer _ _ stop (give_reply (length tickets) answer) reply result shown _ new (sym reply_is) result_is
     (new_is ∙ ap (λ (v : PrinterView). state_after down_printer stop reply (actors.Running v)) under.new_is)
-    (with_goods ShowsPrinter (Calls give_faults stop (GiveComes (length tickets) receiver range)) _ Q Q shown _ _
+    (with_goods ShowsPrinter _ _ Q Q shown _ _
     (not_first (Calls give_faults stop (GiveComes (length tickets) receiver range)) shown) (λ goods q. q)
-    (call_ends give_fault.Failed give_fault.Memory give_fault.Save refuses tell (give_verdict view.ledger receiver range)
+    (call_ends give_fault.Failed give_fault.Memory give_fault.Save replies.GiveRefused tell
+    (give_verdict view.ledger receiver range)
     (λ goods r. (goods ≡ gave ticket) × (r ≡ replies.Given (length tickets) ticket)) (λ x goods. goods ≡ gave x) refl refl
     (give_told A view.ledger receiver range) stop made view under.mid answer under.call.0
     (λ _. record {
@@ -268,22 +241,11 @@ give_ends {A} receiver range stop view after actor new answer reply result ticke
     Q : Goods → Type 0
     Q goods = Left {A = A} [] tickets [] goods [] all []
 
-    refuses : GiveFault → Reply A
-    refuses fault = replies.GiveRefused fault
-
     tell : TicketView → Reply A
     tell x = replies.Given (length tickets) x
 
     its : (x : TicketView) → answer ≡ Ok x → x ≡ ticket
     its x at = subst (λ (a : Result TicketView GiveFault). IfOk a (λ t. t ≡ ticket)) at under.call.1
-
-    told : Result TicketView GiveFault → Reply A
-    told (Ok x) = tell x
-    told (Err fault) = replies.GiveRefused fault
-
-    same : (a : Result TicketView GiveFault) → told a ≡ give_reply (length tickets) a
-    same (Ok x) = refl
-    same (Err fault) = refl
 
 -- ---- prints
 
@@ -393,9 +355,6 @@ module _ {A : Type 0} (size : Size) (scheme : Scheme) (document : List ℕ) (sto
   abbrev Q : Goods → Type 0
   Q goods = Left labels [] [] goods all [] []
 
-  abbrev refuses : PrintFault → Reply A
-  refuses fault = replies.PrintRefused fault
-
   abbrev printed : ℕ → ℕ → Reply A
   printed id count = replies.Printed id (length labels) count
 
@@ -404,13 +363,6 @@ module _ {A : Type 0} (size : Size) (scheme : Scheme) (document : List ℕ) (sto
 
   abbrev Acts : Actor LedgerView → Ending A LedgerView → Type 0
   Acts = Calls print_faults stop (PrintComes (length labels) document size scheme)
-
-  abbrev told : Result JobView PrintFault → Reply A
-  told (Ok job) = tell job
-  told (Err fault) = replies.PrintRefused fault
-
-  same : (a : Result JobView PrintFault) → told a ≡ print_reply (length labels) a
-  same a = grind arith
 
   by_cutting : (cutting : Option (List ℕ)) →
       (view.is_failed ≡ false → IsCutting size scheme document cutting) →
@@ -421,11 +373,10 @@ module _ {A : Type 0} (size : Size) (scheme : Scheme) (document : List ℕ) (sto
       (answer ≡ Err print_fault.Save → (job : JobView) × IsMade view.ledger size scheme document cutting job) →
       EndsEach ShowsPrinter (MayLackFirst Acts) (λ goods. Left labels [] [] goods all [] []) actor result new
   by_cutting None is_cutting carries made_job lost shown s =
-      made_so (MayLackFirst Acts) Q stop (told answer) reply result shown (actors.Running (planned mid next_save.Fine)) new
-      (same answer ∙ sym reply_is) result_is
+      made_so ShowsPrinter down_printer _ Q stop (print_reply (length labels) answer) reply result shown _ new (sym reply_is) result_is
       (new_is ∙ ap (λ (v : PrinterView). state_after down_printer stop reply (actors.Running v)) after_is)
       (with_goods ShowsPrinter Acts (MayLackFirst Acts) Q Q shown _ _ (not_first Acts shown) (λ goods q. q)
-      (call_ends print_fault.Failed print_fault.Memory print_fault.Save refuses tell (print_verdict view.ledger false)
+      (call_ends print_fault.Failed print_fault.Memory print_fault.Save replies.PrintRefused tell (print_verdict view.ledger false)
       (λ goods r. ⊥) (HaveIts A) refl refl (print_told A view.ledger false) stop made view mid answer carries
       (λ saved. absurd (none saved)) (PrintComes (length labels) document size scheme) Q
       (λ fine course comes. (carries.in_order.sound, None, is_cutting fine, comes))
@@ -440,11 +391,10 @@ module _ {A : Type 0} (size : Size) (scheme : Scheme) (document : List ℕ) (sto
           subst (λ (a : Result JobView PrintFault). IfOk a (IsMade view.ledger size scheme document None)) x.1 made_job
       none (inr at) = (lost at).1
   by_cutting (Some ends_at) is_cutting carries made_job lost shown s =
-      made_so (MayLackFirst Acts) Q stop (told answer) reply result shown (actors.Running (planned mid next_save.Fine)) new
-      (same answer ∙ sym reply_is) result_is
+      made_so ShowsPrinter down_printer _ Q stop (print_reply (length labels) answer) reply result shown _ new (sym reply_is) result_is
       (new_is ∙ ap (λ (v : PrinterView). state_after down_printer stop reply (actors.Running v)) after_is)
       (with_goods ShowsPrinter Acts (MayLackFirst Acts) Q Q shown _ _ (not_first Acts shown) (λ goods q. q)
-      (call_ends print_fault.Failed print_fault.Memory print_fault.Save refuses tell (print_verdict view.ledger true)
+      (call_ends print_fault.Failed print_fault.Memory print_fault.Save replies.PrintRefused tell (print_verdict view.ledger true)
       (PrintLeaves (length labels) cut id) (HaveIts A) refl refl (print_told A view.ledger true) stop made view mid answer
       carries lets (PrintComes (length labels) document size scheme) Q
       (λ fine course comes. (

@@ -1,5 +1,6 @@
 -- Runs of worlds: one event more at their end, and the headline.
-use Rattle.std.proofs.Common.{◌≡◌, ◌<◌, ◌≤◌, ℕ, zero, suc, Some, List, [], ◌∷◌, ◌++◌, length, map, slice_get, take, refl, sym, ap, subst, arith}
+use Rattle.std.proofs.Common.{◌≡◌, ◌<◌, ◌≤◌, ℕ, Some, List, [], ◌∷◌, ◌++◌, length, map, slice_get, take, refl, sym, subst}
+use Rattle.std.proofs.lemmas.List.{take_all}
 use Rattle.dm_finder_frame.specs.Frame.{flipped}
 use Rattle.dm_symbol.specs.Correction.{IsNear}
 use Rattle.dm_print_ledger.specs.declared.range.Range.{Range}
@@ -31,16 +32,10 @@ runs_more old mid new [] (r ∷ all) event reply runs steps = absurd runs
 runs_more old mid new (e ∷ events) [] event reply runs steps = absurd runs
 
 -- all events are those up to the last
-take_whole : {X : Type 0} (n : ℕ) (xs : List X) → length xs ≤ n → take n xs ≡ xs
-take_whole zero [] most = refl
-take_whole zero (x ∷ xs) most = absurd (omega arith)
-take_whole (suc n) [] most = refl
-take_whole {X} (suc n) (x ∷ xs) most = ap (λ (ys : List X). x ∷ ys) (take_whole n xs (omega arith))
-
 pub runs_all : {A : Type 0} (old new : WorldView A) (n : ℕ) (events : List (Event A)) (all : List (Reply A)) →
     length events ≤ n → Goes old (take n events) all new → Goes old events all new
 runs_all {A} old new n events all most runs =
-    subst (λ (es : List (Event A)). Goes old es all new) (take_whole n events most) runs
+    subst (λ (es : List (Event A)). Goes old es all new) (take_all n events most) runs
 
 -- a world that goes on by each event goes on by all
 pub all_go : {A : Type 0} (old new : WorldView A) (events : List (Event A)) (replies : List (Reply A)) →

@@ -59,9 +59,14 @@ print_saved : (A : Type 0) (before id count : ℕ) (document : List ℕ) (size :
     MayLackFirst (Calls print_faults stops.None (PrintComes before document size scheme)) (Running stored) end →
     Printed id before count ≡ end.reply → (next : LedgerView) × (goods : Goods) × (reply : Reply A)
     × PrintComes before document size scheme stored (Saves next goods reply) × (end.reply ≡ reply) × (end.goods ≡ goods)
-print_saved A before id count document size scheme stored end (inr (Saves next goods reply, comes, end_is)) told =
-    (next, goods, reply, comes, ap (λ (e : Ending A LedgerView). e.reply) end_is,
-      ap (λ (e : Ending A LedgerView). e.goods) end_is)
+print_saved A before id count document size scheme stored end (inr (Saves next goods reply, comes, end_is)) told = (
+  next,
+  goods,
+  reply,
+  comes,
+  ap (λ (e : Ending A LedgerView). e.reply) end_is,
+  ap (λ (e : Ending A LedgerView). e.goods) end_is,
+)
 print_saved A before id count document size scheme stored end (inl lacks) told =
     let is : end.reply ≡ replies.Memory = ap (λ (e : Ending A LedgerView). e.reply) lacks in absurd (cc (told, is))
 print_saved A before id count document size scheme stored end (inr (Answers reply, comes, end_is)) told =

@@ -1,10 +1,10 @@
 use Rattle.std.proofs.Common.{Ok, Err, Vec, ℕ, refl}
-use Rattle.dm_event_world.proofs.DeskLooks.{asked, down_answers, given_so, refused_so}
+use Rattle.dm_event_world.proofs.{DeskCalls.down_ends, DeskLooks.asked, DeskLooks.given_so, DeskLooks.refused_so}
 use Rattle.dm_event_world.proofs.desk_act.ask.Goals as goal
 
 pub returns-in_default : goal.returns-in_default
 returns-in_default g c = record {
-  ends = λ room. down_answers room _ (λ stored. refl) _ c.args.state.now c.in_default.field-0 c.in_default.is;
+  ends = λ room. down_ends room _ _ (λ stored. refl) c.args.state.now c.in_default.field-0 c.in_default.is;
 }
 
 pub returns-in-Ok : goal.returns-in-Ok

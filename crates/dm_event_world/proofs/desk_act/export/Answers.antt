@@ -1,18 +1,18 @@
 use Rattle.std.proofs.Common.{◌≡◌, ◌++◌, ◌∷◌, [], Ok, Option, Vec, ℕ, length, refl, sym, subst, ◌∙◌, arith}
 use Rattle.dm_assembly_desk.specs.{Desk.Exports, Documents.Pages}
 use Rattle.dm_event_history.specs.Steps.{Looks, ExportTells}
-use Rattle.dm_event_world.proofs.DeskLooks.{down_answers, exported, lacks_its, no_bytes, not_held}
+use Rattle.dm_event_world.proofs.{DeskCalls.down_ends, DeskCalls.lacking, DeskLooks.exported, DeskLooks.no_bytes, DeskLooks.not_held}
 use Rattle.dm_event_world.proofs.desk_act.export.Goals as goal
 
 pub returns-in_default : goal.returns-in_default
 returns-in_default g c = record {
-  ends = λ room. down_answers room _ (λ stored. refl) _ c.args.state.now c.in_default.field-0 c.in_default.is;
+  ends = λ room. down_ends room _ _ (λ stored. refl) c.args.state.now c.in_default.field-0 c.in_default.is;
 }
 
 pub returns-then-is_err : goal.returns-then-is_err
 returns-then-is_err g c = record {
   ends = λ room. rw c.reserve.ensures.items
-      (lacks_its room (Looks (ExportTells (length c.args.exports.now.items) c.args.id)) _ _ _ c.in-Running.is);
+      (lacking room _ (Looks (ExportTells (length c.args.exports.now.items) c.args.id)) _ _ _ c.in-Running.is refl);
 }
 
 pub returns-in_default-pages : goal.returns-in_default-pages
