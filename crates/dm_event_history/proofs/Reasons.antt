@@ -125,7 +125,8 @@ each_step_is_refused_so A old new event reply printed step = record {
       no_parts size scheme document r.held r.parts r.cut r.verdict;
 }
   where
-    by_save : Step old event reply new → failed_after reply false ≡ true → (kept : Kept) × (stop_of event ≡ Some (SaveFault kept))
+    by_save : Step old event reply new → failed_after reply false ≡ true →
+        (kept : Kept) × (stop_of event ≡ Some (SaveFault kept))
     by_save (inl acts) save = acts_fail old new event reply acts.1 save
     by_save (inr none) save = never _ (ap (λ (r : Reply A). failed_after r false) none.1) save
 

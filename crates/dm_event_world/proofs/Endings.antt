@@ -145,8 +145,8 @@ lets_as Shown Acts Lets Leaves shown reply new lets e = search arith
 
 -- what was made, and is answered so
 pub made_so : {A C S : Type 0} (Shows : S → Actor C → Type 0) (down : S → S) (Acts : Actor C → Ending A C → Type 0)
-    (Q : Goods → Type 0) (stop : Stop) (told reply result : Reply A) (shown : Actor C) (running new : S) → told ≡ reply →
-    result ≡ ended_reply stop reply → new ≡ state_after down stop reply running →
+    (Q : Goods → Type 0) (stop : Stop) (told reply result : Reply A) (shown : Actor C) (running new : S) →
+    told ≡ reply → result ≡ ended_reply stop reply → new ≡ state_after down stop reply running →
     EndsSo Shows Acts Q shown (ended_reply stop told) (state_after down stop told running) →
     EndsSo Shows Acts Q shown result new
 made_so Shows down Acts Q stop told reply result shown running new told_is result_is new_is e = grind arith

@@ -139,7 +139,8 @@ take_ends {A} number ticket stop view after actor new answer reply result is mad
     made_so ShowsPrinter down_printer _ _ stop (take_reply answer) reply result shown _ new (sym reply_is) result_is
     (new_is ∙ ap (λ (v : PrinterView). state_after down_printer stop reply (actors.Running v)) under.new_is)
     (call_ends take_fault.Failed take_fault.Memory take_fault.Save replies.TakeRefused (λ done. replies.Taken)
-    (take_verdict view.ledger ticket) (λ goods r. (goods ≡ took number) × (r ≡ replies.Taken)) (λ done goods. IsEmpty goods) refl refl
+    (take_verdict view.ledger ticket) (λ goods r. (goods ≡ took number) × (r ≡ replies.Taken))
+    (λ done goods. IsEmpty goods) refl refl
     (take_told A view.ledger ticket) stop made view under.mid answer under.call
     (λ _. record {
       goods = took number;
@@ -210,7 +211,8 @@ pub give_ends : {A : Type 0} (receiver : ℕ) (range : Range) (stop : Stop) (vie
     (λ goods. Left {A = A} [] tickets [] goods [] all []) actor result new
 give_ends {A} receiver range stop view after actor new answer reply result tickets all is made under reply_is all_is
     result_is new_is shown s =
-    made_so ShowsPrinter down_printer _ _ stop (give_reply (length tickets) answer) reply result shown _ new (sym reply_is) result_is
+    made_so ShowsPrinter down_printer _ _ stop (give_reply (length tickets) answer) reply result shown _ new
+    (sym reply_is) result_is
     (new_is ∙ ap (λ (v : PrinterView). state_after down_printer stop reply (actors.Running v)) under.new_is)
     (with_goods ShowsPrinter _ _ Q Q shown _ _
     (not_first (Calls give_faults stop (GiveComes (length tickets) receiver range)) shown) (λ goods q. q)
@@ -373,10 +375,12 @@ module _ {A : Type 0} (size : Size) (scheme : Scheme) (document : List ℕ) (sto
       (answer ≡ Err print_fault.Save → (job : JobView) × IsMade view.ledger size scheme document cutting job) →
       EndsEach ShowsPrinter (MayLackFirst Acts) (λ goods. Left labels [] [] goods all [] []) actor result new
   by_cutting None is_cutting carries made_job lost shown s =
-      made_so ShowsPrinter down_printer _ Q stop (print_reply (length labels) answer) reply result shown _ new (sym reply_is) result_is
+      made_so ShowsPrinter down_printer _ Q stop (print_reply (length labels) answer) reply result shown _ new
+      (sym reply_is) result_is
       (new_is ∙ ap (λ (v : PrinterView). state_after down_printer stop reply (actors.Running v)) after_is)
       (with_goods ShowsPrinter Acts (MayLackFirst Acts) Q Q shown _ _ (not_first Acts shown) (λ goods q. q)
-      (call_ends print_fault.Failed print_fault.Memory print_fault.Save replies.PrintRefused tell (print_verdict view.ledger false)
+      (call_ends print_fault.Failed print_fault.Memory print_fault.Save replies.PrintRefused tell
+      (print_verdict view.ledger false)
       (λ goods r. ⊥) (HaveIts A) refl refl (print_told A view.ledger false) stop made view mid answer carries
       (λ saved. absurd (none saved)) (PrintComes (length labels) document size scheme) Q
       (λ fine course comes. (carries.in_order.sound, None, is_cutting fine, comes))
@@ -391,10 +395,12 @@ module _ {A : Type 0} (size : Size) (scheme : Scheme) (document : List ℕ) (sto
           subst (λ (a : Result JobView PrintFault). IfOk a (IsMade view.ledger size scheme document None)) x.1 made_job
       none (inr at) = (lost at).1
   by_cutting (Some ends_at) is_cutting carries made_job lost shown s =
-      made_so ShowsPrinter down_printer _ Q stop (print_reply (length labels) answer) reply result shown _ new (sym reply_is) result_is
+      made_so ShowsPrinter down_printer _ Q stop (print_reply (length labels) answer) reply result shown _ new
+      (sym reply_is) result_is
       (new_is ∙ ap (λ (v : PrinterView). state_after down_printer stop reply (actors.Running v)) after_is)
       (with_goods ShowsPrinter Acts (MayLackFirst Acts) Q Q shown _ _ (not_first Acts shown) (λ goods q. q)
-      (call_ends print_fault.Failed print_fault.Memory print_fault.Save replies.PrintRefused tell (print_verdict view.ledger true)
+      (call_ends print_fault.Failed print_fault.Memory print_fault.Save replies.PrintRefused tell
+      (print_verdict view.ledger true)
       (PrintLeaves (length labels) cut id) (HaveIts A) refl refl (print_told A view.ledger true) stop made view mid answer
       carries lets (PrintComes (length labels) document size scheme) Q
       (λ fine course comes. (

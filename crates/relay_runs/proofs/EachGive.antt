@@ -69,5 +69,7 @@ give_last_follows A relay place actor to count number old new status was keeps
     give_follows A relay place actor to range number old new status was keeps
     (was_opened before after answer opens gives same told only)
 give_last_follows A relay place actor to count number old new status was keeps
-    (too_few before most put opens longest less same told notes reads) = uncalled _ _ _ _ _ _ _ _ _ was keeps same refl refl
-give_last_follows A relay place actor to count number old new status was keeps (unopened fault opens same told) = uncalled _ _ _ _ _ _ _ _ _ was keeps same refl refl
+    (too_few before most put opens longest less same told notes reads) =
+    uncalled _ _ _ _ _ _ _ _ _ was keeps same refl refl
+give_last_follows A relay place actor to count number old new status was keeps (unopened fault opens same told) =
+    uncalled _ _ _ _ _ _ _ _ _ was keeps same refl refl

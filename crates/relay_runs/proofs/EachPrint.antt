@@ -74,7 +74,8 @@ module _ (A : Type 0) (relay : Relay) (place : ℕ) (actor : Actor LedgerView) (
       ReadsDocument old.streams.input rest document → (prints : PrintsDocument number size scheme document
       (record old { streams = record old.streams { input = rest } }) status new) →
       FollowsRun A relay place old.streams.input new.saved (job_printed prints) None
-  by_document size document rest is_read (not_opened fault opens same told) = uncalled _ _ _ _ _ _ _ _ _ was keeps same refl refl
+  by_document size document rest is_read (not_opened fault opens same told) =
+      uncalled _ _ _ _ _ _ _ _ _ was keeps same refl refl
   by_document size document rest is_read (was_opened before after answer opens prints same told) =
       let is_open = opened old.saved actor number before keeps opens in
       let does = subst (λ (v : PrinterView). Prints v size scheme document answer after) is_open.1 prints in

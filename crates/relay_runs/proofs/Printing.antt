@@ -54,8 +54,8 @@ answered_grids answer = grids_in (result_ok answer)
 -- ---- the number that is used
 
 -- a print that is answered has saved
-print_saved : (A : Type 0) (before id count : ℕ) (document : List ℕ) (size : Size) (scheme : Scheme) (stored : LedgerView)
-    (end : Ending A LedgerView) →
+print_saved : (A : Type 0) (before id count : ℕ) (document : List ℕ) (size : Size) (scheme : Scheme)
+    (stored : LedgerView) (end : Ending A LedgerView) →
     MayLackFirst (Calls print_faults stops.None (PrintComes before document size scheme)) (Running stored) end →
     Printed id before count ≡ end.reply → (next : LedgerView) × (goods : Goods) × (reply : Reply A)
     × PrintComes before document size scheme stored (Saves next goods reply) × (end.reply ≡ reply) × (end.goods ≡ goods)
@@ -77,8 +77,8 @@ print_saved A before id count document size scheme stored end (inr (LacksMemory,
     absurd (cc (told, is))
 
 -- and has used this number
-print_used : (A : Type 0) (before id count : ℕ) (document : List ℕ) (size : Size) (scheme : Scheme) (stored : LedgerView)
-    (end : Ending A LedgerView) →
+print_used : (A : Type 0) (before id count : ℕ) (document : List ℕ) (size : Size) (scheme : Scheme)
+    (stored : LedgerView) (end : Ending A LedgerView) →
     MayLackFirst (Calls print_faults stops.None (PrintComes before document size scheme)) (Running stored) end →
     Printed id before count ≡ end.reply → end.goods.moves ≡ Used id ∷ []
 print_used A before id count document size scheme stored end acts told =

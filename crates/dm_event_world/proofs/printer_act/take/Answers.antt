@@ -11,7 +11,8 @@ returns-in_default g c = record {
 pub returns-then-is_stopped_before : goal.returns-then-is_stopped_before
 returns-then-is_stopped_before g c = record {
   ends = λ number. stopped_first take_faults c.args.stop (TakeComes number c.args.ticket.now) _ (λ shown end calls. calls)
-      [] [] [] _ _ _ c.in-Running.is (sym c.is_stopped_before.ensures ∙ c.if-is_stopped_before.true) c.take_down.ensures;
+      [] [] [] _ _ _ c.in-Running.is (sym c.is_stopped_before.ensures ∙ c.if-is_stopped_before.true)
+      c.take_down.ensures;
 }
 
 pub returns : goal.returns

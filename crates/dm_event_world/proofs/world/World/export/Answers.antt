@@ -10,4 +10,5 @@ returns-in_default g c =
 
 pub returns : goal.returns
 returns g c = exported _ _ _ _ _ _ _ c.self.view_is
-    (read_by _ _ _ _ c.deref.ensures.value c.in-Some.ensures.lookup.1 c.in-Some.ensures.lookup.3.0) c.export.ensures.ends
+    (read_by _ _ _ _ c.deref.ensures.value c.in-Some.ensures.lookup.1 c.in-Some.ensures.lookup.3.0)
+    c.export.ensures.ends

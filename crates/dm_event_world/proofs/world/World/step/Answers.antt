@@ -19,13 +19,16 @@ step_stands {A} old new event reply steps ranges rooms h s =
     }
 
 pub returns-in-Print : goal.returns-in-Print
-returns-in-Print g c = record { stands = step_stands _ _ _ _ (rw (c.in-Print.is, ← c.as_slice.ensures) c.print.ensures) }
+returns-in-Print g c =
+    record { stands = step_stands _ _ _ _ (rw (c.in-Print.is, ← c.as_slice.ensures) c.print.ensures) }
 
 pub returns-in-Scan : goal.returns-in-Scan
-returns-in-Scan g c = record { stands = step_stands _ _ _ _ (rw (c.in-Scan.is, ← c.as_slice-in-Scan.ensures) c.scan.ensures) }
+returns-in-Scan g c =
+    record { stands = step_stands _ _ _ _ (rw (c.in-Scan.is, ← c.as_slice-in-Scan.ensures) c.scan.ensures) }
 
 pub returns-in-RestartPrinter : goal.returns-in-RestartPrinter
-returns-in-RestartPrinter g c = record { stands = step_stands _ _ _ _ (rw c.in-RestartPrinter.is c.restart_printer.ensures) }
+returns-in-RestartPrinter g c =
+    record { stands = step_stands _ _ _ _ (rw c.in-RestartPrinter.is c.restart_printer.ensures) }
 
 pub returns-in-RestartDesk : goal.returns-in-RestartDesk
 returns-in-RestartDesk g c = record { stands = step_stands _ _ _ _ (rw c.in-RestartDesk.is c.restart_desk.ensures) }

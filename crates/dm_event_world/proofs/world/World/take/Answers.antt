@@ -9,7 +9,8 @@ returns-in_default g c =
     names_none _ _ _ c.self.view_is (λ relay s named. past_end _ _ _ s.tickets past named.1)
 
 pub returns-in_default-get_mut : goal.returns-in_default-get_mut
-returns-in_default-get_mut g c = names_none_still _ _ _ c.self.view_is (λ relay s named. no_printer _ relay c.args.printer
+returns-in_default-get_mut g c = names_none_still _ _ _ c.self.view_is
+    (λ relay s named. no_printer _ relay c.args.printer
     (λ there. (let no = c.in_default-get_mut.ensures.variant.1 (omega (arith, c.self.inside.printers.ok.0)) in cc)) s named.0)
 
 pub returns : goal.returns
