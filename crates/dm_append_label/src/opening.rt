@@ -62,7 +62,7 @@ pub fn page_of<A: Allocator + Copy>(alloc: A, symbol: &Corrected) -> Result<Page
 pub fn open_label<A: Allocator + Copy>(alloc: A, grid: &Grid<A>) -> Result<Opened<A>, LabelFault>
     ensures { LabelOpens grid.now result }
 {
-    let symbol = correct_grid(grid)?;
+    let symbol = correct_grid(&grid.lend())?;
     let page = page_of(alloc, &symbol)?;
     Ok(Opened {
         page,

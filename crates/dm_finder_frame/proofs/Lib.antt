@@ -6,3 +6,4 @@ pub mod RowSteps
 pub mod WrongCounts
 pub mod FlippedModules
 pub mod Flips
+pub mod LentRows

@@ -1,6 +1,7 @@
 //! A symbol as a grid of modules.
 
-ghost use Rattle.std.specs.Prelude.{◌≡◌, ◌<◌, ◌+◌, ◌*◌, All, IfOk, length, slice_range};
+ghost use Rattle.std.specs.Prelude.{◌≡◌, ◌<◌, ◌≤◌, ◌+◌, ◌*◌, ◌/◌, ◌%◌, All, IfOk, false, length, map, slice_index_or, slice_range};
+ghost use Rattle.std.specs.List.{range_with_len};
 ghost use Rattle.dm_size.specs.Sizes as sizes;
 ghost use Rattle.dm_finder_frame.specs.Frame.{GridView, IsInGrid, IsWholeGrid, flipped, grid_module_at, grid_with_flipped, MakesGrid};
 
@@ -86,16 +87,11 @@ impl<A: Allocator> Grid<A> {
         self.modules[self.index(row, column)]
     }
 
-    /// The modules of a row, from 0, from left to right.
-    pub fn row(&self, row: u16) -> &[bool]
-        requires { row < sizes.side self.now.size }
-        ensures modules { result.now ≡
-            let side = sizes.side self.now.size in slice_range self.now.modules (row * side) ((row + 1) * side) }
-        ensures whole { IsWholeGrid self.now }
+    /// The grid, lent.
+    pub fn lend(&self) -> LentGrid<'_>
+        ensures { result ≡ self.now }
     {
-        let side = self.side() as usize;
-        let start = row as usize * side;
-        &self.modules[start..start + side]
+        LentGrid::from_rows(self.size, &self.modules, self.size.side() as usize)
     }
 
     /// A copy of the grid, in memory of this allocator.
@@ -132,5 +128,79 @@ impl<A: Allocator> Grid<A> {
             grid.flip(*row, *column);
         }
         Ok(grid)
+    }
+}
+
+/// A grid whose modules stand row by row in those that somebody else holds, as in the pixels of an image.
+#[derive(Drop)]
+pub struct LentGrid<'a> {
+    size: Size,
+    modules: &'a [bool],
+    // How far the beginnings of two rows are apart.
+    width: usize,
+}
+
+impl<'a> Model for LentGrid<'a> {
+    ghost Value = { GridView };
+
+    ghost view = { λ g. let n = sizes.side g.size in record {
+      size = g.size;
+      modules =
+          map (λ i. slice_index_or g.modules.now (i / n * g.width + i % n) false) (range_with_len 0 (n * n));
+    } };
+
+    ghost invariant = { λ g. (sizes.side g.size ≤ g.width) × (sizes.side g.size * g.width ≤ length g.modules.now) };
+}
+
+impl<'a> LentGrid<'a> {
+    /// The grid whose rows begin this many modules after one another, at the first of those that are handed in.
+    pub fn from_rows(size: Size, modules: &'a [bool], width: usize) -> LentGrid<'a>
+        requires wide { sizes.side size ≤ width }
+        requires high { sizes.side size * width ≤ length modules.now }
+        ensures { let n = sizes.side size in result ≡ record {
+          size = size;
+          modules =
+              map (λ i. slice_index_or modules.now (i / n * width + i % n) false) (range_with_len 0 (n * n));
+        } }
+    {
+        LentGrid {
+            size,
+            modules,
+            width,
+        }
+    }
+
+    /// The size of the symbol.
+    pub fn size(&self) -> Size
+        ensures { result ≡ self.now.size }
+    {
+        self.size
+    }
+
+    /// The modules of a row, from 0, from left to right.
+    pub fn row(&self, row: u16) -> &'a [bool]
+        requires { row < sizes.side self.now.size }
+        ensures modules { result.now ≡
+            let side = sizes.side self.now.size in slice_range self.now.modules (row * side) ((row + 1) * side) }
+        ensures count { length result.now ≡ sizes.side self.now.size }
+        ensures whole { IsWholeGrid self.now }
+    {
+        let start = row as usize * self.width;
+        &self.modules[start..start + self.size.side() as usize]
+    }
+
+    /// A copy, in memory of this allocator.
+    ///
+    /// # Errors
+    /// Where the allocator refuses its memory.
+    pub fn copy<A: Allocator>(&self, alloc: A) -> Result<Grid<A>, AllocError>
+        ensures { IfOk result (λ grid. grid ≡ self.now) }
+    {
+        let side = self.size.side();
+        let mut modules = Vec::with_capacity(alloc, side as usize * side as usize)?;
+        for row in 0..side {
+            modules.extend_from_slice(self.row(row))?;
+        }
+        Ok(Grid::from_modules(self.size, modules))
     }
 }

@@ -17,6 +17,6 @@ mod unframing;
 
 pub use fault::{FrameFault, GridFault, WrongFrame};
 pub use framing::frame;
-pub use grid::Grid;
+pub use grid::{Grid, LentGrid};
 pub use region::cell_of;
 pub use unframing::{Framed, MOST_MODULES, modules_of, unframe, wrong_modules};

@@ -6,7 +6,7 @@ ghost use Rattle.dm_finder_frame.specs.Frame.{matrix_module, matrix_of_grid, wro
 ghost use Rattle.dm_finder_frame.specs.inner.Filled.{first_modules, wrong_among};
 
 use crate::fault::{FrameFault, WrongFrame};
-use crate::grid::Grid;
+use crate::grid::{Grid, LentGrid};
 use arrayvec::ArrayVec;
 use dm_size::{Matrix, Size};
 use std::alloc::{Allocator, Global};
@@ -43,7 +43,7 @@ fn is_dark_at_end(is_last: bool, column: u16) -> bool
 }
 
 // How many modules of the finder patterns are wrong in the first or the last row of framed regions.
-fn wrong_in_row<A: Allocator>(grid: &Grid<A>, row: u16, is_last: bool) -> u16
+fn wrong_in_row(grid: &LentGrid, row: u16, is_last: bool) -> u16
     requires row_in { row < side grid.now.size }
     requires at_end { let h = region grid.now.size in (row % (h + 2) ≡ 0) ⊎ (row % (h + 2) ≡ h + 1) }
     requires which { let h = region grid.now.size in is_last ≡ (row % (h + 2) == h + 1) }
@@ -52,7 +52,7 @@ fn wrong_in_row<A: Allocator>(grid: &Grid<A>, row: u16, is_last: bool) -> u16
 {
     let line = grid.row(row);
     let mut wrong = 0;
-    for column in 0..grid.side() {
+    for column in 0..grid.size().side() {
         let wanted = is_dark_at_end(is_last, column);
         wrong += u16::from(differs(line[column as usize], wanted));
     }
@@ -61,7 +61,7 @@ fn wrong_in_row<A: Allocator>(grid: &Grid<A>, row: u16, is_last: bool) -> u16
 
 // The same of a row inside of its framed regions, where only the first and the last column of each region can be wrong.
 // There are `across` regions side by side, each `framed` wide with its frame.
-fn wrong_at_sides<A: Allocator>(grid: &Grid<A>, row: u16, framed: u16, across: u16) -> u16
+fn wrong_at_sides(grid: &LentGrid, row: u16, framed: u16, across: u16) -> u16
     requires row_in { row < side grid.now.size }
     requires inside { let h = region grid.now.size in (1 ≤ row % (h + 2)) × (row % (h + 2) ≤ h) }
     requires framed { framed ≡ region grid.now.size + 2 }
@@ -82,7 +82,7 @@ fn wrong_at_sides<A: Allocator>(grid: &Grid<A>, row: u16, framed: u16, across: u
 }
 
 // The same of any row, given its place in its framed regions.
-fn wrong_of_row<A: Allocator>(grid: &Grid<A>, row: u16, place: u16, framed: u16, across: u16) -> u16
+fn wrong_of_row(grid: &LentGrid, row: u16, place: u16, framed: u16, across: u16) -> u16
     requires row_in { row < side grid.now.size }
     requires place { place ≡ row % (region grid.now.size + 2) }
     requires framed { framed ≡ region grid.now.size + 2 }
@@ -98,7 +98,7 @@ fn wrong_of_row<A: Allocator>(grid: &Grid<A>, row: u16, place: u16, framed: u16,
 }
 
 // How many modules of a grid's finder patterns are wrong. The place of each row is counted, since to divide costs more.
-fn wrong_count<A: Allocator>(grid: &Grid<A>) -> u16
+fn wrong_count(grid: &LentGrid) -> u16
     ensures { result ≡ wrong_frame_modules grid.now }
 {
     let size = grid.size();
@@ -106,7 +106,7 @@ fn wrong_count<A: Allocator>(grid: &Grid<A>) -> u16
     let across = size.across();
     let mut wrong = 0;
     let mut place = 0;
-    for row in 0..grid.side() {
+    for row in 0..size.side() {
         wrong += wrong_of_row(grid, row, place, framed, across);
         place = if place == framed - 1 { 0 } else { place + 1 };
     }
@@ -114,7 +114,7 @@ fn wrong_count<A: Allocator>(grid: &Grid<A>) -> u16
 }
 
 // Adds a row of the mapping matrix, from the grid.
-fn push_row<A: Allocator>(modules: &mut ArrayVec<bool, MOST_MODULES>, grid: &Grid<A>, row: u16)
+fn push_row(modules: &mut ArrayVec<bool, MOST_MODULES>, grid: &LentGrid, row: u16)
     requires row_in { row < mapping grid.now.size }
     requires above { let n = mapping grid.now.size in
         modules.old.items ≡ first_modules n (matrix_module grid.now) (row * n) }
@@ -135,7 +135,7 @@ fn push_row<A: Allocator>(modules: &mut ArrayVec<bool, MOST_MODULES>, grid: &Gri
 
 /// The modules of a grid's mapping matrix, row by row, whatever its finder patterns are (ISO/IEC 16022:2006, 5.8). It
 /// takes no memory.
-pub fn modules_of<A: Allocator>(grid: &Grid<A>) -> ArrayVec<bool, MOST_MODULES>
+pub fn modules_of(grid: &LentGrid) -> ArrayVec<bool, MOST_MODULES>
     ensures { result.items ≡ (matrix_of_grid grid.now).modules }
 {
     let mut modules = ArrayVec::new();
@@ -149,7 +149,7 @@ pub fn modules_of<A: Allocator>(grid: &Grid<A>) -> ArrayVec<bool, MOST_MODULES>
 ///
 /// # Errors
 /// Where more than an eighth of them are, with their number.
-pub fn wrong_modules<A: Allocator>(grid: &Grid<A>) -> Result<u16, WrongFrame>
+pub fn wrong_modules(grid: &LentGrid) -> Result<u16, WrongFrame>
     ensures { MatchResult result (λ wrong. HasGoodFrame grid.now × (wrong ≡ wrong_frame_modules grid.now))
         (λ fault. HasBadFrame grid.now fault.wrong) }
 {
@@ -170,9 +170,9 @@ pub fn wrong_modules<A: Allocator>(grid: &Grid<A>) -> Result<u16, WrongFrame>
 pub fn unframe<A: Allocator>(alloc: A, grid: &Grid<A>) -> Result<Framed<A>, FrameFault>
     ensures { Unframes grid.now result }
 {
-    let wrong = wrong_modules(grid)?;
+    let wrong = wrong_modules(&grid.lend())?;
     let size = grid.size();
-    let modules = modules_of(grid).as_slice().to_vec(alloc)?;
+    let modules = modules_of(&grid.lend()).as_slice().to_vec(alloc)?;
     Ok(Framed {
         size,
         matrix: Matrix::from_modules(size, modules),

@@ -8,6 +8,5 @@ pub mod RoundTrip
 pub mod OneImage
 pub mod NotRefused
 pub mod QuietZone
-pub mod Insides
 pub mod Shapes
 pub mod TakenBack

@@ -1,5 +1,5 @@
 -- Which pictures have the shape of a grid.
-use Rattle.std.proofs.Common.{◌≡◌, ◌+◌, ◌-◌, ◌*◌, ◌<◌, ◌≤◌, arith}
+use Rattle.std.proofs.Common.{◌<◌, ◌≤◌, arith}
 use Rattle.dm_size.specs.{declared.size.Size.Size, Sizes.side, Sizes.row}
 use Rattle.dm_pbm_io.specs.Image.{Picture, HasShape}
 
@@ -11,11 +11,3 @@ smallest_side s = grind arith
 -- an image less than three pixels wide has no place for a symbol
 pub too_narrow : (p : Picture) → p.width < 3 → HasShape p → ⊥
 too_narrow p h shape = omega (arith, smallest_side shape.size, shape.side)
-
--- an image with that shape is at least three pixels wide
-pub wide_enough : (p : Picture) → HasShape p → 3 ≤ p.width
-wide_enough p shape = omega (arith, smallest_side shape.size, shape.side)
-
--- as many modules stand inside as the symbol has
-pub as_many : (p : Picture) (s : Size) → side s + 2 ≡ p.width → (p.width - 2) * (p.width - 2) ≡ side s * side s
-as_many p s e = grind arith

@@ -1,5 +1,5 @@
 -- The grid inside the quiet zone of the image of a grid is that grid.
-use Rattle.std.proofs.Common.{◌≡◌, ℕ, ◌+◌, ◌-◌, ◌*◌, ◌/◌, ◌%◌, ◌<◌, Bool, false, get_or, map, arith}
+use Rattle.std.proofs.Common.{◌≡◌, ℕ, ◌+◌, ◌-◌, ◌*◌, ◌/◌, ◌%◌, ◌<◌, Bool, List, false, get_or, map, arith}
 use Rattle.std.specs.List.{range_with_len}
 use Rattle.std.proofs.lemmas.List.FromFn.{fill_by_all, get_or-map-range_with_len, length-map-range_with_len}
 use Rattle.std.proofs.lemmas.Nat.{div-mul-add, mod-mul-add, mul-add-lt}
@@ -7,7 +7,11 @@ use Rattle.std.proofs.Math.Nat.{mod-lt, mod-add-div, div-lt_iff_lt-mul}
 use Rattle.dm_size.specs.Sizes.{side}
 use Rattle.dm_finder_frame.specs.Frame.{GridView, square_of, IsWholeGrid}
 use Rattle.dm_pbm_io.specs.{Image.pixel_with_quiet_zone, Image.pixels_with_quiet_zone, Laws.IsTakenBack}
-use Rattle.dm_pbm_io.proofs.{Insides.inner_module, QuietZone.within, Shapes.smallest_side}
+use Rattle.dm_pbm_io.proofs.{QuietZone.within, Shapes.smallest_side}
+
+-- the module with this index inside the quiet zone of pixels w wide
+abbrev inner_module : List Bool → ℕ → ℕ → ℕ → Bool
+inner_module pixels w s i = get_or pixels ((i / s + 1) * w + (i % s + 1)) false
 
 -- the pixel of a module
 module_again : (g : GridView) (k : ℕ) → k < side g.size * side g.size

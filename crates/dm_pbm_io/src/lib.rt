@@ -4,8 +4,8 @@
 //! byte at a time, and no byte past it, so that several images may follow one another; [`Image::write`] writes one to
 //! an [`Output`](relay_streams::Output), row by row. [`read_image`] and [`write_image`] do the same over any reader and
 //! writer, and [`image_in`] reads the image that bytes in memory begin with. [`image_of`] draws a grid inside its quiet
-//! zone, and [`grid_of`] takes the grid out of an image. Where this project is more lenient than Netpbm's manual pages,
-//! the definitions in `specs/` say so.
+//! zone, [`grid_in`] lends the grid in an image, and [`grid_of`] takes it out. Where this project is more lenient than
+//! Netpbm's manual pages, the definitions in `specs/` say so.
 //!
 //! Proved: the bytes taken spell the image that was read, and no other; each refusal comes exactly where the
 //! definitions put it; what is written is the definition's text, and reads back as the image; `Image::read` answers
@@ -32,5 +32,5 @@ pub use fault::{PbmFault, ShapeFault};
 pub use image::{Image, image_in, read_image};
 pub use limits::{GREATEST_SIDE, HEADER_BYTES, PLAIN_BYTES};
 pub use relay_streams::WriteFault;
-pub use symbol_image::{grid_of, image_of};
+pub use symbol_image::{grid_in, grid_of, image_of};
 pub use write::write_image;

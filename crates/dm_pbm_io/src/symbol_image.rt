@@ -1,14 +1,14 @@
 //! From a grid to its image, inside a quiet zone one pixel wide, and back.
 
-ghost use Rattle.std.specs.Prelude.{◌≡◌, ◌+◌, ◌*◌, ◌<◌, ◌≤◌, IfOk, IsErrOf, MatchOption, length};
+ghost use Rattle.std.specs.Prelude.{◌≡◌, ◌+◌, ◌*◌, ◌<◌, IfOk, IsErrOf, MatchOption, length};
 ghost use Rattle.dm_size.specs.Sizes as sizes;
 ghost use Rattle.dm_finder_frame.specs.Frame.{square_of};
-ghost use Rattle.dm_pbm_io.specs.Image.{HasShape, IsGridInside, image_with_quiet_zone, modules_inside, picture};
+ghost use Rattle.dm_pbm_io.specs.Image.{HasShape, IsGridInside, image_with_quiet_zone, picture};
 ghost use Rattle.dm_pbm_io.specs.inner.Streaming.{IsDrawnTo};
 
 use crate::fault::ShapeFault;
 use crate::image::Image;
-use dm_finder_frame::Grid;
+use dm_finder_frame::{Grid, LentGrid};
 use dm_size::Size;
 use std::alloc::{AllocError, Allocator};
 
@@ -18,9 +18,9 @@ fn draw_row<B: Allocator>(grid: &Grid<B>, row: u16, pixels: &mut [bool])
     requires above { IsDrawnTo (square_of grid.now) (sizes.side grid.now.size + 2) row pixels.old }
     ensures { IsDrawnTo (square_of grid.now) (sizes.side grid.now.size + 2) (row + 1) pixels.new }
 {
-    let side = grid.side() as usize;
+    let side = grid.size().side() as usize;
     let start = (row as usize + 1) * (side + 2) + 1;
-    pixels[start..start + side].copy_from_slice(grid.row(row));
+    pixels[start..start + side].copy_from_slice(grid.lend().row(row));
 }
 
 /// The image of a grid: one pixel per module, inside a quiet zone of one light pixel on each side.
@@ -49,46 +49,29 @@ pub fn image_of<A: Allocator + Copy, B: Allocator>(
     })
 }
 
-// The pixels inside the quiet zone, row by row.
-fn modules_of<A: Allocator + Copy, B: Allocator>(
-    alloc: A,
-    image: &Image<B>,
-) -> Result<Vec<bool, A>, AllocError>
-    requires square { image.now.width ≡ image.now.height }
-    requires zone { 3 ≤ image.now.width }
-    requires count { length image.now.pixels.items ≡ image.now.width * image.now.height }
-    ensures { IfOk result (λ modules. modules.items ≡ modules_inside (picture image.now)) }
+/// The grid of the pixels inside the quiet zone, one pixel wide on each side, whose own pixels aren't looked at, lent
+/// from the image. There is none where the image isn't square, its side less the quiet zone is not one of the 23, or it
+/// hasn't width * height pixels.
+pub fn grid_in<A: Allocator>(image: &Image<A>) -> Option<LentGrid<'_>>
+    ensures { MatchOption result (HasShape (picture image.now) → ⊥)
+        (λ grid. HasShape (picture image.now) × IsGridInside (picture image.now) grid) }
 {
     let width = image.width as usize;
-    let side = width - 2;
-    let mut modules = Vec::with_capacity(alloc, side * side)?;
-    for row in 0..side {
-        let start = (row + 1) * width + 1;
-        modules.extend_from_slice(&image.pixels[start..start + side])?;
-    }
-    Ok(modules)
-}
-
-// The size of the symbol that an image shows inside its quiet zone, if it has the shape of one.
-fn size_in<A: Allocator>(image: &Image<A>) -> Option<Size>
-    ensures { MatchOption result (HasShape (picture image.now) → ⊥)
-        (λ size. HasShape (picture image.now) × (sizes.side size + 2 ≡ image.now.width)) }
-{
-    let count = image.width as usize * image.height as usize;
+    let count = width * image.height as usize;
     if image.width != image.height || image.pixels.len() != count {
         return None;
     }
     if image.width < 3 {
         return None;
     }
-    Size::of_side(image.width - 2)
+    let size = Size::of_side(image.width - 2)?;
+    Some(LentGrid::from_rows(size, &image.pixels[width + 1..], width))
 }
 
-/// The grid of the pixels inside the quiet zone, one pixel wide on each side, whose own pixels aren't looked at.
+/// The same grid, in memory of its own.
 ///
 /// # Errors
-/// `Shape` where the image isn't square, its side less the quiet zone is not one of the 23, or it hasn't
-/// width * height pixels; `Memory` where the allocator refuses.
+/// `Shape` where the image has none; `Memory` where the allocator refuses.
 pub fn grid_of<A: Allocator + Copy, B: Allocator>(
     alloc: A,
     image: &Image<B>,
@@ -97,8 +80,8 @@ pub fn grid_of<A: Allocator + Copy, B: Allocator>(
     ensures shape { IsErrOf result ShapeFault.Shape → HasShape (picture image.now) → ⊥ }
     ensures memory { IsErrOf result ShapeFault.Memory → HasShape (picture image.now) }
 {
-    let Some(size) = size_in(image) else {
+    let Some(grid) = grid_in(image) else {
         return Err(ShapeFault::Shape);
     };
-    Ok(Grid::from_modules(size, modules_of(alloc, image)?))
+    Ok(grid.copy(alloc)?)
 }

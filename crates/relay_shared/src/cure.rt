@@ -53,7 +53,7 @@ fn symbol_after<A: Allocator + Copy>(alloc: A, image: &Image<A>, cure: Cure) -> 
         let pixel = image.pixels.get(place).copied().unwrap_or(false);
         modules.push(pixel ^ cure.inverted).ok()?;
     }
-    correct_grid(&Grid::from_modules(size, modules)).ok()
+    correct_grid(&Grid::from_modules(size, modules).lend()).ok()
 }
 
 fn text_of<A: Allocator + Copy>(alloc: A, cure: Cure) -> Result<String<A>, AllocError>

@@ -142,7 +142,6 @@ pub data RefusesGrid (grid : GridView) : ReadRefusal → Type 0 where
 -- why a picture has no line
 pub data RefusesPicture (p : Picture) : ReadRefusal → Type 0 where
   shape : ¬ HasShape p → RefusesPicture p Shape
-  memory : HasShape p → RefusesPicture p Memory
   grid : {refusal : ReadRefusal} (grid : GridView) → HasShape p → IsGridInside p grid → RefusesGrid grid refusal
       → RefusesPicture p refusal
 

@@ -11,8 +11,8 @@ ghost use Rattle.dm_symbol.specs.Correction.{IsCorrectedAs};
 use crate::refusal::ReadRefusal;
 use dm_append_label::{LabelFault, Page, page_of};
 use dm_encodation::decode;
-use dm_finder_frame::Grid;
-use dm_pbm_io::{Image, ShapeFault, grid_of};
+use dm_finder_frame::LentGrid;
+use dm_pbm_io::{Image, grid_in};
 use dm_symbol::{Corrected, correct_grid};
 use relay_shared::{
     Answered, DONE, ImageFile, OnImages, REFUSED, Streams, each_input, note_ending, put_image_note,
@@ -88,7 +88,7 @@ fn line_of_no_label<A: Allocator + Copy>(
 }
 
 // The line of a grid: that of a label first.
-fn line_of_grid<A: Allocator + Copy>(alloc: A, grid: &Grid<A>) -> Result<String<A>, ReadRefusal>
+fn line_of_grid<A: Allocator + Copy>(alloc: A, grid: &LentGrid) -> Result<String<A>, ReadRefusal>
     ensures { MatchResult result (λ line. HasLine grid.now (string_bytes line)) (RefusesGrid grid.now) }
 {
     let symbol = match correct_grid(grid) {
@@ -107,10 +107,9 @@ fn line_of_image<A: Allocator + Copy>(alloc: A, image: &Image<A>) -> Result<Stri
     ensures { MatchResult result
         (λ line. HasPictureLine (picture image.now) (string_bytes line)) (RefusesPicture (picture image.now)) }
 {
-    match grid_of(alloc, image) {
-        Ok(grid) => line_of_grid(alloc, &grid),
-        Err(ShapeFault::Shape) => Err(ReadRefusal::Shape),
-        Err(ShapeFault::Memory) => Err(ReadRefusal::Memory),
+    match grid_in(image) {
+        Some(grid) => line_of_grid(alloc, &grid),
+        None => Err(ReadRefusal::Shape),
     }
 }
 

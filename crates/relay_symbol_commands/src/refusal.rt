@@ -62,7 +62,7 @@ pub enum ReadRefusal {
     /// The text of a symbol that is no label can't be read.
     #[error("{0}")]
     Text(DecodeFault),
-    /// Memory was refused for the grid or for the line.
+    /// Memory was refused for the line.
     #[error("out of memory")]
     Memory,
 }

@@ -86,7 +86,7 @@ fn text_of<A: Allocator + Copy>(alloc: A, image: &[u8]) -> Result<Vec<u8, A>, Re
         (λ refusal. ReadsText image.now (Err refusal)) }
 {
     let grid = grid_from(alloc, image)?;
-    let Ok(symbol) = correct_grid(&grid) else {
+    let Ok(symbol) = correct_grid(&grid.lend()) else {
         return Err(Refusal::TooManyWrong);
     };
     match decode(alloc, symbol.data(), 0) {

@@ -106,7 +106,7 @@ const PACKED: &[u8] =
 fn drawn(alloc: Global, grid: &Grid) -> Result<Vec<u8>, AllocError> {
     let mut text = Vec::from_slice(alloc, b"P1\n12 12\n000000000000\n0")?;
     for row in 0..grid.side() {
-        for module in grid.row(row) {
+        for module in grid.lend().row(row) {
             text.push(if *module { b'1' } else { b'0' })?;
         }
         text.extend_from_slice(b"0\n0")?;

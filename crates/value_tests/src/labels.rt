@@ -61,7 +61,7 @@ fn is_sealed(alloc: Global, label: Label, words: &[u8]) -> bool {
     let Ok(grid) = sealed(alloc, label) else {
         return false;
     };
-    let begins = correct_grid(&grid).is_ok_and(|symbol| symbol.data().starts_with(words));
+    let begins = correct_grid(&grid.lend()).is_ok_and(|symbol| symbol.data().starts_with(words));
     begins && opens(alloc, &grid, label)
 }
 

@@ -15,7 +15,7 @@ fn symbols_are_drawn_and_read(rt: HostRuntime) -> Result<(), Fail> {
     let mut grid = draw_symbol(rt.alloc(), &layout, &WORDS[..3])?;
     assert!(rt; is_worked_example(&grid));
     flip_all(&mut grid, &[(2, 2), (6, 6), (0, 1), (9, 3)]);
-    let symbol = correct_grid(&grid)?;
+    let symbol = correct_grid(&grid.lend())?;
     assert!(rt; symbol.words() == WORDS.as_slice() && symbol.data() == &WORDS[..3]);
     assert!(rt; (symbol.corrected(), symbol.wrong()) == (2, 2));
     Ok(())
@@ -33,8 +33,8 @@ fn grids_are_near_or_refused(rt: HostRuntime) -> Result<(), Fail> {
     let four = [(1, 1), (2, 2), (4, 4), (6, 6)];
     assert!(rt; !still_near(rt.alloc(), &drawn, &four)?);
     let spoiled = drawn.with_flips(rt.alloc(), &four)?;
-    assert!(rt; correct_grid(&spoiled).err() == Some(SymbolFault::Block { block: 0 }));
+    assert!(rt; correct_grid(&spoiled.lend()).err() == Some(SymbolFault::Block { block: 0 }));
     let light = Grid::of_modules(rt.alloc(), 10, &[false; 100])?;
-    assert!(rt; correct_grid(&light).err() == Some(SymbolFault::Border { wrong: 27 }));
+    assert!(rt; correct_grid(&light.lend()).err() == Some(SymbolFault::Border { wrong: 27 }));
     Ok(())
 }

@@ -32,7 +32,7 @@ pub(crate) fn is_worked_example(grid: &Grid) -> bool {
     let modules = worked_modules();
     for row in 0..10u16 {
         let start = 10 * row as usize;
-        if grid.side() != 10 || grid.row(row) != &modules[start..start + 10] {
+        if grid.side() != 10 || grid.lend().row(row) != &modules[start..start + 10] {
             return false;
         }
     }

@@ -6,13 +6,13 @@ pub returns-in_err-page : goal.returns-in_err-page
 returns-in_err-page g c =
     let last = c.from_residual-in_err-page in
     let p = err_from_is_err_and last.result last.ensures.1 in
-    rw (p.1, p.2) (no_page c.args.grid.now c.in_ok-symbol.symbol c.in_err-page.field-0.0 c.in_ok-symbol.ensures.corrects
+    rw (p.1, p.2, ← c.lend.ensures) (no_page c.lend.result c.in_ok-symbol.symbol c.in_err-page.field-0.0 c.in_ok-symbol.ensures.corrects
     c.in_ok-symbol.ensures.near c.in_err-page.ensures.page)
 
 pub returns : goal.returns
 returns g c =
     let symbol = c.in_ok-symbol.symbol in
-    one_page_opens c.args.grid.now symbol
+    rw (← c.lend.ensures) (one_page_opens c.lend.result symbol
     (record { page = c.in_ok-page.page; corrected = c.corrected.result; wrong = c.wrong.result })
     c.in_ok-symbol.ensures.corrects c.in_ok-symbol.ensures.near c.in_ok-page.ensures.page c.corrected.ensures
-    c.wrong.ensures c.in_ok-page.ensures.short
+    c.wrong.ensures c.in_ok-page.ensures.short)

@@ -9,4 +9,4 @@ all_rows s t row end e is last = ap (λ (x : ℕ). x * mapping t) (last ∙ is �
 
 pub returns : goal.returns
 unfolding matrix_modules
-returns g c = grind (arith, all_rows)
+returns c = grind (arith, all_rows)

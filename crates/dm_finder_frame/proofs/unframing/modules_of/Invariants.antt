@@ -4,5 +4,5 @@ use Rattle.dm_finder_frame.specs.{Frame.matrix_module, inner.Filled.first_module
 use Rattle.dm_finder_frame.proofs.unframing.modules_of.Given as goal
 
 abbrev pub invariant-loop-row : goal.invariant-loop-row
-invariant-loop-row g l = l.modules.items ≡ first_modules (mapping l.grid.size) (matrix_module l.grid)
+invariant-loop-row l = l.modules.items ≡ first_modules (mapping l.grid.size) (matrix_module l.grid)
     (l.row * mapping l.grid.size)

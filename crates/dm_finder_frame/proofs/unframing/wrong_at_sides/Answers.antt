@@ -7,7 +7,7 @@ use Rattle.dm_finder_frame.proofs.WrongCounts.{at_most_one, first_column, last_c
 use Rattle.dm_finder_frame.proofs.unframing.wrong_at_sides.Goals as goal
 
 pub loop-b-preserved : goal.loop-b-preserved
-loop-b-preserved k c =
+loop-b-preserved c =
     grind (
       arith,
       at_most_one,
@@ -22,10 +22,10 @@ loop-b-preserved k c =
     )
 
 pub overflow_add-wrong-in-loop-b : goal.overflow_add-wrong-in-loop-b
-overflow_add-wrong-in-loop-b k c = grind (arith, test_number, at_most_one, most_across)
+overflow_add-wrong-in-loop-b c = grind (arith, test_number, at_most_one, most_across)
 
 pub returns-clause-count : goal.returns-clause-count
-returns-clause-count k c =
+returns-clause-count c =
     let g = c.args.grid.now in
     let end : c.loop-b.b ≡ across g.size = omega (arith, c.requires.across) in
     c.loop-b.invariant.counted

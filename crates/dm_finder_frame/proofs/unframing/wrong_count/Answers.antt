@@ -5,8 +5,8 @@ use Rattle.dm_finder_frame.proofs.unframing.wrong_count.Goals.{then-place-framed
 use Rattle.dm_finder_frame.proofs.unframing.wrong_count.Goals as goal
 
 pub loop-row-preserved : goal.loop-row-preserved
-loop-row-preserved g c = grind (arith, joined, then-place-framed, turned, else-place-framed, passed)
+loop-row-preserved c = grind (arith, joined, then-place-framed, turned, else-place-framed, passed)
 
 pub returns : goal.returns
 unfolding wrong_frame_modules
-returns g c = grind (arith, common_steps)
+returns c = grind (arith, common_steps)

@@ -13,14 +13,14 @@ counts : (g : GridView) (first n a b : ℕ) (t : Bool) → a ≡ wrong_among g f
 counts g first n a b t ea et eb = grind (arith, one_more)
 
 pub loop-column-preserved : goal.loop-column-preserved
-loop-column-preserved k c =
+loop-column-preserved c =
     let g = c.args.grid.now in
     let r = c.args.row in
     let n = c.loop-column.column in
     let h = region g.size in
     let p = r % (h + 2) in
     let q = n % (h + 2) in
-    let there : n < side g.size = omega (arith, c.side-column-end.ensures.value) in
+    let there : n < side g.size = omega (arith, c.side-column-end.ensures.value ∙ ap side c.size.ensures) in
     let dark = grid_module_at g r n in
     let wanted : c.is_dark_at_end-wanted.result ≡ (eqb p (h + 1) || eqb (q % 2) 0) =
     c.is_dark_at_end-wanted.ensures ∙ ap (λ x. x || eqb (n % 2) 0) c.requires.which
@@ -36,3 +36,6 @@ loop-column-preserved k c =
           (ap (λ x. c.loop-column.wrong + x) one);
       most = omega (arith, one, at_most_one c.differs.result, c.loop-column.invariant.most);
     }
+
+pub bounds-line-column : goal.bounds-line-column
+bounds-line-column c = omega (arith, c.row-line.ensures.count, c.side-column-end.ensures.value ∙ ap side c.size.ensures)

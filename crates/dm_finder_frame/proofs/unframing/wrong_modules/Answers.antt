@@ -8,7 +8,7 @@ counted : (s t : Size) (q h : ℕ) → s ≡ t → q ≡ regions s → h ≡ reg
 counted s t q h e a b = search rules
 
 pub returns-then-wrong-modules : goal.returns-then-wrong-modules
-returns-then-wrong-modules k c = grind (arith, counted)
+returns-then-wrong-modules c = grind (arith, counted)
 
 pub returns : goal.returns
-returns k c = grind (arith, counted)
+returns c = grind (arith, counted)

@@ -4,4 +4,4 @@ use Rattle.dm_symbol.proofs.correcting.carried_words.Goals as goal
 
 pub words_of-requires : goal.words_of-requires
 unfolding matrix_modules
-words_of-requires g c = grind (arith, length-map-range_with_len)
+words_of-requires c = grind (arith, length-map-range_with_len)

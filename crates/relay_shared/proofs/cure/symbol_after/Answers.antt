@@ -31,6 +31,6 @@ returns g c =
     let n = c.side-side.result in
     let end : c.loop-i.i ≡ n * n = omega arith in
     let all : c.loop-i.modules.items ≡ map (module_after cure p n) (range_with_len 0 (n * n)) = rw (← end) c.loop-i.invariant in
-    let is = rw c.from_modules.ensures at c.correct_grid-2.ensures.corrects in
-    rw c.ok-2.ensures.value (cured p cure _ n c.correct_grid-2.result c.side-side.ensures.value c.if-image.false
+    let is = rw (c.lend-2.ensures, c.from_modules.ensures) at c.correct_grid.ensures.corrects in
+    rw c.ok-2.ensures.value (cured p cure _ n c.correct_grid.result c.side-side.ensures.value c.if-image.false
     c.if-side-cure.false all is)
