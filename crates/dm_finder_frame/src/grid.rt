@@ -94,16 +94,6 @@ impl<A: Allocator> Grid<A> {
         LentGrid::from_rows(self.size, &self.modules, self.size.side() as usize)
     }
 
-    /// A copy of the grid, in memory of this allocator.
-    ///
-    /// # Errors
-    /// Where the allocator refuses its memory.
-    pub fn copy(&self, alloc: A) -> Result<Grid<A>, AllocError>
-        ensures { IfOk result (λ grid. grid ≡ self.now) }
-    {
-        Ok(Grid::from_modules(self.size, self.modules.as_slice().to_vec(alloc)?))
-    }
-
     /// Flips the module of a row and a column, both from 0: dark to light, or light to dark.
     pub fn flip(&mut self, row: u16, column: u16)
         requires row_in { row < sizes.side self.old.size }
@@ -123,7 +113,7 @@ impl<A: Allocator> Grid<A> {
         requires { All (IsInGrid self.now) flips.now }
         ensures { IfOk result (λ grid. grid ≡ flipped self.now flips.now) }
     {
-        let mut grid = self.copy(alloc)?;
+        let mut grid = self.lend().copy(alloc)?;
         for (row, column) in flips {
             grid.flip(*row, *column);
         }

@@ -8,5 +8,4 @@ pub mod RoundTrip
 pub mod OneImage
 pub mod NotRefused
 pub mod QuietZone
-pub mod Shapes
 pub mod TakenBack

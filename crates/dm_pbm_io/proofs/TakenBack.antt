@@ -7,7 +7,8 @@ use Rattle.std.proofs.Math.Nat.{mod-lt, mod-add-div, div-lt_iff_lt-mul}
 use Rattle.dm_size.specs.Sizes.{side}
 use Rattle.dm_finder_frame.specs.Frame.{GridView, square_of, IsWholeGrid}
 use Rattle.dm_pbm_io.specs.{Image.pixel_with_quiet_zone, Image.pixels_with_quiet_zone, Laws.IsTakenBack}
-use Rattle.dm_pbm_io.proofs.{QuietZone.within, Shapes.smallest_side}
+use Rattle.dm_size.proofs.Sound.{sound}
+use Rattle.dm_pbm_io.proofs.QuietZone.{within}
 
 -- the module with this index inside the quiet zone of pixels w wide
 abbrev inner_module : List Bool → ℕ → ℕ → ℕ → Bool
@@ -18,7 +19,7 @@ module_again : (g : GridView) (k : ℕ) → k < side g.size * side g.size
     → get_or g.modules k false ≡ inner_module (pixels_with_quiet_zone (square_of g)) (side g.size + 2) (side g.size) k
 module_again g k h =
     let n = side g.size in
-    let small = smallest_side g.size in
+    let small = (sound g.size).smallest_side in
     let row : k / n < n = (div-lt_iff_lt-mul {k = n} {x = k} {y = n} (omega (arith, small))).1 h in
     let column : k % n < n = mod-lt k (omega (arith, small)) in
     let is : k / n * n + k % n ≡ k = let e = mod-add-div k n in omega (arith, e) in

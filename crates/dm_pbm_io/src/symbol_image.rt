@@ -61,10 +61,7 @@ pub fn grid_in<A: Allocator>(image: &Image<A>) -> Option<LentGrid<'_>>
     if image.width != image.height || image.pixels.len() != count {
         return None;
     }
-    if image.width < 3 {
-        return None;
-    }
-    let size = Size::of_side(image.width - 2)?;
+    let size = Size::of_side(image.width.checked_sub(2)?)?;
     Some(LentGrid::from_rows(size, &image.pixels[width + 1..], width))
 }
 

@@ -8,7 +8,7 @@ ghost use Rattle.relay_symbols.specs.declared.refusal.Refusal.TheVariants.{NoSym
 use crate::refusal::Refusal;
 use dm_finder_frame::Grid;
 use dm_pbm_io::laws::{not_refused, one_image};
-use dm_pbm_io::{PbmFault, ShapeFault, grid_of, image_in, image_of, write_image};
+use dm_pbm_io::{PbmFault, grid_in, image_in, image_of, write_image};
 use std::alloc::{AllocError, Allocator};
 
 // Room for the bytes of the greatest image, a packed one of side 132.
@@ -44,9 +44,8 @@ pub(crate) fn grid_from<A: Allocator + Copy>(alloc: A, bytes: &[u8]) -> Result<G
     let Some(image) = found else {
         return Err(Refusal::NoSymbol);
     };
-    match grid_of(alloc, &image) {
-        Ok(grid) => Ok(grid),
-        Err(ShapeFault::Shape) => Err(Refusal::NoSymbol),
-        Err(ShapeFault::Memory) => Err(Refusal::NoMemory),
-    }
+    let Some(grid) = grid_in(&image) else {
+        return Err(Refusal::NoSymbol);
+    };
+    Ok(grid.copy(alloc)?)
 }

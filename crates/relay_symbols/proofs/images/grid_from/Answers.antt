@@ -31,8 +31,7 @@ returns-in-Err g c =
 pub returns-in_default : goal.returns-in_default
 returns-in_default g c = inl (refl, none_of_nothing _ (search rules))
 
-pub returns-in-Err-Shape : goal.returns-in-Err-Shape
-returns-in-Err-Shape g c =
+pub returns-in_default-grid_in : goal.returns-in_default-grid_in
+returns-in_default-grid_in g c =
     let shown = rw c.in-Some.is at c.in-Ok.ensures.image in
-    let none = c.in-Err-Shape.ensures.shape (search rules) in
-    inl (refl, none_of_shape c.one_image.ensures _ shown.0 shown.1 _ shown.2 shown.3 none)
+    inl (refl, none_of_shape c.one_image.ensures _ shown.0 shown.1 _ shown.2 shown.3 c.in_default-grid_in.ensures)
