@@ -1,10 +1,10 @@
 -- What is at the paths of a line, and where the files of a command are.
-use Rattle.std.specs.Prelude.{◌≡◌, ℕ, ◌++◌, List, Bool, true, false, not, IsTrue, IsFalse, codes, string_bytes, ◌≢◌, ◌⊎◌, Result, Err}
+use Rattle.std.specs.Prelude.{◌≡◌, ℕ, ◌++◌, List, [], ◌∷◌, Bool, true, false, None, not, if◌then◌else◌, IsTrue, IsFalse, codes, string_bytes, ◌≢◌, ◌⊎◌, Result, Err}
+use Rattle.std.specs.{Str.bytes_eq, FinMap.empty}
 use Rattle.relay_desk_commands.specs.Desks.{DeskFiles}
-use Rattle.dm_store.specs.Disk.{draft_of, saved_under, set_in, unclaimed}
-use Rattle.dm_store.specs.{Saved.Replaces, Saved.Saved, Saved.SavedSet, declared.store.StoreFault.StoreFault}
-use Rattle.relay_places.specs.declared.{place.Access.Access, place.Place.Place, locked.Found.Found}
-use Rattle.relay_places.specs.declared.place.Access.TheVariants.{Creates, Makes, Saves, Reads, Moves, Looks}
+use Rattle.dm_store.specs.{Disk.draft_of, Disk.saved_under, Disk.set_in, Disk.unclaimed, Saved.Replaces, Saved.Saved, Saved.SavedSet, Saved.in_memory, declared.store.StoreFault.StoreFault, declared.mem_store.NextSave.TheVariants.Fine}
+use Rattle.relay_places.specs.declared.{place.Access.Access, place.Place.Place, locked.Found.Found, mem_places.MemPlace.MemPlace}
+use Rattle.relay_places.specs.declared.place.Access.TheVariants.{Creates, Makes, Saves, Looks}
 
 abbrev pub files_of : Saved → SavedSet → DeskFiles
 files_of joint set = record { joint = joint; set = set }
@@ -16,6 +16,12 @@ PlacesView = List ℕ → DeskFiles
 -- nothing is claimed of what is at the paths
 abbrev pub unclaimed_places : PlacesView
 unclaimed_places path = files_of (saved_under unclaimed path) (set_in unclaimed path)
+
+-- of what is kept in memory the first at a path is there, or nothing is
+abbrev pub kept_at : List MemPlace → PlacesView
+kept_at [] path = files_of (in_memory None false Fine) (in_memory empty false Fine)
+kept_at (kept ∷ rest) path =
+    if bytes_eq (string_bytes kept.path) path then files_of kept.files.0 kept.files.1 else kept_at rest path
 
 -- at every other path is what was there before
 abbrev pub KeepsOthers : List ℕ → PlacesView → PlacesView → Type 0

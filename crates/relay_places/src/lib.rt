@@ -11,6 +11,7 @@
 
 mod lock;
 mod locked;
+mod mem_places;
 mod named_images;
 mod notes;
 mod place;
@@ -20,6 +21,7 @@ mod saved_output;
 mod system_disk;
 mod watched;
 
+pub use mem_places::{MemPlace, MemPlaces};
 pub use notes::{note, note_of_input};
 pub use place::{Access, Named};
 pub use places::Places;

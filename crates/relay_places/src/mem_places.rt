@@ -1,0 +1,98 @@
+//! Ledgers and desks in memory, and files of images.
+
+ghost use Rattle.std.specs.Prelude.{◌≡◌, ◌∷◌, option_map, string_bytes};
+ghost use Rattle.relay_places.specs.Places.{KeepsOthers, files_of, kept_at};
+
+use crate::place::{Access, Named};
+use crate::places::Places;
+use dm_store::{MemSet, MemStore, Store, StoreFault};
+use std::alloc::{AllocError, Global};
+use std::mem;
+
+/// What is at a path: a ledger or a joint file, and the folder beside it.
+#[derive(Drop)]
+pub struct MemPlace {
+    pub path: String,
+    pub files: (MemStore, MemSet),
+}
+
+/// What is at each path: of several places at one the first. The files of images have places of their own, and memory
+/// is refused for one that isn't there.
+#[derive(Drop)]
+pub struct MemPlaces<'a> {
+    pub alloc: Global,
+    /// The one that was opened last.
+    pub opened: MemPlace,
+    pub kept: Vec<MemPlace>,
+    pub images: &'a [MemPlace],
+}
+
+// Takes what is at a path, and leaves nothing there.
+fn take(kept: &mut [MemPlace], alloc: Global, path: &str) -> (MemStore, MemSet)
+    ensures given { files_of result.0 result.1 ≡ kept_at kept.old path.now }
+    ensures others { KeepsOthers path.now (kept_at kept.old) (kept_at kept.new) }
+{
+    let nothing = (MemStore::new(alloc), MemSet::new(alloc));
+    let Some((first, rest)) = kept.split_first_mut() else {
+        return nothing;
+    };
+    if first.path.as_str() == path {
+        return mem::replace(&mut first.files, nothing);
+    }
+    take(rest, alloc, path)
+}
+
+// The bytes that are at a path, if any are.
+fn content<'a>(kept: &'a [MemPlace], path: &str) -> Option<&'a [u8]>
+    ensures { option_map (λ bytes. bytes.now) result ≡ (kept_at kept.now path.now).joint.content }
+{
+    match kept {
+        [first, ..] if first.path.as_str() == path => first.files.0.content(),
+        [_, rest @ ..] => content(rest, path),
+        [] => None,
+    }
+}
+
+#[rattlefmt::skip] // a signature a line
+impl<'a> Places for MemPlaces<'a> {
+    type File = MemStore;
+
+    type Folder = MemSet;
+
+    type Images = &'a [u8];
+
+    ghost state = { λ places. kept_at (places.opened ∷ places.kept.items) };
+
+    ghost images = { λ places name. (kept_at places.images.now name).joint.content };
+
+    ghost is_open = { λ places path. string_bytes places.opened.path ≡ path };
+
+    fn open(&mut self, named: Named<'_>) -> Result<(MemStore, MemSet), AllocError> {
+        let path = String::from_str(self.alloc, named.file)?;
+        let files = (MemStore::new(self.alloc), MemSet::new(self.alloc));
+        let before = mem::replace(&mut self.opened, MemPlace { path, files });
+        if let Err(refused) = self.kept.insert(0, before) {
+            self.opened = refused.value;
+            return Err(AllocError);
+        }
+        Ok(take(&mut self.kept, self.alloc, named.file))
+    }
+
+    fn close(&mut self, _named: Named<'_>, file: MemStore, folder: MemSet, _status: u8) -> Option<String> {
+        self.opened.files = (file, folder);
+        None
+    }
+
+    fn images(&self, name: &str) -> Result<&'a [u8], AllocError> {
+        content(self.images, name).ok_or(AllocError)
+    }
+
+    fn save_new(&mut self, path: &str, bytes: &[u8]) -> (Result<(), StoreFault>, Option<String>) {
+        let named = Named { file: path, is_desk: false, access: Access::Creates };
+        let Ok((mut file, folder)) = self.open(named) else {
+            return (Err(StoreFault::Memory), None);
+        };
+        let saved = file.replace(bytes);
+        (saved, self.close(named, file, folder, 0))
+    }
+}
