@@ -1,23 +1,18 @@
 -- What a command does, from the store and the set of the file that it names, and its streams, to the exit status, the
 -- store, the set and the streams: a line for each command. What a command does not need it leaves as it was.
-use Rattle.std.specs.Prelude.{◌≡◌, ℕ, List, [], Option, Bool, true, false, codes, string_bytes, ◌≢◌, ◌⊎◌, map, None, Some, Result, Ok, Err}
+use Rattle.std.specs.Prelude.{◌≡◌, ℕ, List, [], Option, Bool, true, false, codes, string_bytes, ◌≢◌, ◌⊎◌, map, unwrap_or, IsSome, None, Some, Result, Ok, Err}
 use Rattle.std.specs.{Option.option_copied, Io.KnownBytes.Appends, Io.KnownBytes.Keeps}
 use Rattle.relay_command.specs.declared.command.Command.{Command}
 use Rattle.relay_command.specs.declared.command.Command.TheVariants.{Words, Draw, Read, Plan, Ticket, Ledger, Print, Give, GiveLast, Take, Left, Audit, Scan, Deliver, Forget, Export, Import, Held, Copy, World}
-use Rattle.relay_streams.specs.Streams.{TakesPart, AppendsPart, OutputView, write_fault_name}
+use Rattle.relay_streams.specs.{Streams.TakesPart, Streams.AppendsPart, Streams.OutputView, Streams.write_fault_name, declared.fault.WriteFault.TheVariants.Write}
 use Rattle.relay_shared.specs.{Command.StreamsView, Command.TellsRefusal, declared.command.TheConstants.DOCUMENT_BYTES}
-use Rattle.relay_desk_commands.specs.declared.import.TheConstants.{IMPORT_BYTES}
-use Rattle.relay_printer_commands.specs.declared.audit.TheConstants.{TICKETS_BYTES}
+use Rattle.relay_desk_commands.specs.{declared.import.TheConstants.IMPORT_BYTES, Desks.OnDesk, Desks.EndsDeliver, Desks.EndsExport, Desks.EndsForget, Desks.EndsImport, Desks.EndsScan, Desks.EndsCopy, Desks.EndsHeld, Desks.DeskFiles}
+use Rattle.relay_printer_commands.specs.{declared.audit.TheConstants.TICKETS_BYTES, Printers.EndsLeft, Printers.OnLedger, Printers.EndsLedger, Printers.EndsAudit, Printers.EndsGive, Printers.EndsGiveLast, Printers.EndsTake, Printers.ledger_at, Printers.EndsPlan, Printers.EndsPrint, Printers.EndsTicket}
 use Rattle.relay_world_command.specs.{declared.world.TheConstants.INPUT_BYTES, World.EndsWorld}
 use Rattle.relay_symbol_commands.specs.Symbols.{EndsWords, EndsDraw, EndsRead}
-use Rattle.relay_desk_commands.specs.Desks.{OnDesk, EndsDeliver, EndsExport, EndsForget, EndsImport, EndsScan, EndsCopy, EndsHeld, DeskFiles}
-use Rattle.relay_printer_commands.specs.Printers.{EndsLeft, OnLedger, EndsLedger, EndsAudit, EndsGive, EndsGiveLast, EndsTake, ledger_at, EndsPlan, EndsPrint, EndsTicket}
 use Rattle.relay_places.specs.Places.{KeepsOthers, PlacesView, SavesNew}
 use Rattle.dm_store.specs.declared.store.StoreFault.{StoreFault}
-use Rattle.relay_line.specs.Line.{HasStatus, named_images, IsFound, IsNamed, saved_path}
-use Rattle.relay_line.specs.declared.{line.CommandLine.CommandLine, fault.LineFault.LineFault}
-use Rattle.relay_line.specs.declared.fault.LineFault.TheVariants.{Line, Memory}
-use Rattle.relay_streams.specs.declared.fault.WriteFault.TheVariants.{Write}
+use Rattle.relay_line.specs.{Line.HasStatus, Line.named_images, Line.IsFound, Line.IsNamed, Line.saved_path, Line.saves_output, declared.line.CommandLine.CommandLine, declared.fault.LineFault.LineFault, declared.fault.LineFault.TheVariants.Line, declared.fault.LineFault.TheVariants.Memory}
 use Rattle.relay.specs.Buffers.{IsPartOut}
 use Rattle.dm_store.specs.declared.store.StoreFault.TheVariants as faults
 
@@ -71,26 +66,33 @@ Does A (Held file id) images old status new = EndsHeld (option_copied id) old st
 Does A (Copy file id page side scheme) images old status new =
     EndsCopy (record { id = id; page = page; side = side; scheme = scheme }) old status new
 
+-- the path that a command names
+abbrev pub named_path : Command → Option (List ℕ)
+named_path (Ledger file number first last) = Some file.now
+named_path (Print file number labels scheme) = Some file.now
+named_path (Give file number to first last) = Some file.now
+named_path (GiveLast file number to count) = Some file.now
+named_path (Take file number ticket) = Some file.now
+named_path (Left file) = Some file.now
+named_path (Scan file capacity) = Some file.now
+named_path (Deliver file id) = Some file.now
+named_path (Forget file id) = Some file.now
+named_path (Export file id) = Some file.now
+named_path (Import file capacity) = Some file.now
+named_path (Held file id) = Some file.now
+named_path (Copy file id page side scheme) = Some file.now
+named_path other = None
+
 -- the path that a command names, or the empty one if it names none
 abbrev pub path_of : Command → List ℕ
-path_of (Ledger file number first last) = file.now
-path_of (Print file number labels scheme) = file.now
-path_of (Give file number to first last) = file.now
-path_of (GiveLast file number to count) = file.now
-path_of (Take file number ticket) = file.now
-path_of (Left file) = file.now
-path_of (Scan file capacity) = file.now
-path_of (Deliver file id) = file.now
-path_of (Forget file id) = file.now
-path_of (Export file id) = file.now
-path_of (Import file capacity) = file.now
-path_of (Held file id) = file.now
-path_of (Copy file id page side scheme) = file.now
-path_of other = []
+path_of command = unwrap_or (named_path command) []
 
--- ---- lines
-
--- What the words of a line do: to the standard streams, and to what is at the paths that the line names.
+-- whether the output of a command is bytes for another program, so that its refusals go to the standard error
+abbrev pub refuses_on_errors : Command → Bool
+refuses_on_errors (Draw side scheme plain) = true
+refuses_on_errors (Print file number labels scheme) = true
+refuses_on_errors (Copy file id page side scheme) = true
+refuses_on_errors other = saves_output other
 
 -- ---- the standard streams
 
@@ -117,9 +119,17 @@ abbrev pub TellsOut : List ℕ → Option (List ℕ) → ℕ → Option (List �
 TellsOut name old status new = (told : OutputView)
     × TellsRefusal name (record { contents = old; has_failed = false }) status told × IsPartOut told.contents new
 
--- nothing, or the first bytes of a note
-abbrev pub ShowsNote : Option (List ℕ) → Option (List ℕ) → Type 0
-ShowsNote old new = (new ≡ old) ⊎ ((note : List ℕ) × ShowsPart old new note)
+-- the line of a refusal goes to the standard error, or to the output, and nothing happens to the other streams
+abbrev pub PutsRefusal : Bool → List ℕ → StandardView → ℕ → StandardView → Type 0
+PutsRefusal true name old status new =
+    TellsOut name old.errors status new.errors × (new.input ≡ old.input) × (new.output ≡ old.output)
+PutsRefusal false name old status new =
+    TellsOut name old.output status new.output × (new.input ≡ old.input) × (new.errors ≡ old.errors)
+
+-- nothing goes to the standard error, or the first bytes of a note, and nothing happens to the other streams
+abbrev pub Notes : StandardView → StandardView → Type 0
+Notes old new = (new.input ≡ old.input) × (new.output ≡ old.output)
+    × ((new.errors ≡ old.errors) ⊎ ((note : List ℕ) × ShowsPart old.errors new.errors note))
 
 -- What a command has written is out, and its status is the program's. Or the output has refused a write, and the first
 -- bytes of what the command has written are out: then the standard error is told, with the status 1; or it need not be,
@@ -153,11 +163,11 @@ pub record SystemView : Type 0 where
 abbrev pub system_at : StandardView → PlacesView → SystemView
 system_at standard places = record { standard = standard; places = places }
 
--- With the files before and after, which are those at this path: at each other path is what was there. A command that
--- names no path has files of its own, and changes nothing at any.
-pub data IsAt (path : List ℕ) (before : DeskFiles) (old : PlacesView) (after : DeskFiles) (new : PlacesView) : Type 0 where
-  at_none : path ≡ [] → new ≡ old → IsAt path before old after new
-  at_path : before ≡ old path → new path ≡ after → KeepsOthers path old new → IsAt path before old after new
+-- With the files before and after, which are those at the path that a command names: at each other path is what was there.
+-- A command that names none has files of its own, and changes nothing at any.
+abbrev pub IsAt : Option (List ℕ) → DeskFiles → PlacesView → DeskFiles → PlacesView → Type 0
+IsAt None before old after new = new ≡ old
+IsAt (Some path) before old after new = (before ≡ old path) × (new path ≡ after) × KeepsOthers path old new
 
 -- What a command does with the files at the path that it names. Then something may be noted on the standard error.
 pub record DoesAt (A : Type 0) (command : Command) (images : List (Option (List ℕ))) (old : SystemView) (status : ℕ)
@@ -166,27 +176,23 @@ pub record DoesAt (A : Type 0) (command : Command) (images : List (Option (List 
   pub after : DeskFiles
   pub done : StandardView
   pub between : DoesBetween A command images before old.standard status after done
-  pub is_at : IsAt (path_of command) before old.places after new.places
-  pub input : new.standard.input ≡ done.input
-  pub output : new.standard.output ≡ done.output
-  pub errors : ShowsNote done.errors new.standard.errors
+  pub is_at : IsAt (named_path command) before old.places after new.places
+  pub noted : Notes done new.standard
 
 abbrev pub save_fault_name : StoreFault → List ℕ
 save_fault_name faults.Device = codes "Save"
 save_fault_name faults.Memory = codes "Memory"
 
 -- The output of a command is saved; or it is not, and the line of a refusal goes to the standard error.
-abbrev pub TellsSave : Result (Unit {0}) StoreFault → Option (List ℕ) → ℕ → Option (List ℕ) → Type 0
+abbrev pub TellsSave : Result (Unit {0}) StoreFault → StandardView → ℕ → StandardView → Type 0
 TellsSave (Ok _) old status new = (new ≡ old) × (status ≡ 0)
 TellsSave (Err fault) old status new =
-    (told : Option (List ℕ)) × TellsOut (save_fault_name fault) old status told × ShowsNote told new
+    (told : StandardView) × PutsRefusal true (save_fault_name fault) old status told × Notes told new
 
 pub record SavesOutput (path bytes : List ℕ) (old : SystemView) (status : ℕ) (new : SystemView) : Type 0 where
   pub answer : Result (Unit {0}) StoreFault
   pub saves : SavesNew path bytes old.places answer new.places
-  pub tells : TellsSave answer old.standard.errors status new.standard.errors
-  pub input : new.standard.input ≡ old.standard.input
-  pub output : new.standard.output ≡ old.standard.output
+  pub tells : TellsSave answer old.standard status new.standard
 
 -- the system with another output
 abbrev pub with_output : SystemView → Option (List ℕ) → SystemView
@@ -202,28 +208,25 @@ pub record DoesAndSaves (A : Type 0) (command : Command) (path : List ℕ) (old 
   pub output : done.standard.output ≡ old.standard.output
   pub saves : ((ended ≢ 0) × (status ≡ ended) × (new ≡ done)) ⊎ ((ended ≡ 0) × SavesOutput path bytes done status new)
 
+-- a line that names a path, or files of images
+abbrev pub NamesFiles : CommandLine → Type 0
+NamesFiles line = IsSome (named_path line.command) ⊎ (named_images line ≢ [])
+
 -- What a line does: its command, with the files of images that it names; or its command, whose output is saved as the
--- file that it names.
+-- file that it names; or nothing, since memory is refused for the paths of its files, which is told.
 pub data DoesFor (A : Type 0) (images : List ℕ → Option (List ℕ)) (line : CommandLine) (old : SystemView) (status : ℕ)
     (new : SystemView) : Type 0 where
   does_here : saved_path line ≡ None → DoesAt A line.command (map images (named_images line)) old status new →
       DoesFor A images line old status new
   does_and_saves : (path : List ℕ) → saved_path line ≡ Some path → DoesAndSaves A line.command path old status new →
       DoesFor A images line old status new
+  lacks_memory : NamesFiles line → new.places ≡ old.places → PutsRefusal (refuses_on_errors line.command) (codes "Memory")
+      old.standard status new.standard → DoesFor A images line old status new
 
--- This was done, or memory was refused before anything was.
-abbrev pub OrNothing : {E : Type 0} → (SystemView → ℕ → SystemView → Type 0) → SystemView → Result ℕ E → SystemView → Type 0
-OrNothing Does old (Ok status) new = Does old status new
-OrNothing Does old (Err _) new = new ≡ old
-
--- There was no memory for the paths of a line: the refusal goes to the output or the standard error, or has failed.
-pub record LacksMemory (old : SystemView) (status : ℕ) (new : SystemView) : Type 0 where
-  pub places : new.places ≡ old.places
-  pub input : new.standard.input ≡ old.standard.input
-  pub tells : (TellsOut (codes "Memory") old.standard.errors status new.standard.errors
-      × (new.standard.output ≡ old.standard.output))
-      ⊎ (TellsOut (codes "Memory") old.standard.output status new.standard.output
-      × (new.standard.errors ≡ old.standard.errors))
+-- this was done; or nothing was, since memory was refused, as it may be under this condition
+abbrev pub OrNothing : {E : Type 0} → (SystemView → ℕ → SystemView → Type 0) → Type 0 → SystemView → Result ℕ E → SystemView → Type 0
+OrNothing Does May old (Ok status) new = Does old status new
+OrNothing Does May old (Err _) new = May × (new ≡ old)
 
 -- ---- a line
 
@@ -239,16 +242,13 @@ Informs (Line text given) old status new =
     (Helps (string_bytes text) old status new × (given ≡ 0))
     ⊎ (ShowsPart old.errors new.errors (string_bytes text) × (status ≡ given) × (new.input ≡ old.input)
     × (new.output ≡ old.output))
-Informs Memory old status new =
-    TellsOut (codes "Memory") old.errors status new.errors × (new.input ≡ old.input) × (new.output ≡ old.output)
+Informs Memory old status new = PutsRefusal true (codes "Memory") old status new
 
--- What a line does whose first word after the program's name is this one: what was found on it is done, unless memory is
--- refused for its paths; or it is not taken. `images` are the files of images, by their names.
+-- What a line does whose first word after the program's name is this one: what was found on it is done; or it is not
+-- taken. `images` are the files of images, by their names.
 pub data Runs (A : Type 0) (images : List ℕ → Option (List ℕ)) (name : Option (List ℕ)) (old : SystemView) (status : ℕ)
     (new : SystemView) : Type 0 where
   does : (line : CommandLine) → IsNamed name line.command → IsFound line → DoesFor A images line old status new →
-      Runs A images name old status new
-  lacks_memory : (line : CommandLine) → IsNamed name line.command → IsFound line → LacksMemory old status new →
       Runs A images name old status new
   shows : (fault : LineFault) → HasStatus fault → Informs fault old.standard status new.standard → new.places
       ≡ old.places → Runs A images name old status new

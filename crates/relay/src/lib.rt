@@ -1,7 +1,7 @@
 //! The program `relay`. [`System::run_line`] does what the words of a line say over standard streams and the files at
 //! paths, which [`Places`] gives out, and answers the exit status; [`run`] calls it with the program's own words and
-//! streams and the system's files. [`do_command`] does a command over its files and streams; the files and the commands
-//! stand in crates of their own and are offered here too.
+//! streams and the system's files. [`do_command`] does a command over its files and streams; the commands stand in crates
+//! of their own.
 //!
 //! Proved of a line, of [`System::run_line`]: which command it names; that the command is done with the files at the
 //! path that it names, and every other path is as it was; that all of its output is out where the status is 0; and
@@ -30,20 +30,7 @@ mod system;
 pub use commands::do_command;
 pub use program::run;
 pub use relay_command::Command;
-pub use relay_desk_commands::{
-    CopyOptions, IMPORT_BYTES, copy_command, deliver_command, export_command, forget_command,
-    held_command, import_command, scan_command,
-};
-pub use relay_line::{LineFault, command_line};
-pub use relay_places::{Access, Named, Places};
-pub use relay_printer_commands::{
-    Labels, TICKETS_BYTES, audit_command, give_command, give_last_command, ledger_command,
-    left_command, plan_command, print_command, take_command, ticket_command,
-};
-pub use relay_shared::{DOCUMENT_BYTES, Ended, EndedDesk, MOST_IMAGES, Streams};
-pub use relay_symbol_commands::{
-    Form, ReadRefusal, SymbolRefusal, draw_command, read_command, words_command,
-};
-pub use relay_world_command::{INPUT_BYTES, world_command};
+pub use relay_places::{Access, MemPlace, MemPlaces, Named, Places};
+pub use relay_printer_commands::Labels;
 pub use standard::StandardStreams;
 pub use system::System;

@@ -1,8 +1,9 @@
 //! What the words of a line say, done on a system.
 
-ghost use Rattle.std.specs.Prelude.{◌≡◌, ◌⊎◌, IfOk, map, option_map, slice_get};
-ghost use Rattle.relay.specs.Program.{DoesAndSaves, DoesAt, DoesFor, Helps, LacksMemory, ShowsNote, OrNothing, Runs};
-ghost use Rattle.relay.specs.Program.{SavesOutput, Informs, TellsOut, save_fault_name, system_at};
+ghost use Rattle.std.specs.Prelude.{◌≡◌, ◌≢◌, [], true, IfOk, IsSome, OnErr, codes, map, option_map, slice_get};
+ghost use Rattle.relay.specs.Program.{DoesAndSaves, DoesAt, DoesFor, Helps, NamesFiles, Notes, OrNothing, Runs};
+ghost use Rattle.relay.specs.Program.{SavesOutput, Informs, PutsRefusal, named_path, refuses_on_errors, save_fault_name};
+ghost use Rattle.relay.specs.Program.{system_at};
 
 use crate::named::{named_by, refuses_on_errors};
 use crate::standard::{Done, StandardStreams, do_between, show, tell};
@@ -32,22 +33,21 @@ fn images_of<P: Places>(
     places: &P,
     names: &[&str],
 ) -> Result<Vec<P::Images>, AllocError>
-    ensures { IfOk result (λ given. map P.Images.remaining given.items
+    ensures given { IfOk result (λ given. map P.Images.remaining given.items
         ≡ map (P.images places.now) (map (λ name. name.now) names.now)) }
+    ensures refused { OnErr result (map (λ name. name.now) names.now ≢ []) }
 {
-    let mut images = Vec::new(alloc);
+    let mut files = Vec::new(alloc);
     for name in names {
-        images.push(places.images(*name)?)?;
+        files.push(places.images(*name)?)?;
     }
-    Ok(images)
+    Ok(files)
 }
 
 impl<I: Read + Drop, O: Write + Drop, E: Write + Drop> StandardStreams<I, O, E> {
     // Puts a note, if there is one, on the standard error.
     fn noted(self, alloc: Global, note: Option<String>) -> Self
-        ensures input { result.input ≡ self.input }
-        ensures output { result.output ≡ self.output }
-        ensures errors { ShowsNote self.errors result.errors }
+        ensures { Notes self result }
     {
         let Some(text) = note else {
             return self;
@@ -59,23 +59,22 @@ impl<I: Read + Drop, O: Write + Drop, E: Write + Drop> StandardStreams<I, O, E> 
 
     // Writes the line of a refusal to the standard error, and gives the exit status.
     fn refuse_on_errors(self, alloc: Global, name: &str) -> (u8, Self)
-        ensures input { result.1.input ≡ self.input }
-        ensures output { result.1.output ≡ self.output }
-        ensures errors { TellsOut name.now self.errors result.0 result.1.errors }
+        ensures { PutsRefusal true name.now self result.0 result.1 }
     {
         let StandardStreams(input, output, errors) = self;
         let (status, errors) = tell(alloc, errors, name);
         (status, StandardStreams(input, output, errors))
     }
 
-    // Writes the line of a refusal to the output, and gives the exit status.
-    fn refuse_on_output(self, alloc: Global, name: &str) -> (u8, Self)
-        ensures input { result.1.input ≡ self.input }
-        ensures output { TellsOut name.now self.output result.0 result.1.output }
-        ensures errors { result.1.errors ≡ self.errors }
+    // Refuses memory where the refusals of a command go, and gives the exit status.
+    fn refuse_memory(self, alloc: Global, command: Command) -> (u8, Self)
+        ensures { PutsRefusal (refuses_on_errors command.entry) (codes "Memory") self result.0 result.1 }
     {
+        if refuses_on_errors(command) {
+            return self.refuse_on_errors(alloc, "Memory");
+        }
         let StandardStreams(input, output, errors) = self;
-        let (status, output) = tell(alloc, output, name);
+        let (status, output) = tell(alloc, output, "Memory");
         (status, StandardStreams(input, output, errors))
     }
 
@@ -108,31 +107,19 @@ impl<I: Read + Drop, O: Write + Drop, E: Write + Drop> StandardStreams<I, O, E> 
     }
 }
 
+#[rattlefmt::skip] // a pattern a line
 impl<I: Read + Drop, O: Write + Drop, E: Write + Drop, P: Places> System<I, O, E, P> {
     // Does a command that writes to the output, unless memory is refused for the paths that it names.
-    fn do_here<F: ImageFile>(
-        self,
-        alloc: Global,
-        images: &[F],
-        command: Command,
-    ) -> (Result<u8, AllocError>, Self)
+    fn do_here<F: ImageFile>(self, alloc: Global, images: &[F], command: Command) -> (Result<u8, AllocError>, Self)
         ensures { OrNothing (DoesAt Global command.entry (map F.remaining images.now))
-            (system_at self.standard (P.state self.places)) result.0
+            (IsSome (named_path command.entry)) (system_at self.standard (P.state self.places)) result.0
             (system_at result.1.standard (P.state result.1.places)) }
     {
-        let System {
-            standard,
-            mut places,
-        } = self;
+        let System { standard, mut places } = self;
         let Some(named) = named_by(command) else {
             let (file, folder) = (MemStore::new(alloc), MemSet::new(alloc));
             let done = do_between(alloc, file, folder, images, standard, command);
-            let Done {
-                status,
-                standard,
-                has_no_image,
-                ..
-            } = done;
+            let Done { status, standard, has_no_image, .. } = done;
             let standard = standard.noted(alloc, note_of_input(alloc, has_no_image));
             return (Ok(status), System { standard, places });
         };
@@ -140,13 +127,7 @@ impl<I: Read + Drop, O: Write + Drop, E: Write + Drop, P: Places> System<I, O, E
             return (Err(AllocError), System { standard, places });
         };
         let done = do_between(alloc, file, folder, images, standard, command);
-        let Done {
-            status,
-            store,
-            set,
-            standard,
-            has_no_image,
-        } = done;
+        let Done { status, store, set, standard, has_no_image } = done;
         let note = places.close(named, store, set, status);
         let note = note.or(note_of_input(alloc, has_no_image));
         let standard = standard.noted(alloc, note);
@@ -159,10 +140,7 @@ impl<I: Read + Drop, O: Write + Drop, E: Write + Drop, P: Places> System<I, O, E
             (system_at self.standard (P.state self.places)) result.0
             (system_at result.1.standard (P.state result.1.places)) }
     {
-        let System {
-            standard,
-            mut places,
-        } = self;
+        let System { standard, mut places } = self;
         let (answer, note) = places.save_new(path, bytes);
         let Err(fault) = answer else {
             return (0, System { standard, places });
@@ -176,7 +154,7 @@ impl<I: Read + Drop, O: Write + Drop, E: Write + Drop, P: Places> System<I, O, E
     // Does a command, and saves its output as a new file, if it was done.
     fn do_saved(self, alloc: Global, path: &str, command: Command) -> (Result<u8, AllocError>, Self)
         ensures { OrNothing (DoesAndSaves Global command.entry path.now)
-            (system_at self.standard (P.state self.places)) result.0
+            (IsSome (named_path command.entry)) (system_at self.standard (P.state self.places)) result.0
             (system_at result.1.standard (P.state result.1.places)) }
     {
         let System { standard, places } = self;
@@ -202,7 +180,7 @@ impl<I: Read + Drop, O: Write + Drop, E: Write + Drop, P: Places> System<I, O, E
     // Does the command of a line with the other files of the line.
     fn do_with(self, alloc: Global, line: &CommandLine<'_>) -> (Result<u8, AllocError>, Self)
         ensures { OrNothing (DoesFor Global (P.images self.places) line.now)
-            (system_at self.standard (P.state self.places)) result.0
+            (NamesFiles line.now) (system_at self.standard (P.state self.places)) result.0
             (system_at result.1.standard (P.state result.1.places)) }
     {
         if let Some(path) = line.saved_as {
@@ -214,32 +192,20 @@ impl<I: Read + Drop, O: Write + Drop, E: Write + Drop, P: Places> System<I, O, E
         }
     }
 
-    // Refuses where the command's refusals go, and gives the exit status.
-    fn refuse_memory(self, alloc: Global, command: Command) -> (u8, Self)
-        ensures { LacksMemory (system_at self.standard (P.state self.places)) result.0
-            (system_at result.1.standard (P.state result.1.places)) }
-    {
-        let System { standard, places } = self;
-        let (status, standard) = if refuses_on_errors(command) {
-            standard.refuse_on_errors(alloc, "Memory")
-        } else {
-            standard.refuse_on_output(alloc, "Memory")
-        };
-        (status, System { standard, places })
-    }
-
     // Does what a line says, and gives the exit status.
     fn do_line(self, alloc: Global, line: &CommandLine<'_>) -> (u8, Self)
         ensures { DoesFor Global (P.images self.places) line.now
             (system_at self.standard (P.state self.places)) result.0
-            (system_at result.1.standard (P.state result.1.places))
-            ⊎ LacksMemory (system_at self.standard (P.state self.places)) result.0
             (system_at result.1.standard (P.state result.1.places)) }
     {
         let (ended, system) = self.do_with(alloc, line);
         match ended {
             Ok(status) => (status, system),
-            Err(AllocError) => system.refuse_memory(alloc, line.command),
+            Err(AllocError) => {
+                let System { standard, places } = system;
+                let (status, standard) = standard.refuse_memory(alloc, line.command);
+                (status, System { standard, places })
+            }
         }
     }
 

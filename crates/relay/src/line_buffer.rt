@@ -185,11 +185,11 @@ impl<W: Write, A: Allocator> Write for LineBuffer<W, A> {
 
 /// Writes text to the standard error. What isn't UTF-8 is refused.
 #[derive(Drop)]
-pub(crate) struct ErrorWriter<'a, E> {
-    pub(crate) to: &'a E,
+pub(crate) struct ErrorWriter<'a> {
+    pub(crate) to: &'a HostRuntime,
 }
 
-impl<E: Eprint> Write for ErrorWriter<'_, E> {
+impl Write for ErrorWriter<'_> {
     fn write(&mut self, buf: &[u8]) -> io::Result<usize> {
         let Ok(text) = str::from_utf8(buf) else {
             return Err(Error::from(ErrorKind::InvalidData));

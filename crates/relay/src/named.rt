@@ -1,7 +1,7 @@
 //! The files that a command names, and where its refusals go.
 
-ghost use Rattle.std.specs.Prelude.{◌≡◌, [], IfSome, IsTrue, MatchOption};
-ghost use Rattle.relay.specs.Program.{path_of};
+ghost use Rattle.std.specs.Prelude.{◌≡◌, IfSome, IsTrue, option_map};
+ghost use Rattle.relay.specs.Program.{named_path, refuses_on_errors};
 ghost use Rattle.relay_places.specs.declared.place.Access.TheVariants.{Makes};
 
 use dm_assembly_desk::MOST_CAPACITY;
@@ -20,8 +20,7 @@ fn gathering(capacity: u16) -> Access {
 /// The files that a command names, if it names any.
 #[rattlefmt::skip]
 pub(crate) fn named_by<'a>(command: Command<'a>) -> Option<Named<'a>>
-    ensures path { MatchOption result (path_of command.entry ≡ [])
-        (λ named. named.file.now ≡ path_of command.entry) }
+    ensures path { option_map (λ named. named.file.now) result ≡ named_path command.entry }
     ensures desk { IfSome result (λ named. named.access ≡ Makes → IsTrue named.is_desk) }
 {
     let (file, is_desk, access) = match command {
@@ -43,7 +42,9 @@ pub(crate) fn named_by<'a>(command: Command<'a>) -> Option<Named<'a>>
 
 /// Whether the refusals of a command go to the standard error, since its output is bytes for another program. Those of
 /// each other command are lines of its output.
-pub(crate) fn refuses_on_errors(command: Command) -> bool {
+pub(crate) fn refuses_on_errors(command: Command) -> bool
+    ensures { result ≡ refuses_on_errors command.entry }
+{
     matches!(
         command,
         Command::Draw { .. }

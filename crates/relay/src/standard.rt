@@ -114,21 +114,11 @@ pub(crate) struct Done<S: Store, T: StoreSet, I: Read, O: Write, E: Write> {
 /// Does a command over a store, a set and files of images, and lets out what it has written. It stays a function of its
 /// own, so that the frames of its instances don't add up on the stack.
 #[inline(never)]
+#[rattlefmt::skip] // a pattern a line
 pub(crate) fn do_between<
-    A: Allocator + Copy,
-    S: Store,
-    T: StoreSet,
-    F: ImageFile,
-    I: Read + Drop,
-    O: Write + Drop,
-    E: Write + Drop,
+    A: Allocator + Copy, S: Store, T: StoreSet, F: ImageFile, I: Read + Drop, O: Write + Drop, E: Write + Drop,
 >(
-    alloc: A,
-    store: S,
-    set: T,
-    images: &[F],
-    standard: StandardStreams<I, O, E>,
-    command: Command,
+    alloc: A, store: S, set: T, images: &[F], standard: StandardStreams<I, O, E>, command: Command,
 ) -> Done<S, T, I, O, E>
     ensures { DoesBetween A command.entry (map F.remaining images.now) (files_of (S.state store) (T.state set)) standard
         result.status (files_of (S.state result.store) (T.state result.set)) result.standard }
@@ -139,22 +129,12 @@ pub(crate) fn do_between<
     let mut streams = Streams::new(Watched::new(input), output, errors);
     let ended = do_command(alloc, store, set, images, &mut streams, command);
     let EndedDesk { status, store, set } = ended;
-    let Streams {
-        input,
-        output,
-        errors,
-    } = streams;
+    let Streams { input, output, errors } = streams;
     let says = says_failure(command, output.has_failed(), status);
     let (status, output, errors) = let_out(output.into_writer(), errors, status, says);
     let input = input.into_reader();
     let has_no_image = status == 0 && answers_each_image(command) && input.is_empty();
     let input = input.into_reader();
     let standard = StandardStreams(input, output, errors);
-    Done {
-        status,
-        store,
-        set,
-        standard,
-        has_no_image,
-    }
+    Done { status, store, set, standard, has_no_image }
 }

@@ -3,8 +3,7 @@ use Rattle.std.specs.Prelude.{◌≡◌, ℕ, ◌++◌, List, [], ◌∷◌, Boo
 use Rattle.std.specs.{Str.bytes_eq, FinMap.empty}
 use Rattle.relay_desk_commands.specs.Desks.{DeskFiles}
 use Rattle.dm_store.specs.{Disk.draft_of, Disk.saved_under, Disk.set_in, Disk.unclaimed, Saved.Replaces, Saved.Saved, Saved.SavedSet, Saved.in_memory, declared.store.StoreFault.StoreFault, declared.mem_store.NextSave.TheVariants.Fine}
-use Rattle.relay_places.specs.declared.{place.Access.Access, place.Place.Place, locked.Found.Found, mem_places.MemPlace.MemPlace}
-use Rattle.relay_places.specs.declared.place.Access.TheVariants.{Creates, Makes, Saves, Looks}
+use Rattle.relay_places.specs.declared.{place.Access.Access, place.Place.Place, locked.Found.Found, mem_places.MemPlace.MemPlace, place.Access.TheVariants.Creates, place.Access.TheVariants.Makes, place.Access.TheVariants.Saves, place.Access.TheVariants.Looks}
 
 abbrev pub files_of : Saved → SavedSet → DeskFiles
 files_of joint set = record { joint = joint; set = set }

@@ -42,13 +42,8 @@ pub trait Places: Drop {
 
     /// Takes them back after a command of this status, ends their lock, and gives what is to be said of them on the
     /// standard error.
-    fn close(
-        &mut self,
-        named: Named<'_>,
-        file: Self::File,
-        folder: Self::Folder,
-        status: u8,
-    ) -> Option<String>
+    #[rattlefmt::skip] // a signature a line
+    fn close(&mut self, named: Named<'_>, file: Self::File, folder: Self::Folder, status: u8) -> Option<String>
         requires { is_open self.old named.file.now }
         ensures there { state self.new named.entry.file.now
             ≡ files_of (Self.File.state file) (Self.Folder.state folder) }

@@ -123,13 +123,8 @@ impl<'a> Places for RealPlaces<'a> {
         Ok(files)
     }
 
-    fn close(
-        &mut self,
-        _named: Named<'_>,
-        file: Self::File,
-        folder: Self::Folder,
-        status: u8,
-    ) -> Option<String> {
+    #[rattlefmt::skip] // a signature a line
+    fn close(&mut self, _named: Named<'_>, file: Self::File, folder: Self::Folder, status: u8) -> Option<String> {
         // While these live they share the command's files.
         drop(file);
         drop(folder);

@@ -1,13 +1,13 @@
 -- Lines that ran over the places of a system are commands that ran at a site: the paths that they name, each once.
 use Rattle.std.proofs.Common.{◌≡◌, ◌≢◌, ◌++◌, ◌⊎◌, inl, inr, ℕ, zero, suc, List, [], ◌∷◌, None, Option, Some, slice_get, slice_set, refl, sym, ap, subst, ◌∙◌, Bool, true, false}
-use Rattle.std.specs.{Prelude.Decides, Prelude.IfSome, List.AllByRecursion, Str.bytes_eq}
+use Rattle.std.specs.{Prelude.Decides, Prelude.IfSome, Prelude.unwrap_or, List.AllByRecursion, Str.bytes_eq}
 use Rattle.std.proofs.lemmas.Slice.Eq.{bytes_eq-Decides}
 use Rattle.relay_desk_commands.specs.Desks.{DeskFiles}
 use Rattle.relay.specs.Places.{PlacesView}
-use Rattle.relay.specs.Program.{path_of, IsAt, SystemView, at_none, at_path, does, does_and_saves, does_here, lacks_memory, shows}
+use Rattle.relay.specs.Program.{named_path, path_of, IsAt, SystemView, does, does_and_saves, does_here, lacks_memory, shows}
 use Rattle.relay.specs.Program as program
 use Rattle.relay_program_runs.specs.Law.{At, MeetsPremises, IsBlank, IsNew, Ran, RunInTurn}
-use Rattle.relay_program_runs.specs.Lines.{Follow, LineRan, LinesAsk, NoLinePrintsAnIdAgain, WhatLinesDeliverWasPrinted, all_commands, commands_in, if_at, ran_at, saved_as}
+use Rattle.relay_program_runs.specs.Lines.{Follow, LineRan, LinesAsk, NoLinePrintsAnIdAgain, WhatLinesDeliverWasPrinted, all_commands, commands_in, if_named, ran_at, saved_as}
 use Rattle.relay_program_runs.proofs.{Lists.all_so, Walk.no_id_is_printed_twice, Walk.what_is_delivered_was_printed}
 use Rattle.relay_program_runs.proofs.Steps.{Pairs, at_same, found, pairs_so, there}
 
@@ -175,20 +175,26 @@ module _ (A : Type 0) where
       rest,
     )
 
-    over_at : (ran : Ran A) (old new : PlacesView) (at : IsAt (path_of ran.command) ran.before.files old ran.after.files new)
-        (rans : List (Ran A)) → RunsOver new rans → RunsOver old (if_at at ran ++ rans)
-    over_at ran old new (at_none no_path same) rans over = subst (λ (p : PlacesView). RunsOver p rans) same over
-    over_at ran old new (at_path finds leaves keeps) rans over =
-        (finds, new, leaves, λ other is apart. keeps other (λ same. apart (sym same)), over)
+    over_at : (named : Option (List ℕ)) (ran : Ran A) (old new : PlacesView) → unwrap_or named [] ≡ path_of ran.command →
+        IsAt named ran.before.files old ran.after.files new → (rans : List (Ran A)) → RunsOver new rans →
+        RunsOver old (if_named named ran ++ rans)
+    over_at None ran old new is same rans over = subst (λ (p : PlacesView). RunsOver p rans) same over
+    over_at (Some path) ran old new is (finds, leaves, keeps) rans over = (
+      finds ∙ ap old is,
+      new,
+      ap new (sym is) ∙ leaves,
+      λ other there apart. keeps other (λ same. apart (sym (same ∙ is))),
+      over,
+    )
 
     over_line : (images : List ℕ → Option (List ℕ)) (name : Option (List ℕ)) (old new : SystemView) (status : ℕ)
         (line : program.Runs A images name old status new) (rans : List (Ran A)) → AllIn paths rans →
         IfSome (saved_as line) (IsNone paths) → RunsOver new.places rans →
         RunsOver old.places (commands_in line ++ rans)
     over_line images name old new status (does line named met (does_here none at)) rans all saved over =
-        over_at (ran_at at) old.places new.places at.is_at rans over
+        over_at (named_path line.command) (ran_at at) old.places new.places refl at.is_at rans over
     over_line images name old new status (does line named met (does_and_saves path is to)) rans all saved over =
-        over_at (ran_at to.does) old.places to.done.places to.does.is_at rans (elim to.saves [
+        over_at (named_path line.command) (ran_at to.does) old.places to.done.places refl to.does.is_at rans (elim to.saves [
           | inl kept ↦ subst (λ (s : SystemView). RunsOver s.places rans) kept.2 over
           | inr (zero_is, saves) ↦ elim saves.saves [
             | inl kept ↦ subst (λ (p : PlacesView). RunsOver p rans) kept.0 over
@@ -197,8 +203,8 @@ module _ (A : Type 0) where
                 over
           ]
         ])
-    over_line images name old new status (lacks_memory line named met lacks) rans all saved over =
-        subst (λ (p : PlacesView). RunsOver p rans) lacks.places over
+    over_line images name old new status (does line named met (lacks_memory names same told)) rans all saved over =
+        subst (λ (p : PlacesView). RunsOver p rans) same over
     over_line images name old new status (shows fault ends shown same) rans all saved over =
         subst (λ (p : PlacesView). RunsOver p rans) same over
 

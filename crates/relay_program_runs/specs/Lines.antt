@@ -4,7 +4,7 @@ use Rattle.std.specs.{List.AllByRecursion, Io.KnownBytes.Keeps}
 use Rattle.relay_command.specs.declared.command.Command.{Command}
 use Rattle.relay_desk_commands.specs.Desks.{DeskFiles}
 use Rattle.relay.specs.Places.{PlacesView}
-use Rattle.relay.specs.Program.{path_of, DoesAt, IsAt, SystemView, at_none, at_path, does, does_and_saves, does_here, streams_over}
+use Rattle.relay.specs.Program.{named_path, path_of, DoesAt, SystemView, does, does_and_saves, does_here, streams_over}
 use Rattle.relay.specs.Program as program
 use Rattle.relay_program_runs.specs.Law.{AreApart, DeliversPrinted, Each, IsBlank, IsFirstOfItsId, Ran, TakesGiven, TakesPrinted, all_made, exited}
 
@@ -34,15 +34,14 @@ module _ {A : Type 0} where
   }
 
   -- a command that names no path is none of those that the laws speak of
-  abbrev pub if_at : {path : List ℕ} {before after : DeskFiles} {old new : PlacesView} →
-      IsAt path before old after new → Ran A → List (Ran A)
-  if_at (at_none no_path same) ran = []
-  if_at (at_path finds leaves keeps) ran = ran ∷ []
+  abbrev pub if_named : Option (List ℕ) → Ran A → List (Ran A)
+  if_named None ran = []
+  if_named (Some path) ran = ran ∷ []
 
   abbrev pub commands_in : {images : List ℕ → Option (List ℕ)} {name : Option (List ℕ)} {old new : SystemView} {status : ℕ} →
       program.Runs A images name old status new → List (Ran A)
-  commands_in (does line named met (does_here none at)) = if_at at.is_at (ran_at at)
-  commands_in (does line named met (does_and_saves path is to)) = if_at to.does.is_at (ran_at to.does)
+  commands_in (does line named met (does_here none at)) = if_named (named_path line.command) (ran_at at)
+  commands_in (does line named met (does_and_saves path is to)) = if_named (named_path line.command) (ran_at to.does)
   commands_in other = []
 
   abbrev pub all_commands : List (LineRan A) → List (Ran A)

@@ -13,4 +13,4 @@ by_out (says_so after part tells told) = absurd (refused_one tells)
 
 pub returns : goal.returns
 returns g c command images old new at =
-    let all = by_out at.between.out in (all.0, subst (λ out. Keeps at.between.wrote.output.contents out) (sym at.output) all.1)
+    let all = by_out at.between.out in (all.0, subst (λ out. Keeps at.between.wrote.output.contents out) (sym at.noted.1) all.1)

@@ -1,20 +1,23 @@
-use Rattle.std.proofs.Common.{rules, map, ◌≡◌, ℕ, List, Option, Some, None, Result, Ok, Err, sym}
-use Rattle.relay.specs.Program.{SystemView, system_at, DoesAndSaves, DoesAt, DoesFor, OrNothing, does_and_saves, does_here}
+use Rattle.std.proofs.Common.{rules, map, ◌≡◌, ℕ, List, Option, Some, None, Result, Ok, Err, inl, sym}
+use Rattle.std.specs.Prelude.{IsSome}
+use Rattle.relay.specs.Program.{NamesFiles, SystemView, named_path, system_at, DoesAndSaves, DoesAt, DoesFor, OrNothing, does_and_saves, does_here}
 use Rattle.relay.proofs.system.System.do_with.Goals as goal
 use Rattle.relay_line.specs.{Line.named_images, Line.saved_path, declared.line.CommandLine.CommandLine}
 
 -- From what a command does to what its line does: where memory is refused, nothing either way.
 module _ (A : Type 0) (line : CommandLine) (images : List ℕ → Option (List ℕ)) (old new : SystemView) where
   pub over_files : {E : Type 0} (given : List (Option (List ℕ))) (ended : Result ℕ E) → saved_path line ≡ None →
-      given ≡ map images (named_images line) → OrNothing (DoesAt A line.command given) old ended new →
-      OrNothing (DoesFor A images line) old ended new
+      given ≡ map images (named_images line) →
+      OrNothing (DoesAt A line.command given) (IsSome (named_path line.command)) old ended new →
+      OrNothing (DoesFor A images line) (NamesFiles line) old ended new
   over_files given (Ok status) none are done = does_here none (rw (sym are) done)
-  over_files given (Err fault) none are same = same
+  over_files given (Err fault) none are (names, same) = (inl names, same)
 
   pub saved : {E : Type 0} (path : List ℕ) (ended : Result ℕ E) → saved_path line ≡ Some path →
-      OrNothing (DoesAndSaves A line.command path) old ended new → OrNothing (DoesFor A images line) old ended new
+      OrNothing (DoesAndSaves A line.command path) (IsSome (named_path line.command)) old ended new →
+      OrNothing (DoesFor A images line) (NamesFiles line) old ended new
   saved path (Ok status) is done = does_and_saves path is done
-  saved path (Err fault) is same = same
+  saved path (Err fault) is (names, same) = (inl names, same)
 
 pub returns-in-Some : goal.returns-in-Some
 returns-in-Some g c =
