@@ -3,5 +3,7 @@
 #![tactic(auto)]
 
 pub mod laws;
+#[cfg(test)]
+mod lines;
 pub mod needed;
 pub mod worked;

@@ -1,0 +1,37 @@
+//! Lines one after another, over places in memory.
+
+use dm_store::{MemSet, MemStore};
+use relay::{MemPlace, MemPlaces, StandardStreams, System};
+use std::io::Cursor;
+use std::test::Fail;
+
+// Each line reads what the one before has written, and writes this, if it is known. The print's document is what the
+// ledger's line has written.
+#[rattlefmt::skip] // a line a line
+const LINES: [(&str, &[u8]); 6] = [
+    ("relay ledger --file other --number 7 --first 10 --last 19", b"left 10\n"),
+    ("relay ledger --file ledger --first 0 --last 9", b"left 10\n"),
+    ("relay print --file ledger --side 22", b""),
+    ("relay scan --file desk", b"0101 1/2 new\n0101 2/2 complete\n"),
+    ("relay deliver --file desk --id 0101", b"left 10\n"),
+    ("relay left --file other", b"printer 7\nleft 10\nfree 10 19 010b 0114\ngiven 0\n"),
+];
+
+#[test]
+#[rattlefmt::skip] // a pattern a line
+fn a_document_goes_from_a_ledger_to_a_desk(rt: HostRuntime) -> Result<(), Fail> {
+    let alloc = rt.alloc();
+    let opened = MemPlace { path: String::new(alloc), files: (MemStore::new(alloc), MemSet::new(alloc)) };
+    let mut places = MemPlaces { alloc, opened, kept: Vec::new(alloc), images: &[] };
+    let mut written = Vec::new(alloc);
+    for (line, wanted) in LINES {
+        let words: Vec<&str> = line.split(' ').collect(alloc)?;
+        let standard = StandardStreams(Cursor::new(written), Vec::new(alloc), Vec::new(alloc));
+        let (status, system) = System { standard, places }.run_line(alloc, words.as_slice());
+        let System { standard, places: after } = system;
+        let StandardStreams(_, output, _) = standard;
+        assert!(rt; status == 0 && (wanted.is_empty() || output.as_slice() == wanted), "{line}");
+        (places, written) = (after, output);
+    }
+    Ok(())
+}
