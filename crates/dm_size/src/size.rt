@@ -1,11 +1,11 @@
 //! The square symbol sizes.
 #![tactic(auto, using(crate::proofs::Sound::sound))]
 
-ghost use Rattle.std.specs.Prelude.{◌≡◌, ◌≢◌, IsNone, IfSome};
+ghost use Rattle.std.specs.Prelude.{◌≡◌, ◌≢◌, ◌<◌, Contains, AllPairs, IsNone, IfSome};
 ghost use Rattle.dm_size.specs.declared.size.Size.{Size};
 ghost use Rattle.dm_size.specs.Sizes as sizes;
 
-// Where a size is listed: in this enum, in `Size::of_side` and `Size::row` below, and in specs/Sizes.antt; above this
+// Where a size is listed: in this enum, in `Size::all` and `Size::row` below, and in specs/Sizes.antt; above this
 // crate in what docs/CONTRIBUTING.md says of a new size.
 
 /// A square ECC 200 symbol of one data region or more, by its side in modules, finder patterns included:
@@ -49,38 +49,31 @@ struct Row {
 }
 
 impl Size {
+    /// All sizes, by rising side.
+    #[rattlefmt::skip]
+    pub fn all() -> [Size; 23]
+        ensures each { (size : Size) → Contains result size }
+        ensures rising { AllPairs (λ before after. sizes.side before < sizes.side after) result }
+    {
+        [
+            Size::Side10, Size::Side12, Size::Side14, Size::Side16, Size::Side18, Size::Side20, Size::Side22,
+            Size::Side24, Size::Side26, Size::Side32, Size::Side36, Size::Side40, Size::Side44, Size::Side48,
+            Size::Side52, Size::Side64, Size::Side72, Size::Side80, Size::Side88, Size::Side96, Size::Side104,
+            Size::Side120, Size::Side132,
+        ]
+    }
+
     /// The size with this many modules along a side, if it is one of the 23.
-    #[tactic(auto, unfolding(crate::specs::Sizes::row))]
     pub fn of_side(side: u16) -> Option<Size>
         ensures found { IfSome result (λ size. sizes.side size ≡ side) }
         ensures none { IsNone result → (size : Size) → sizes.side size ≢ side }
     {
-        Some(match side {
-            10 => Size::Side10,
-            12 => Size::Side12,
-            14 => Size::Side14,
-            16 => Size::Side16,
-            18 => Size::Side18,
-            20 => Size::Side20,
-            22 => Size::Side22,
-            24 => Size::Side24,
-            26 => Size::Side26,
-            32 => Size::Side32,
-            36 => Size::Side36,
-            40 => Size::Side40,
-            44 => Size::Side44,
-            48 => Size::Side48,
-            52 => Size::Side52,
-            64 => Size::Side64,
-            72 => Size::Side72,
-            80 => Size::Side80,
-            88 => Size::Side88,
-            96 => Size::Side96,
-            104 => Size::Side104,
-            120 => Size::Side120,
-            132 => Size::Side132,
-            _ => return None,
-        })
+        for size in Size::all() {
+            if size.side() == side {
+                return Some(size);
+            }
+        }
+        None
     }
 
     // The standard's table.

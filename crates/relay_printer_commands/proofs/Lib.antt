@@ -1,4 +1,3 @@
 pub mod AuditSteps
 pub mod CheckWords
 pub mod PlanSteps
-pub mod Sizes

@@ -1,7 +1,6 @@
 //! `relay plan`: the sides at which a document can be cut into labels.
 
-ghost use Rattle.std.specs.Prelude.{◌≡◌, ◌↔◌, ℕ, Some};
-ghost use Rattle.relay_printer_commands.specs.Printers.{IsPlan, IsPlanned, EndsPlan, side_line};
+ghost use Rattle.relay_printer_commands.specs.Printers.{IsPlan, EndsPlan, side_line};
 ghost use Rattle.std.specs.List.{flat_map};
 ghost use Rattle.relay_streams.specs.Streams.{TakesPart};
 ghost use Rattle.relay_shared.specs.Command.{PutsText};
@@ -16,22 +15,17 @@ use relay_streams::{Output, WriteFault};
 use std::alloc::Allocator;
 use std::io::{Read, Write};
 
-// How many labels of a side a document has: none, where the number is no side.
-fn count_of(document: &[u8], side: u16, scheme: Scheme) -> Option<u8>
-    ensures { (count : ℕ) → (result ≡ Some count)
-        ↔ IsPlanned scheme document.now (record { side = side; count = count }) }
-{
-    label_count(document, Size::of_side(side)?, scheme)
-}
-
-// Each side of which a document has labels, the smallest first. The greatest side is 132.
-fn plan_of(document: &[u8], scheme: Scheme) -> ArrayVec<PlannedSide, 133>
+// Each side of which a document has labels, the smallest first.
+fn plan_of(document: &[u8], scheme: Scheme) -> ArrayVec<PlannedSide, 23>
     ensures { IsPlan scheme document.now result.items }
 {
     let mut plan = ArrayVec::new();
-    for side in 0..133 {
-        if let Some(count) = count_of(document, side, scheme) {
-            plan.push(PlannedSide { side, count });
+    for size in Size::all() {
+        if let Some(count) = label_count(document, size, scheme) {
+            plan.push(PlannedSide {
+                side: size.side(),
+                count,
+            });
         }
     }
     plan

@@ -42,16 +42,14 @@ fn suits(labels: Labels, document: &[u8], size: Size, scheme: Scheme) -> bool
     }
 }
 
-// The smallest size that suits a document. The greatest side is 132.
+// The smallest size that suits a document.
 fn chosen(labels: Labels, document: &[u8], scheme: Scheme) -> Option<Size>
     ensures { MatchOption result ((size : Size) → ¬ Suits labels scheme document.now size)
         (IsChosen labels scheme document.now) }
 {
-    for side in 0..133 {
-        if let Some(size) = Size::of_side(side) {
-            if suits(labels, document, size, scheme) {
-                return Some(size);
-            }
+    for size in Size::all() {
+        if suits(labels, document, size, scheme) {
+            return Some(size);
         }
     }
     None

@@ -3,6 +3,7 @@ use Rattle.std.proofs.Common.{◌≡◌, ◌*◌, ◌/◌, ◌%◌, ◌++◌, �
 use Rattle.std.specs.{List.AllByRecursion, Io.KnownBytes.Consumes, Fmt.digits}
 use Rattle.std.proofs.lemmas.List.{length-append, FromFn.length-map-range_with_len}
 use Rattle.dm_size.specs.{Sizes.row, declared.size.Size.TheVariants.Side12}
+use Rattle.dm_size.proofs.Listed.{same_size}
 use Rattle.dm_finder_frame.specs.Frame.{GridView, IsWholeGrid, square_of}
 use Rattle.dm_pbm_io.specs.{Header.IsHeaderBody, Header.magic, Header.stride, Laws.IsReadable}
 use Rattle.dm_pbm_io.specs.Image.{IsGridInside, Picture, Spells, image_with_quiet_zone, p4, packed, pixel_with_quiet_zone, rows_text, written}
@@ -16,7 +17,6 @@ use Rattle.relay_shared.specs.Command.{ImageComes.image, ImageComes.unread, Imag
 use Rattle.relay_shared.specs.Command.AnswersImages.{none, another}
 use Rattle.relay_shared.specs.Command.EndsImages.{no_image, last_line}
 use Rattle.relay_shared.specs.Command.TellsImages.{ended, stopped}
-use Rattle.relay_printer_commands.proofs.Sizes.{same_size}
 use Rattle.relay_printer_commands.specs.Printers.{images_of}
 use Rattle.relay_desk_commands.specs.Desks.{AtDesk, EndsScan, OnDesk, ScansPicture, scan_images}
 use Rattle.relay_desk_commands.specs.Desks.ScansPicture.{accepted, refused, unsettled, no_grid}

@@ -4,6 +4,7 @@ use Rattle.std.specs.{Prelude.IfSome, Prelude.IsTrue, Prelude.MatchBool, Borrow.
 use Rattle.std.specs.Io.KnownBytes.{Appends}
 use Rattle.std.proofs.lemmas.List.{take_all}
 use Rattle.dm_size.specs.{Sizes.row, Sizes.side, declared.size.Size.Size, declared.size.Size.TheVariants.Side12}
+use Rattle.dm_size.proofs.Listed.{same_size}
 use Rattle.dm_symbol.specs.Correction.{grid_of_words}
 use Rattle.dm_assembly_desk.specs.declared.{fault.ImportFault.ImportFault, reply.Imported.Imported}
 use Rattle.dm_assembly_desk.specs.declared.fault.ImportFault.TheVariants as import_fault
@@ -24,7 +25,6 @@ use Rattle.relay_command.specs.declared.command.Command.TheVariants.{Copy, Expor
 use Rattle.relay_command.specs.declared.command.Labels.TheVariants.{OfSide}
 use Rattle.relay_shared.specs.Command.{StreamsView}
 use Rattle.relay_printer_commands.specs.Printers.{IsTextOf, EndsPrint, PrintsLabels, images_of, EndsGive, EndsLedger, EndsTake, OnLedger, ledger_at}
-use Rattle.relay_printer_commands.proofs.Sizes.{same_size}
 use Rattle.relay_printer_commands.specs.Printers.EndsPrint.{no_side, not_read, too_long, read as was_read}
 use Rattle.relay_printer_commands.specs.Printers.PrintsDocument.{opened as print_opened, not_opened as print_not_opened}
 use Rattle.relay_printer_commands.specs.Printers.PrintsLabels.{no_line, all, lost}
