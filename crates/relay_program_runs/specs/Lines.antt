@@ -2,7 +2,6 @@
 use Rattle.std.specs.Prelude.{◌≡◌, ◌≢◌, ◌++◌, ◌∷◌, ℕ, AllPairs, Bool, List, [], None, Option, Some, IfSome, IsTrue}
 use Rattle.std.specs.{List.AllByRecursion, Io.KnownBytes.Keeps}
 use Rattle.relay_command.specs.declared.command.Command.{Command}
-use Rattle.relay_desk_commands.specs.Desks.{DeskFiles}
 use Rattle.relay.specs.Places.{PlacesView}
 use Rattle.relay.specs.Program.{named_path, path_of, DoesAt, SystemView, does, does_and_saves, does_here, streams_over}
 use Rattle.relay.specs.Program as program

@@ -1,4 +1,4 @@
-use Rattle.std.proofs.Common.{ap, sym}
+use Rattle.std.proofs.Common.{ap}
 use Rattle.relay.specs.Program.{SystemView, lacks_memory}
 use Rattle.relay.proofs.system.System.do_line.Goals as goal
 
