@@ -83,8 +83,10 @@ fn create_anew<R: Files>(runtime: &R, how: &OpenOptions, path: &str) -> io::Resu
 }
 
 // Makes a draft of its own of these bytes, with the mode of the file that it is to replace, if that is there. At no
-// moment may more users read it.
+// moment may more users read it. A folder that can't be opened, and so can't be synced when the draft is in place, is
+// refused before.
 pub(crate) fn write_draft<R: Files>(runtime: &R, draft: &str, bytes: &[u8]) -> io::Result<R::File> {
+    fs::open(runtime, folder_of(draft))?;
     let path = draft.strip_suffix(".new").unwrap_or(draft);
     let mut how = OpenOptions::new();
     how.write(true).create_new(true);

@@ -38,22 +38,22 @@ const CASES: &[Case] = &[
     (Call::Keys(9), "one", "one", "1", 9, "list above/pages/, names, names"),
     (Call::Settle, "one", "one", "done", 9, "open above/pages/, sync"),
     (Call::Settle, "nothing", "nothing", "done", 9, ""),
-    // The new bytes go to a file beside, which gets the mode of the old one, two at a time. It is synced, and takes the
-    // name; then the folder is synced.
-    (Call::Replace, "one", "three", "done", 7,
-        "look pages/0001, open pages/0001.new, mode, write, write, write, sync, rename pages/0001.new, \
-        open above/pages/, sync"),
+    // The folder is opened, to see that it can be. The new bytes go to a file beside, which gets the mode of the old
+    // one, two at a time. It is synced, and takes the name; then the folder is synced.
+    (Call::Replace, "one", "three", "done", 8,
+        "open above/pages/, look pages/0001, open pages/0001.new, mode, write, write, write, sync, \
+        rename pages/0001.new, open above/pages/, sync"),
     // A set makes the folder first, whether it is there or not, and syncs the one above it, but not where it has listed
     // a key.
-    (Call::ReplaceKey(false), "one", "three", "done", 10,
-        "make above/pages, open above/, sync, look pages/0001, open pages/0001.new, mode, write, write, write, sync, \
-        rename pages/0001.new, open above/pages/, sync"),
-    (Call::ReplaceKey(true), "one", "three", "done", 10,
-        "list above/pages/, names, names, look pages/0001, open pages/0001.new, mode, write, write, write, sync, \
-        rename pages/0001.new, open above/pages/, sync"),
-    (Call::ReplaceKey(true), "nothing", "three", "done", 10,
-        "list above/pages/, make above/pages, open above/, sync, look pages/0001, open pages/0001.new, write, write, \
-        write, sync, rename pages/0001.new, open above/pages/, sync"),
+    (Call::ReplaceKey(false), "one", "three", "done", 11,
+        "make above/pages, open above/, sync, open above/pages/, look pages/0001, open pages/0001.new, mode, write, \
+        write, write, sync, rename pages/0001.new, open above/pages/, sync"),
+    (Call::ReplaceKey(true), "one", "three", "done", 11,
+        "list above/pages/, names, names, open above/pages/, look pages/0001, open pages/0001.new, mode, write, \
+        write, write, sync, rename pages/0001.new, open above/pages/, sync"),
+    (Call::ReplaceKey(true), "nothing", "three", "done", 11,
+        "list above/pages/, make above/pages, open above/, sync, open above/pages/, look pages/0001, \
+        open pages/0001.new, write, write, write, sync, rename pages/0001.new, open above/pages/, sync"),
     // A draft goes first. If neither the file nor its folder is there, the folder above is synced.
     (Call::RemoveKey, "one", "nothing", "done", 1,
         "remove pages/0001.new, remove pages/0001, open above/pages/, sync"),
