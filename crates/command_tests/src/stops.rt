@@ -14,6 +14,9 @@ use test_helpers::MemDisk;
 // More calls of the disk than the move of an old file makes.
 const MOST_CALLS_OF_A_MOVE: u32 = 24;
 
+// More calls of the disk than a scan of one label makes.
+const MOST_CALLS_OF_A_SCAN: u32 = 16;
+
 // A command that looks at what was saved, and the line that it writes after none of the saves, after the first, and so
 // on.
 type Look = (Call, &'static [&'static [u8]]);
@@ -199,27 +202,33 @@ fn a_move_stopped_twice_keeps_both_documents(rt: HostRuntime) -> Result<(), Fail
     Ok(())
 }
 
-// A scan that is stopped, and then another of the same label, which goes on. What the second has told as held stays
-// held whatever a stop leaves after it, though the first may have been stopped before its file was settled.
-fn keeps_what_it_told(alloc: Global, passes: u32, kept: Kept) -> Result<bool, Fail> {
-    let machine = Machine::new(alloc, MemDisk::new(alloc), passes, kept)?;
+// Two scans of the same label, each of which may be stopped. What the second has told as held stays held whatever a stop
+// leaves after it, though the first may have been stopped before its file was settled.
+fn keeps_what_it_told(alloc: Global, first: u32, second: u32, kept: Kept) -> Result<bool, Fail> {
+    let machine = Machine::new(alloc, MemDisk::new(alloc), first, kept)?;
     let disk = made(alloc, machine, Call::Scan(LABEL))?.disk;
-    let ended = made(alloc, Machine::whole(alloc, disk)?, Call::Scan(LABEL))?;
+    let ended = made(
+        alloc,
+        Machine::new(alloc, disk, second, kept)?,
+        Call::Scan(LABEL),
+    )?;
     let left = LeftFiles::on(alloc, &ended.disk, &ended.old, &ended.files)?;
-    let mut keeps = ended.status == 0;
+    let mut keeps = true;
     for number in 0..left.count() {
         let look = (Call::Import(BOTH), [ADDED_SECOND].as_slice());
         keeps &= saves_on(alloc, left.way(alloc, number)?, &[look])? & 1 == 1;
     }
-    Ok(keeps)
+    Ok(keeps || answered(ended.told(Call::Scan(LABEL)).0) == 0)
 }
 
 #[test]
 fn a_page_told_as_held_stays_held(rt: HostRuntime) -> Result<(), Fail> {
-    for passes in 0..MOST_CALLS {
-        for kept in [Kept::Old, Kept::New] {
-            let keeps = keeps_what_it_told(rt.alloc(), passes, kept)?;
-            assert!(rt; keeps, "{passes} {kept:?}");
+    for first in 0..MOST_CALLS_OF_A_SCAN {
+        for second in 0..=MOST_CALLS_OF_A_SCAN {
+            for kept in [Kept::Old, Kept::New] {
+                let keeps = keeps_what_it_told(rt.alloc(), first, second, kept)?;
+                assert!(rt; keeps, "{first} {second} {kept:?}");
+            }
         }
     }
     Ok(())

@@ -18,7 +18,7 @@ use Rattle.relay_shared.specs.Command.{HasInputFault, refusal_name, OnlyOutput, 
 use Rattle.dm_finder_frame.specs.Frame.{GridView}
 use Rattle.dm_pbm_io.specs.{FaultNames.shape_fault_name, Image.Picture, Image.HasShape, Image.IsGridInside, Image.p4}
 use Rattle.dm_pbm_io.specs.declared.fault.ShapeFault.{ShapeFault, TheVariants.Shape, TheVariants.Memory}
-use Rattle.dm_assembly_desk.specs.declared.{fault.ScanFault.TheVariants.Label}
+use Rattle.dm_assembly_desk.specs.declared.{fault.ScanFault.TheVariants.Label, fault.ScanFault.TheVariants.Conflict, fault.ScanFault.TheVariants.Full, reply.Kind.Kind, reply.Kind.TheVariants.Again}
 use Rattle.dm_append_label.specs.declared.fault.LabelFault.TheVariants.{Border, Block}
 use Rattle.dm_store.specs.declared.store.StoreFault.{StoreFault}
 use Rattle.dm_size.specs.{Sizes.IsSide, Sizes.side, declared.size.Size.Size}
@@ -216,10 +216,21 @@ IsIdOn grid id = (page : PageView) × (corrected wrong : ℕ) × OpensAs grid pa
 abbrev pub HasNoGrid : Picture → ShapeFault → Type 0
 HasNoGrid p fault = (fault ≡ Shape → ¬ HasShape p) × (fault ≡ Memory → HasShape p)
 
--- the desk would have answered to the grid, and saved nothing, but what it holds could not be settled
+-- the answer rests on what the desk held before, and nothing was saved
+abbrev pub is_held_again : Kind → Bool
+is_held_again Again = true
+is_held_again other = false
+
+abbrev pub rests_on_held : Result Accepted ScanFault → Bool
+rests_on_held (Ok reply) = is_held_again reply.kind
+rests_on_held (Err Conflict) = true
+rests_on_held (Err Full) = true
+rests_on_held (Err other) = false
+
+-- the desk would have answered so to the grid, but what it holds could not be settled
 abbrev pub IsUnsettled : Type 0 → GridView → StoreFault → DeskView → Type 0
-IsUnsettled A grid why desk = (reply : Result Accepted ScanFault) × AcceptsGrid A grid desk reply desk
-    × Settles desk.saved (Err why) desk.saved
+IsUnsettled A grid why desk = (reply : Result Accepted ScanFault) × (rests_on_held reply ≡ true)
+    × AcceptsGrid A grid desk reply desk × Settles desk.saved (Err why) desk.saved
 
 -- What is said of a picture, and the desk and the standard error afterwards: its grid is handed to the desk, or it has
 -- none; a refusal is noted. `A` is what the desk allocates in.

@@ -1,12 +1,12 @@
 //! `relay scan`: labels gathered at a desk.
 
-ghost use Rattle.std.specs.Prelude.{◌≡◌, map, false, true, IfSome, MatchResult, Result};
+ghost use Rattle.std.specs.Prelude.{◌≡◌, map, false, true, IfOk, IfSome, MatchResult, OnErr, Result};
 ghost use Rattle.std.specs.Io.KnownBytes.{Appends};
 ghost use Rattle.dm_assembly_desk.specs.Desk.{AcceptsGrid, Scans};
 ghost use Rattle.dm_assembly_desk.specs.Documents.{DeskView, KeepsPages, DeskIsInOrder};
 ghost use Rattle.dm_append_label.specs.declared.{fault.LabelFault.LabelFault, opening.Opened.Opened};
 ghost use Rattle.relay_streams.specs.Streams.{AppendsPart, refused_line};
-ghost use Rattle.relay_desk_commands.specs.Desks.{desk_at, EndsScan, IsIdOn, IsUnsettled, scan_images};
+ghost use Rattle.relay_desk_commands.specs.Desks.{desk_at, EndsScan, IsIdOn, IsUnsettled, rests_on_held, scan_images};
 
 use crate::desk_opening::{OpenDesk, open_unsettled};
 use dm_append_label::LabelFault::{Block, Border};
@@ -60,7 +60,8 @@ struct Scanning<T: StoreSet, A: Allocator + Copy> {
 impl<T: StoreSet, A: Allocator + Copy> Scanning<T, A> {
     // Whether an answer rests on what was held before. Then nothing was saved.
     fn rests_on_held(answer: &Result<Accepted, ScanFault>) -> bool
-        ensures { (opened : Result (Opened A) LabelFault) → (before after : DeskView)
+        ensures rests { result ≡ rests_on_held answer.now }
+        ensures nothing_saved { (opened : Result (Opened A) LabelFault) → (before after : DeskView)
             → Scans opened before answer.now after → result ≡ true → after ≡ before }
     {
         match answer {
@@ -75,6 +76,8 @@ impl<T: StoreSet, A: Allocator + Copy> Scanning<T, A> {
         requires { self.old.desk.is_failed ≡ false }
         ensures answers { MatchResult result (λ answer. AcceptsGrid A grid.now self.old.desk answer self.new.desk)
             (λ why. IsUnsettled A grid.now why self.old.desk × (self.new.desk ≡ self.old.desk)) }
+        ensures settled { IfOk result (λ answer. rests_on_held answer ≡ true → self.new.is_settled ≡ true) }
+        ensures unsettled { OnErr result (self.new.is_settled ≡ self.old.is_settled) }
         ensures kept { KeepsPages self.old.desk.held self.new.desk.held }
         ensures order { DeskIsInOrder self.new.desk }
     {

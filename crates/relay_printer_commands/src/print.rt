@@ -125,7 +125,7 @@ pub fn print_command<A: Allocator + Copy, S: Store, R: Read, W: Write, E: Write>
         let status = refuse(&mut streams.errors, PrintFault::TooLong.name());
         return Ended { status, store };
     };
-    // Nothing is told of what was loaded before the next ledger is saved.
+    // What is loaded decides over no label before the next ledger is saved; a refusal that rests on it costs nothing.
     let store = Unsettled(store);
     let mut printer = match open_printer(alloc, store, &mut streams.errors, number) {
         Ok(printer) => printer,
