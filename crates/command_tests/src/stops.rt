@@ -14,8 +14,8 @@ use test_helpers::MemDisk;
 // More calls of the disk than the move of an old file makes.
 const MOST_CALLS_OF_A_MOVE: u32 = 24;
 
-// More calls of the disk than a scan of one label makes.
-const MOST_CALLS_OF_A_SCAN: u32 = 16;
+// More calls of the disk than a scan of one label or an import makes.
+const MOST_CALLS_OF_ONE: u32 = 16;
 
 // A command that looks at what was saved, and the line that it writes after none of the saves, after the first, and so
 // on.
@@ -202,32 +202,49 @@ fn a_move_stopped_twice_keeps_both_documents(rt: HostRuntime) -> Result<(), Fail
     Ok(())
 }
 
-// Two scans of the same label, each of which may be stopped. What the second has told as held stays held whatever a stop
-// leaves after it, though the first may have been stopped before its file was settled.
-fn keeps_what_it_told(alloc: Global, first: u32, second: u32, kept: Kept) -> Result<bool, Fail> {
+// A call that is stopped, one that tells of what it has saved, and what an import of both pages adds then.
+#[rattlefmt::skip]
+const TOLD: [(Call, Call, &[u8]); 5] = [
+    (Call::Scan(LABEL), Call::Scan(LABEL), ADDED_SECOND),
+    (Call::Import(BOTH), Call::Import(BOTH), ADDED_NONE),
+    (Call::Import(BOTH), Call::Deliver, ADDED_NONE),
+    (Call::Import(BOTH), Call::Export("0101"), ADDED_NONE),
+    (Call::Import(BOTH), Call::Copy, ADDED_NONE),
+];
+
+// Whether what the second call tells stays held whatever a stop leaves after it, though the first may have been stopped
+// before its file was settled. Each of the two may be stopped.
+fn keeps_what_it_told(
+    alloc: Global,
+    (before, call, added): (Call, Call, &'static [u8]),
+    (first, second): (u32, u32),
+    kept: Kept,
+) -> Result<bool, Fail> {
     let machine = Machine::new(alloc, MemDisk::new(alloc), first, kept)?;
-    let disk = made(alloc, machine, Call::Scan(LABEL))?.disk;
-    let ended = made(
-        alloc,
-        Machine::new(alloc, disk, second, kept)?,
-        Call::Scan(LABEL),
-    )?;
+    let disk = made(alloc, machine, before)?.disk;
+    let ended = made(alloc, Machine::new(alloc, disk, second, kept)?, call)?;
     let left = LeftFiles::on(alloc, &ended.disk, &ended.old, &ended.files)?;
     let mut keeps = true;
     for number in 0..left.count() {
-        let look = (Call::Import(BOTH), [ADDED_SECOND].as_slice());
-        keeps &= saves_on(alloc, left.way(alloc, number)?, &[look])? & 1 == 1;
+        let whole = Machine::whole(alloc, left.way(alloc, number)?)?;
+        keeps &= has_told(
+            &made(alloc, whole, Call::Import(BOTH))?,
+            Call::Import(BOTH),
+            added,
+        );
     }
-    Ok(keeps || answered(ended.told(Call::Scan(LABEL)).0) == 0)
+    Ok(keeps || ended.status != 0)
 }
 
 #[test]
-fn a_page_told_as_held_stays_held(rt: HostRuntime) -> Result<(), Fail> {
-    for first in 0..MOST_CALLS_OF_A_SCAN {
-        for second in 0..=MOST_CALLS_OF_A_SCAN {
-            for kept in [Kept::Old, Kept::New] {
-                let keeps = keeps_what_it_told(rt.alloc(), first, second, kept)?;
-                assert!(rt; keeps, "{first} {second} {kept:?}");
+fn what_is_told_as_held_stays_held(rt: HostRuntime) -> Result<(), Fail> {
+    for told in TOLD.iter() {
+        for first in 0..MOST_CALLS_OF_ONE {
+            for second in 0..=MOST_CALLS_OF_ONE {
+                for kept in [Kept::Old, Kept::New] {
+                    let keeps = keeps_what_it_told(rt.alloc(), *told, (first, second), kept)?;
+                    assert!(rt; keeps, "{:?} {first} {second} {kept:?}", told.1);
+                }
             }
         }
     }
