@@ -25,13 +25,8 @@ fn page_of_text<A: Allocator + Copy>(
         × IsHead (record { id = id; m = m; n = n }))
         (λ refusal. ((refusal ≡ NoPage) × (IsHead (record { id = id; m = m; n = n }) → ⊥)) ⊎ (refusal ≡ NoMemory)) }
 {
-    let Some(id) = FileId::of_number(id) else {
-        return Err(Refusal::NoPage);
-    };
-    match Page::new(id, m, n, text.to_vec(alloc)?) {
-        Some(page) => Ok(page),
-        None => Err(Refusal::NoPage),
-    }
+    let id = FileId::of_number(id).ok_or(Refusal::NoPage)?;
+    Page::new(id, m, n, text.to_vec(alloc)?).ok_or(Refusal::NoPage)
 }
 
 // The bytes of the image of a label.
@@ -47,9 +42,7 @@ fn label_image<A: Allocator + Copy>(
         (λ bytes. DrawsLabel side (record { id = id; m = m; n = n; bytes = text.now }) (Ok bytes.items))
         (λ refusal. DrawsLabel side (record { id = id; m = m; n = n; bytes = text.now }) (Err refusal)) }
 {
-    let Some(size) = Size::of_side(side) else {
-        return Err(Refusal::NoSide);
-    };
+    let size = Size::of_side(side).ok_or(Refusal::NoSide)?;
     let page = page_of_text(alloc, id, m, n, text)?;
     let label = match seal(alloc, &page, size, Scheme::Ascii) {
         Ok(label) => label,

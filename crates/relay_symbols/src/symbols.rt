@@ -16,9 +16,7 @@ fn text_image<A: Allocator + Copy>(alloc: A, side: u16, text: &[u8]) -> Result<V
     ensures { MatchResult result (λ bytes. DrawsText side text.now (Ok bytes.items))
         (λ refusal. DrawsText side text.now (Err refusal)) }
 {
-    let Some(size) = Size::of_side(side) else {
-        return Err(Refusal::NoSide);
-    };
+    let size = Size::of_side(side).ok_or(Refusal::NoSide)?;
     let data = match encode(alloc, Scheme::Ascii, text, &[], size) {
         Ok(data) => data,
         Err(EncodeFault::TooLong) => return Err(Refusal::TooLong),
@@ -53,9 +51,7 @@ fn words_image<A: Allocator + Copy>(
     ensures { MatchResult result (λ bytes. DrawsWords side words.now (Ok bytes.items))
         (λ refusal. DrawsWords side words.now (Err refusal)) }
 {
-    let Some(size) = Size::of_side(side) else {
-        return Err(Refusal::NoSide);
-    };
+    let size = Size::of_side(side).ok_or(Refusal::NoSide)?;
     if words.len() != size.all_words() {
         return Err(Refusal::WordCount);
     }
