@@ -5,7 +5,7 @@ use Rattle.std.specs.{Fmt.decimal, List.AllByRecursion, List.flat_map, Option.op
 use Rattle.std.proofs.lemmas.Bool.{cases_Bool, cond-false, cond-true, eq-eqb, ne_eqb}
 use Rattle.std.proofs.lemmas.Option.{slice_get-get_or, slice_get-map}
 use Rattle.dm_print_ledger.specs.{Ledger.are_ranges, Verdicts.SilenceIsExact}
-use Rattle.relay_printer_commands.specs.Printers.{AreAllSound, AuditIsExact, EvidenceView, Gathers, IsSoundPair, ShowsFile, ShowsLine, are_same, audit_lines, breach_line, breach_lines, evidence_name, fault_line}
+use Rattle.relay_printer_commands.specs.Printers.{AreAllSound, EvidenceView, Gathers, IsSoundPair, ShowsFile, ShowsLine, are_same, audit_lines, breach_line, breach_lines, evidence_name, fault_line}
 use Rattle.relay_shared.proofs.Telling.{told, told_else}
 use Rattle.relay_shared.specs.Command.{PutsText, Tells}
 use Rattle.relay_streams.specs.{Streams.OutputView, declared.fault.WriteFault.WriteFault}
@@ -116,7 +116,7 @@ module _ (exact : SilenceIsExact) where
   silent_pairs one (other ∷ later) ranges its sound = none_both _ _ (silent_pair one other ranges its.0 sound.0)
       (silent_pairs one later ranges its.1 sound.1)
 
-  sound : (evidence : List EvidenceView) → AllByRecursion (λ one. IsTrue (are_ranges one.shown.free)) evidence →
+  pub sound : (evidence : List EvidenceView) → AllByRecursion (λ one. IsTrue (are_ranges one.shown.free)) evidence →
       audit_lines evidence ≡ [] → AreAllSound evidence
   sound [] ranges e = tt
   sound (one ∷ later) ranges e =
@@ -124,7 +124,7 @@ module _ (exact : SilenceIsExact) where
       let next = both_none (flat_map (breach_lines one) later) _ first.1 in
       (no_fault _ [] one.place one.fault first.0, sound_pairs one later ranges.0 ranges.1 next.0, sound later ranges.1 next.1)
 
-  silent : (evidence : List EvidenceView) → AllByRecursion (λ one. IsTrue (are_ranges one.shown.free)) evidence →
+  pub silent : (evidence : List EvidenceView) → AllByRecursion (λ one. IsTrue (are_ranges one.shown.free)) evidence →
       AreAllSound evidence → audit_lines evidence ≡ []
   silent [] ranges all = refl
   silent (one ∷ later) ranges all = none_both (fault_line one) _
@@ -132,6 +132,3 @@ module _ (exact : SilenceIsExact) where
       ++ (decimal one.place ++ (32 ∷ (name ++ 10 ∷ [])))) fault []) all.0)
       (none_both (flat_map (breach_lines one) later) _ (silent_pairs one later ranges.0 ranges.1 all.1)
       (silent later ranges.1 all.2))
-
-  pub audit_is_exact : AuditIsExact
-  audit_is_exact evidence ranges = (sound evidence ranges, silent evidence ranges)

@@ -1,9 +1,9 @@
 -- What the commands of printers do to ledgers and streams, and the lines that they write: what these show is this project's own rule.
-use Rattle.std.specs.Prelude.{ℕ, List, [], ◌∷◌, ◌++◌, codes, zero, suc, Option, Some, None, take, drop, ◌≡◌, ◌⊎◌, ◌<◌, ◌+◌, ◌*◌, ◌/◌, Ok, length, map, slice_index, Result, Err, ◌↔◌, ◌≤◌, ◌≢◌, true, false, Bool, ◌&&◌, ◌||◌, ◌==◌, not, nat_eq, if◌then◌else◌, slice_get, IfSome, IsTrue}
+use Rattle.std.specs.Prelude.{ℕ, List, [], ◌∷◌, ◌++◌, codes, zero, suc, Option, Some, None, take, drop, ◌≡◌, ◌⊎◌, ◌<◌, ◌+◌, ◌*◌, ◌/◌, Ok, length, map, slice_index, Result, Err, ◌↔◌, ◌≤◌, ◌≢◌, true, false, Bool, ◌&&◌, ◌||◌, ◌==◌, not, nat_eq, if◌then◌else◌, slice_get, IfSome}
 use Rattle.std.specs.{Borrow.Bor, Fmt.decimal, Option.option_map_or, Cmp.Lexicographic.pointwise, Io.KnownBytes.Appends}
 use Rattle.std.specs.List.{flat_map, All, range_with_len, AllPairs, Contains, list_any, slice_split, AllByRecursion}
 use Rattle.hex.specs.Hex.{encode_lower, decode_sized}
-use Rattle.dm_print_ledger.specs.Ledger.{ticket_bytes, TicketView, free_count, ShownView, AreOfTicket, PrinterView, JobView, are_ranges, read_ledger}
+use Rattle.dm_print_ledger.specs.Ledger.{ticket_bytes, TicketView, free_count, ShownView, AreOfTicket, PrinterView, JobView, read_ledger}
 use Rattle.dm_print_ledger.specs.declared.{giver.Giver.Giver, range.Range.Range, fault.CreateFault.CreateFault}
 use Rattle.relay_shared.specs.{Lines.id_text, declared.command.Refusal.Refusal}
 use Rattle.relay_printer_commands.specs.declared.lines.PlannedSide.{PlannedSide}
@@ -70,15 +70,11 @@ shown_lines shown = number_line shown.number ++ (left_line (free_count shown.fre
 abbrev pub side_line : PlannedSide → List ℕ
 side_line planned = codes "side " ++ (decimal planned.side ++ (codes " labels " ++ (decimal planned.count ++ 10 ∷ [])))
 
--- the numbers of a ticket, each after its word, and what comes after them
-abbrev pub range_before : TicketView → List ℕ → List ℕ
-range_before ticket rest =
-    codes " first " ++ (decimal ticket.range.first ++ (codes " last " ++ (decimal ticket.range.last ++ rest)))
-
 -- `from` the printer that gave the ticket, `to` the receiver, `serial`, and the first and the last number
 abbrev pub from_line : TicketView → List ℕ
 from_line ticket = codes "from " ++ (decimal ticket.giver ++ (codes " to " ++ (decimal ticket.receiver ++
-    (codes " serial " ++ (decimal ticket.serial ++ range_before ticket (10 ∷ []))))))
+    (codes " serial " ++ (decimal ticket.serial ++ (codes " first " ++ (decimal ticket.range.first ++
+    (codes " last " ++ (decimal ticket.range.last ++ 10 ∷ [])))))))))
 
 -- digits in groups of four, joined by hyphens: this many groups, and after them the digits that are left
 unfoldable pub grouped : ℕ → List ℕ → List ℕ
@@ -93,17 +89,14 @@ check_text bytes = grouped 5 (encode_lower bytes)
 abbrev pub check_line : List ℕ → List ℕ
 check_line bytes = codes "check " ++ (check_text bytes ++ 10 ∷ [])
 
--- The text of a ticket, in its two forms, which this project lays down, and what `ticket` says of one.
+-- ---- ticket: its text, in the two forms that this project lays down, and what `ticket` says of one
 
--- ---- twelve bytes: ten, and two error correction codewords of them
-
+-- twelve bytes: ten, and two error correction codewords of them
 pub record IsChecked (bytes whole : List ℕ) : Type 0 where
   pub count : length whole ≡ 12
   pub words : All (λ word. word < 256) whole
   pub begins : take 10 whole ≡ bytes
   pub block_word : IsSoundBlock 2 whole
-
--- ---- texts
 
 -- the text is twenty digits, and they are those of these ten bytes
 abbrev pub IsBareText : List ℕ → List ℕ → Type 0
@@ -137,22 +130,14 @@ IsTextOf text ticket = SpellsTicket text (ticket_bytes ticket)
 abbrev pub HasTicket : List ℕ → Type 0
 HasTicket text = (bytes : List ℕ) × SpellsTicket text bytes × AreOfTicket bytes
 
--- ---- the command
-
--- what a ticket says, and its bytes with their error correction codewords
-abbrev pub ticket_lines : TicketView → List ℕ → List ℕ
-ticket_lines ticket whole = from_line ticket ++ check_line whole
-
 -- how `ticket` ends: the two lines of the ticket of the text were written, or the text is that of no ticket
 pub data EndsTicket (text : List ℕ) (old : StreamsView) (status : ℕ) (new : StreamsView) : Type 0 where
   shown : (ticket : TicketView) (whole : List ℕ) → HasTicket text → IsTextOf text ticket
-      → IsChecked (ticket_bytes ticket) whole → TellsOnOutput (ticket_lines ticket whole) old status new
+      → IsChecked (ticket_bytes ticket) whole → TellsOnOutput (from_line ticket ++ check_line whole) old status new
       → EndsTicket text old status new
   no_ticket : ¬ HasTicket text → RefusesOnOutput (refusal_name Ticket) old status new → EndsTicket text old status new
 
--- ---- ledger, give, take and left
-
--- What `ledger`, `give`, `take` and `left` do to the store of a ledger and to the streams.
+-- ---- ledger, give, take and left: what they do to the store of a ledger and to the streams
 
 -- the store of a printer's ledger, and the streams
 pub record OnLedger : Type 0 where
@@ -225,12 +210,8 @@ pub data EndsLeft (old : OnLedger) (status : ℕ) (new : OnLedger) : Type 0 wher
       → new.saved ≡ old.saved
       → RefusesOnOutput (open_fault_name fault) old.streams status new.streams → EndsLeft old status new
 
--- ---- print and plan
-
--- What `print` does to the store of a ledger and to the streams, in the size that suits the labels that are asked for;
--- and what `plan` writes: each side of which a document has labels, and how many.
-
--- ---- the labels of a job
+-- ---- print and plan: what `print` does to the store of a ledger and to the streams, in the size that suits the labels
+-- that are asked for; and what `plan` writes: each side of which a document has labels, and how many
 
 -- the images of labels, one after another
 abbrev pub images_of : List GridView → List ℕ
@@ -264,8 +245,6 @@ TellsPrint (Ok job) left old status new =
     PrintsLabels job.labels (printed_line job.id job.count left) old status new × ReadsNothing old new
 TellsPrint (Err fault) left old status new = RefusesOnErrors (print_fault_name fault) old status new
 
--- ---- the size
-
 -- a side that is asked for is that of a size
 abbrev pub HasSide : Labels → Type 0
 HasSide (OfSide n) = IsSide n
@@ -280,8 +259,6 @@ Suits (AtMost most) scheme document size = (count : ℕ) × HasLabels size schem
 pub record IsChosen (labels : Labels) (scheme : Scheme) (document : List ℕ) (size : Size) : Type 0 where
   pub suits : Suits labels scheme document size
   pub smallest : (smaller : Size) → side smaller < side size → ¬ Suits labels scheme document smaller
-
--- ---- the whole
 
 -- What comes of a document that was read: the printer was opened and has answered to it, and its answer has gone out;
 -- or the standard error was told why the printer was not opened.
@@ -316,8 +293,6 @@ pub data EndsPrint (number : ℕ) (labels : Labels) (scheme : Scheme) (old : OnL
       → PrintsDocument number size scheme document (record old { streams = record old.streams { input = rest } }) status
       new → EndsPrint number labels scheme old status new
 
--- ---- the plan
-
 -- the document has this many labels of this side
 abbrev pub IsPlanned : Scheme → List ℕ → PlannedSide → Type 0
 IsPlanned scheme document planned =
@@ -343,9 +318,7 @@ pub data EndsPlan (scheme : Scheme) (old : StreamsView) (status : ℕ) (new : St
       → RefusesOnOutput (input_fault_name fault) (record old { input = rest }) status new
       → EndsPlan scheme old status new
 
--- ---- audit
-
--- What `audit` gathers of ledgers and tickets, and the lines in which it says what breaks what printers rely on.
+-- ---- audit: what it gathers of ledgers and tickets, and the lines in which it says what breaks what printers rely on
 
 -- What a ledger or a ticket shows, its place among the files or the lines, from 1, and the ticket; or why it shows nothing.
 pub record EvidenceView : Type 0 where
@@ -462,8 +435,3 @@ pub data IsSoundPair (one other : EvidenceView) : Type 0 where
 abbrev pub AreAllSound : List EvidenceView → Type 0
 AreAllSound [] = Unit {0}
 AreAllSound (one ∷ later) = (one.fault ≡ None) × AllByRecursion (IsSoundPair one) later × AreAllSound later
-
--- `audit` is silent exactly where all is sound.
-abbrev pub AuditIsExact : Type 0
-AuditIsExact = (evidence : List EvidenceView) → AllByRecursion (λ one. IsTrue (are_ranges one.shown.free)) evidence
-    → (audit_lines evidence ≡ []) ↔ AreAllSound evidence

@@ -113,10 +113,9 @@ impl Evidence {
     fn is_receiver(&self, other: &Evidence) -> bool
         ensures { result ≡ test_of_receiver self.now other.now }
     {
-        match other.ticket {
-            Some(ticket) => self.shown.is_of(ticket.receiver),
-            None => false,
-        }
+        other
+            .ticket
+            .is_some_and(|ticket| self.shown.is_of(ticket.receiver))
     }
 
     // Whether both show one ticket, and neither is the ledger of the printer that the other is for.

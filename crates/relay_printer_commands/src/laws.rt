@@ -1,8 +1,10 @@
 //! Laws of the texts of tickets, of audits, and of limits. The functions do nothing: their contracts are the laws.
 
-ghost use Rattle.std.specs.Prelude.{◌≡◌, ◌≢◌, ◌≤◌, List, ℕ};
+ghost use Rattle.std.specs.Prelude.{◌≡◌, ◌≢◌, ◌≤◌, ◌↔◌, IsTrue, List, [], ℕ};
+ghost use Rattle.std.specs.List.{AllByRecursion};
 ghost use Rattle.dm_gf256.specs.Field.{differ};
-ghost use Rattle.relay_printer_commands.specs.Printers.{AuditIsExact, check_text, HasTicket, IsCheckText, IsChecked, IsGroupedText};
+ghost use Rattle.dm_print_ledger.specs.Ledger.{are_ranges};
+ghost use Rattle.relay_printer_commands.specs.Printers.{AreAllSound, EvidenceView, audit_lines, check_text, HasTicket, IsCheckText, IsChecked, IsGroupedText};
 
 use crate::audit::TICKETS_BYTES;
 use dm_print_ledger::laws::numbers_and_givers;
@@ -25,7 +27,8 @@ pub fn check_text_is_read()
 
 /// An audit is silent exactly where what it was given breaks nothing.
 pub fn audit_is_exact()
-    ensures { AuditIsExact }
+    ensures { (evidence : List EvidenceView) → AllByRecursion (λ one. IsTrue (are_ranges one.shown.free)) evidence
+        → (audit_lines evidence ≡ []) ↔ AreAllSound evidence }
 {
     numbers_and_givers();
 }

@@ -2,10 +2,10 @@
 //! two forms: twenty hexadecimal digits, those of its ten bytes; or the check form, 24 digits in groups of four, joined
 //! by hyphens, those of the ten bytes and of two error correction codewords.
 
-ghost use Rattle.std.specs.Prelude.{◌≡◌, ◌+◌, ◌*◌, ◌<◌, ◌↔◌, ℕ, List, length, slice_index, IsTrue, MatchOption};
+ghost use Rattle.std.specs.Prelude.{◌≡◌, ◌+◌, ◌++◌, ◌*◌, ◌<◌, ◌↔◌, ℕ, List, length, slice_index, IsTrue, MatchOption};
 ghost use Rattle.std.specs.List.{All};
 ghost use Rattle.dm_print_ledger.specs.Ledger.{AreOfTicket, ticket_bytes};
-ghost use Rattle.relay_printer_commands.specs.Printers.{taken_line, HasTicket, IsBareText, IsCheckText, IsChecked, IsTextOf, EndsTicket, digits_in_groups, ticket_lines, ledger_at, EndsTake};
+ghost use Rattle.relay_printer_commands.specs.Printers.{taken_line, HasTicket, IsBareText, IsCheckText, IsChecked, IsTextOf, EndsTicket, check_line, digits_in_groups, from_line, ledger_at, EndsTake};
 ghost use Rattle.relay_shared.specs.Command.{PutsText, TellsAnswer};
 ghost use Rattle.dm_print_ledger.specs.Verdicts.{take_fault_name};
 
@@ -102,7 +102,7 @@ fn put_lines<W: Write>(
     ticket: Ticket,
     whole: [u8; 12],
 ) -> Result<(), WriteFault>
-    ensures { PutsText (ticket_lines ticket whole) output.old result output.new }
+    ensures { PutsText (from_line ticket ++ check_line whole) output.old result output.new }
 {
     put_from(output, ticket)?;
     put_check(output, whole)
