@@ -1,10 +1,10 @@
 -- Lists of texts that are read one after another, and the last line end of a text.
-use Rattle.std.proofs.Common.{◌≡◌, ◌≢◌, ℕ, zero, suc, ◌+◌, ◌-◌, ◌<◌, ◌≤◌, List, [], ◌∷◌, ◌++◌, length, take, drop, get_or, Option, Some, None, Bor, true, false, refl, arith}
+use Rattle.std.proofs.Common.{◌≡◌, ◌≢◌, ℕ, zero, suc, ◌+◌, ◌-◌, ◌<◌, ◌≤◌, List, [], ◌∷◌, ◌++◌, length, take, drop, get_or, Option, Some, None, Bor, true, false, refl, arith, codes}
 use Rattle.std.proofs.lemmas.{Grind.common_steps, Slice.Zip.all_zipped_more}
-use Rattle.std.specs.{List.AllZip, List.position, List.position_or_len, Option.MatchOption, Option.unwrap_or}
+use Rattle.std.specs.{Prelude.nat_eq, List.AllZip, List.position, List.position_or_len, List.starts_with, Option.MatchOption, Option.unwrap_or}
 use Rattle.std.proofs.lemmas.List.{drop-map, get_or-map, map_more, take-map, take_rest}
 use Rattle.std.specs.Io.BufRead.{strip_last, ends_with_byte}
-use Rattle.relay_script.specs.{Words.texts, Words.Nothing, Scripts.begins_desks, Scripts.desks_place}
+use Rattle.relay_script.specs.{Words.texts, Words.Nothing, Scripts.desks_place}
 
 -- one more is read
 pub one_more_read : {B : Type 0} (R : List ℕ → B → Type 0) (parts : List (Bor (List ℕ))) (ys : List B) (i : ℕ)
@@ -35,12 +35,12 @@ stripped text None none =
 
 -- the first line of desks stands where the first text of desks does
 same_place : (lines : List (Bor (List ℕ)))
-    → position_or_len (λ line. begins_desks line.now) lines ≡ desks_place (texts lines)
+    → position_or_len (λ line. starts_with nat_eq line.now (codes "desks")) lines ≡ desks_place (texts lines)
 same_place [] = refl
 same_place (line ∷ lines) = rw (same_place lines) refl
 
 pub place_found : (lines : List (Bor (List ℕ))) (found : Option ℕ)
-    → found ≡ position (λ line. begins_desks line.now) lines
+    → found ≡ position (λ line. starts_with nat_eq line.now (codes "desks")) lines
     → MatchOption found (length lines ≤ desks_place (texts lines))
     (λ n. (n ≡ desks_place (texts lines)) × (n < length lines))
 place_found lines (Some n) is = grind (arith, common_steps, same_place lines)

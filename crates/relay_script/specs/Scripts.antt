@@ -1,5 +1,5 @@
 -- Scripts of worlds: the printers, the desks, and the events that follow, each by the words of its line.
-use Rattle.std.specs.Prelude.{◌≡◌, ◌≤◌, ◌+◌, ℕ, Bool, List, [], length, take, drop, slice_index_or, codes, nat_eq, replicate}
+use Rattle.std.specs.Prelude.{◌≡◌, ◌≤◌, ◌+◌, ℕ, List, [], length, take, drop, slice_index_or, codes, nat_eq, replicate}
 use Rattle.std.specs.{Io.BufRead.strip_last, List.AllZip, List.position_or_len, List.starts_with, Str.IsUtf8}
 use Rattle.dm_print_ledger.specs.declared.range.Range.{Range}
 use Rattle.relay_command.specs.Schemes.{scheme_name}
@@ -52,36 +52,25 @@ SpellsEvent words (Export desk id) = HasForm words (codes "export") 3 × IsNumbe
 SpellsEvent words (Import desk export stop) = HasForm words (codes "import") 4 × IsNumberOf (word words 1) desk
     × IsNumberOf (word words 2) export × IsStopOf (word words 3) stop
 
--- the words of a line, cut at each space
-abbrev pub words_of : List ℕ → List (List ℕ)
-words_of line = cut_at 32 line
-
--- a line of an event
+-- a line of an event, whose words are cut at each space
 abbrev pub SpellsEventLine : {A : Type 0} → List ℕ → Event A → Type 0
-SpellsEventLine line event = SpellsEvent (words_of line) event
+SpellsEventLine line event = SpellsEvent (cut_at 32 line) event
 
 -- `range FIRST LAST`
 abbrev pub SpellsRange : List ℕ → Range → Type 0
-SpellsRange line range = HasForm (words_of line) (codes "range") 3
-    × IsNumberOf (word (words_of line) 1) range.first × IsNumberOf (word (words_of line) 2) range.last
+SpellsRange line range = let words = cut_at 32 line in HasForm words (codes "range") 3
+    × IsNumberOf (word words 1) range.first × IsNumberOf (word words 2) range.last
 
 -- `desks COUNT CAPACITY`: the capacities are those of the desks that the line asks for, one or more
 abbrev pub AreDesks : List ℕ → List ℕ → Type 0
-AreDesks line capacities = HasForm (words_of line) (codes "desks") 3 × (count : ℕ) × (capacity : ℕ)
-    × IsNumberOf (word (words_of line) 1) count × IsNumberOf (word (words_of line) 2) capacity
+AreDesks line capacities = let words = cut_at 32 line in HasForm words (codes "desks") 3 × (count : ℕ) × (capacity : ℕ)
+    × IsNumberOf (word words 1) count × IsNumberOf (word words 2) capacity
     × (1 ≤ count) × (count ≤ MOST_DESKS) × (capacities ≡ replicate count capacity)
 
--- the line begins as that of the desks, as no line of a range does
-abbrev pub begins_desks : List ℕ → Bool
-begins_desks line = starts_with nat_eq line (codes "desks")
-
--- the place of the first such line, which is how many ranges there are, or the number of lines where there is none
+-- the place of the first line that begins as that of the desks, as no line of a range does: it is how many ranges there
+-- are, or the number of lines where there is none
 abbrev pub desks_place : List (List ℕ) → ℕ
-desks_place lines = position_or_len begins_desks lines
-
--- the lines of a text: each is followed by a line end, which the last may lack
-abbrev pub lines_of : List ℕ → List (List ℕ)
-lines_of text = cut_at 10 (strip_last 10 text)
+desks_place lines = position_or_len (λ line. starts_with nat_eq line (codes "desks")) lines
 
 -- The lines are those of ranges, one or more, then one of desks, and then those of events, each within its limit.
 pub record AreLinesOf {A : Type 0} (lines : List (List ℕ)) (script : Script A) : Type 0 where
@@ -92,8 +81,8 @@ pub record AreLinesOf {A : Type 0} (lines : List (List ℕ)) (script : Script A)
   pub few_events : length (drop (desks_place lines + 1) lines) ≤ MOST_EVENTS
   pub events : AllZip SpellsEventLine (drop (desks_place lines + 1) lines) script.events.items
 
--- The bytes are a script: a text whose lines are those of one.
+-- The bytes are a script: a text whose lines are those of one. A line end follows each, which the last may lack.
 pub record IsScript {A : Type 0} (bytes : List ℕ) (script : Script A) : Type 0 where
   pub short : length bytes ≤ SCRIPT_BYTES
   pub is_text : IsUtf8 bytes
-  pub lines : AreLinesOf (lines_of bytes) script
+  pub lines : AreLinesOf (cut_at 10 (strip_last 10 bytes)) script

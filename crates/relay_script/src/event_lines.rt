@@ -25,34 +25,19 @@ impl<A: Allocator + Copy> Spelled<A> for Event<A> {
     fn read(alloc: A, line: &str) -> Result<Event<A>, ScriptFault> {
         let words = cut(alloc, line, ' ')?;
         match *words.as_slice() {
-            ["print", printer, side, scheme, document, end] => {
-                let printer = index(printer).ok_or(ScriptFault::Script)?;
-                let document = bytes(alloc, document)?;
-                match (document, size(side), scheme_of(scheme), stop(end)) {
-                    (Some(document), Some(size), Some(scheme), Some(stop)) => Ok(Event::Print {
-                        printer,
-                        document,
-                        size,
-                        scheme,
-                        stop,
-                    }),
-                    _ => Err(ScriptFault::Script),
-                }
-            }
-            ["scan", desk, label, end, modules] => {
-                let (Some(desk), Some(label)) = (index(desk), index(label)) else {
-                    return Err(ScriptFault::Script);
-                };
-                match (flips(alloc, modules)?, stop(end)) {
-                    (flips, Some(stop)) => Ok(Event::Scan {
-                        desk,
-                        label,
-                        flips,
-                        stop,
-                    }),
-                    _ => Err(ScriptFault::Script),
-                }
-            }
+            ["print", printer, side, scheme, document, end] => Ok(Event::Print {
+                printer: index(printer).ok_or(ScriptFault::Script)?,
+                document: bytes(alloc, document)?.ok_or(ScriptFault::Script)?,
+                size: size(side).ok_or(ScriptFault::Script)?,
+                scheme: scheme_of(scheme).ok_or(ScriptFault::Script)?,
+                stop: stop(end).ok_or(ScriptFault::Script)?,
+            }),
+            ["scan", desk, label, end, modules] => Ok(Event::Scan {
+                desk: index(desk).ok_or(ScriptFault::Script)?,
+                label: index(label).ok_or(ScriptFault::Script)?,
+                flips: flips(alloc, modules)?,
+                stop: stop(end).ok_or(ScriptFault::Script)?,
+            }),
             _ => plain_event(&words).ok_or(ScriptFault::Script),
         }
     }

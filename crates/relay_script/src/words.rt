@@ -63,10 +63,8 @@ pub(crate) fn id(word: &str) -> Option<FileId>
     ensures { FitsWhereFound result (IsIdOf word.now) }
 {
     let mut words = [0u8; 2];
-    match hex::decode_to_slice(word, &mut words) {
-        Ok(()) => FileId::of_words(words[0], words[1]),
-        Err(_) => None,
-    }
+    hex::decode_to_slice(word, &mut words).ok()?;
+    FileId::of_words(words[0], words[1])
 }
 
 #[tactic(auto, using(crate::proofs::Refused::none_named), unfolding(crate::specs::Words::IsStopOf))]
