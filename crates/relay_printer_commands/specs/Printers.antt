@@ -419,7 +419,7 @@ pub data EndsAudit (files : List (Option (List ℕ))) (old : StreamsView) (statu
       → length bytes ≡ TICKETS_BYTES → RefusesOnOutput (refusal_name TooMany) (record old { input = rest }) status new
       → EndsAudit files old status new
   no_memory : (bytes : List ℕ) (rest : InputView) → ReadsFirst old.input rest TICKETS_BYTES bytes
-      → RefusesOnOutput (refusal_name Memory) (record old { input = rest }) status new → EndsAudit files old status new
+      → length bytes < TICKETS_BYTES → RefusesOnOutput (refusal_name Memory) (record old { input = rest }) status new → EndsAudit files old status new
   audited : (bytes : List ℕ) (rest : InputView) (evidence : List EvidenceView) → ReadsFirst old.input rest TICKETS_BYTES bytes
       → length bytes < TICKETS_BYTES → GathersAll files bytes evidence
       → Tells (audit_lines evidence) (if length (audit_lines evidence) == 0 then 0 else 1) old.output status new.output

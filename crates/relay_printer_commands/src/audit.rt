@@ -279,9 +279,9 @@ fn audit<A: Allocator + Copy, F: ImageFile>(
     Ok(text)
 }
 
-/// Reads ledgers from files, and tickets from the lines of the input, at most 1,048,576 bytes of them. Prints a line for
-/// each two of them that break what printers rely on, one for each file that gives no ledger, and one for each line that
-/// has no ticket and is not empty. The exit status is 0 where it prints none. Nothing is saved or locked.
+/// Reads ledgers from files, and tickets from the lines of the input, at most 1,048,576 bytes of them. Prints a line
+/// for each two of them that break what printers rely on, one for each file that gives no ledger, and one for each line
+/// that has no ticket and is not empty. The exit status is 0 where it prints none. Nothing is saved or locked.
 pub fn audit_command<A: Allocator + Copy, F: ImageFile, R: Read, W: Write, E: Write>(
     alloc: A,
     files: &[F],

@@ -23,10 +23,10 @@ use Rattle.dm_size.specs.Sizes as sizes
 abbrev pub ReadsDocument : InputView → InputView → List ℕ → Type 0
 ReadsDocument input rest document = ReadsFirst input rest DOCUMENT_BYTES document
 
--- why the input gave no document: a read has failed, or none has, and memory was refused
+-- why the input gave no bytes: a read has failed; or memory was refused for them, and nothing was read
 pub record HasInputFault (input rest : InputView) (fault : InputFault) : Type 0 where
   pub read : fault ≡ input_faults.Read → rest.has_failed ≡ true
-  pub memory : fault ≡ input_faults.Memory → rest.has_failed ≡ input.has_failed
+  pub memory : fault ≡ input_faults.Memory → rest ≡ input
 
 -- ---- lines
 

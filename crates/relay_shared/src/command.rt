@@ -46,7 +46,7 @@ impl<R: Read, W: Write, E: Write> Streams<R, W, E> {
 /// One byte more than the greatest document: 16 labels of side 132, each of 2,600 digits.
 pub const DOCUMENT_BYTES: usize = 41_601;
 
-/// Reads a document, at most `DOCUMENT_BYTES` of it.
+/// Reads a document, at most `DOCUMENT_BYTES` of it. Where memory is refused, nothing was read.
 pub fn read_document<A: Allocator, R: Read>(
     alloc: A,
     input: &mut Input<R>,
@@ -54,7 +54,7 @@ pub fn read_document<A: Allocator, R: Read>(
     ensures taken { IfOk result (λ document. ReadsDocument input.old input.new document.items) }
     ensures part { TakesPart input.old.remaining input.new.remaining DOCUMENT_BYTES }
     ensures failed { IsErrOf result input_faults.Read → input.new.has_failed ≡ true }
-    ensures kept { IsErrOf result input_faults.Memory → input.new.has_failed ≡ input.old.has_failed }
+    ensures unread { IsErrOf result input_faults.Memory → input.new ≡ input.old }
 {
     input.read_up_to(alloc, DOCUMENT_BYTES)
 }

@@ -1,8 +1,8 @@
 -- When the bytes that were taken are the first of those that were left.
-use Rattle.std.proofs.Common.{◌≡◌, ℕ, ◌≤◌, List, ◌++◌, length, take, Option, Some, None, sym, ap, ◌∙◌, append-nil, arith}
-use Rattle.std.proofs.lemmas.List.{take_at, take_all}
+use Rattle.std.proofs.Common.{◌≡◌, ℕ, ◌≤◌, inl, inr, List, ◌++◌, length, take, Option, Some, None, sym, ap, ◌∙◌, append-nil, arith}
+use Rattle.std.proofs.{lemmas.List.take_at, lemmas.List.take_all, lemmas.List.length-take-le, lemmas.Bool.cases_lt}
 use Rattle.std.specs.{Io.KnownBytes.Consumes, Io.KnownBytes.IsAtEnd, Prelude.IfSome}
-use Rattle.relay_streams.specs.Streams.{TakesFirst}
+use Rattle.relay_streams.specs.Streams.{Fills, TakesFirst}
 
 -- as many as were asked for
 first_of_limit : (old new : Option (List ℕ)) (limit : ℕ) (bytes : List ℕ) → Consumes old new bytes →
@@ -23,16 +23,18 @@ first_of_all (Some left) (Some rest) limit bytes taken end bound =
     let whole : left ≡ bytes = taken ∙ ap (λ more. bytes ++ more) end ∙ append-nil bytes in
     sym (ap (take limit) whole ∙ take_all limit bytes bound)
 
--- the limit is reached
-pub limit_reached : (old new : Option (List ℕ)) (limit : ℕ) (bytes : List ℕ) → Consumes old new bytes →
-    length bytes ≡ limit
-    → TakesFirst old new limit bytes
-limit_reached old new limit bytes taken size =
-    record { first = first_of_limit old new limit bytes taken size; consumed = taken; bound = omega (arith, size) }
-
--- the end is reached
-pub end_reached : (old new : Option (List ℕ)) (limit : ℕ) (bytes : List ℕ) → Consumes old new bytes → IsAtEnd new →
-    length bytes ≤ limit
-    → TakesFirst old new limit bytes
-end_reached old new limit bytes taken end bound =
-    record { first = first_of_all old new limit bytes taken end bound; consumed = taken; bound = bound }
+-- a buffer was filled: to its end, or to the end of what was left
+pub filled_first : (old new : Option (List ℕ)) (buffer : List ℕ) (count : ℕ) → Fills old new buffer count →
+    TakesFirst old new (length buffer) (take count buffer)
+filled_first old new buffer count filled =
+    let size : length (take count buffer) ≡ count = length-take-le count buffer filled.bound in
+    let bound : length (take count buffer) ≤ length buffer = omega (arith, size, filled.bound) in
+    record {
+      first = elim (cases_lt count (length buffer)) [
+        | inl less ↦ first_of_all old new (length buffer) (take count buffer) filled.consumed (filled.ended less) bound
+        | inr full ↦ first_of_limit old new (length buffer) (take count buffer) filled.consumed
+            (omega (arith, size, filled.bound, full))
+      ];
+      consumed = filled.consumed;
+      bound = bound;
+    }

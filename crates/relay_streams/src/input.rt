@@ -92,35 +92,6 @@ pub fn fill_from<R: Read>(reader: &mut R, buffer: &mut [u8]) -> Result<usize, Re
     Ok(filled)
 }
 
-// The most bytes that one read asks for.
-const PIECE: usize = 1024;
-
-// The first `limit` bytes that a reader has left, or all where they are fewer.
-fn read_first<R: Read, A: Allocator>(
-    reader: &mut R,
-    alloc: A,
-    limit: usize,
-) -> Result<Vec<u8, A>, InputFault>
-    ensures taken { IfOk result
-        (λ bytes. TakesFirst (R.remaining reader.old) (R.remaining reader.new) limit bytes.items) }
-    ensures part { OnErr result (TakesPart (R.remaining reader.old) (R.remaining reader.new) limit) }
-{
-    let mut taken = Vec::new(alloc);
-    let mut piece = [0u8; PIECE];
-    for _ in 0..limit {
-        if taken.len() == limit {
-            return Ok(taken);
-        }
-        let room = (limit - taken.len()).min(PIECE);
-        let count = read_piece(reader, &mut piece[..room])?;
-        if count == 0 {
-            return Ok(taken);
-        }
-        taken.extend_from_slice(&piece[..count])?;
-    }
-    Ok(taken)
-}
-
 impl<R: Read> Input<R> {
     /// The reader, of which no read has failed.
     pub fn new(reader: R) -> Self
@@ -183,12 +154,12 @@ impl<R: Read> Input<R> {
         filled
     }
 
-    /// The first `limit` bytes that are left, or all where they are fewer. A read that a signal interrupts is made
-    /// again.
+    /// The first `limit` bytes that are left, or all where they are fewer. Memory for `limit` bytes is asked for before
+    /// anything is read. A read that a signal interrupts is made again.
     ///
     /// # Errors
-    /// `Read` where the reader failed; `Memory` where the allocator refuses. The bytes that were taken until then are
-    /// lost.
+    /// `Memory` where the allocator refuses; nothing was read. `Read` where the reader failed; the bytes that were
+    /// taken until then are lost.
     pub fn read_up_to<A: Allocator>(
         &mut self,
         alloc: A,
@@ -196,13 +167,13 @@ impl<R: Read> Input<R> {
     ) -> Result<Vec<u8, A>, InputFault>
         ensures read { IfOk result (λ bytes. ReadsFirst self.old self.new limit bytes.items) }
         ensures failed { IsErrOf result InputFault.Read → self.new.has_failed ≡ true }
-        ensures kept { IsErrOf result InputFault.Memory → self.new.has_failed ≡ self.old.has_failed }
+        ensures unread { IsErrOf result InputFault.Memory → self.new ≡ self.old }
         ensures part { OnErr result (TakesPart self.old.remaining self.new.remaining limit) }
     {
-        let taken = read_first(&mut self.reader, alloc, limit);
-        if matches!(&taken, Err(InputFault::Read)) {
-            self.failed = true;
-        }
-        taken
+        let mut bytes = Vec::new(alloc);
+        bytes.resize(limit, 0)?;
+        let count = self.fill(bytes.as_mut_slice())?;
+        bytes.truncate(count);
+        Ok(bytes)
     }
 }

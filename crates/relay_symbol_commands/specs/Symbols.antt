@@ -1,5 +1,5 @@
 -- The names of refusals: each is that of its innermost fault.
-use Rattle.std.specs.Prelude.{ℕ, List, ◌≡◌, ◌<◌, ◌≤◌, true, [], ◌∷◌, ◌++◌, Bool, Option, codes, ◌≢◌, false, Err}
+use Rattle.std.specs.Prelude.{ℕ, ◌⊎◌, List, ◌≡◌, ◌<◌, ◌≤◌, true, [], ◌∷◌, ◌++◌, Bool, Option, codes, ◌≢◌, false, Err}
 use Rattle.dm_append_label.specs.Labels.{PageView, id_words, head_at}
 use Rattle.dm_append_label.specs.Opening.{label_fault_name, symbol_fault, OpensAs, ReadsPage}
 use Rattle.dm_encodation.specs.{Faults.decode_fault_name, Faults.encode_fault_name, Written.filled, Written.need_of}
@@ -59,14 +59,16 @@ abbrev pub ReadsSymbol : Form → InputView → InputView → Size → List ℕ 
 ReadsSymbol form input rest size words =
     (document : List ℕ) × ReadsDocument input rest document × CarriesDocument form document size words
 
--- Why there is no symbol: the side comes first, before anything is read, then the input, and then the document, of
--- which no read has failed.
+-- Why there is no symbol: the side comes first, before anything is read, then the input, and then the document. Memory is
+-- refused before anything is read, or where a document was read that the symbol has room for.
 abbrev pub RefusesSymbol : Form → InputView → InputView → SymbolRefusal → Type 0
 RefusesSymbol form input rest symbol_refusals.Side = (¬ IsSide form.side) × (rest ≡ input)
 RefusesSymbol form input rest symbol_refusals.Read = IsSide form.side × (rest.has_failed ≡ true)
 RefusesSymbol form input rest symbol_refusals.TooLong = (size : Size) × (document : List ℕ) × (side size ≡ form.side)
     × ReadsDocument input rest document × (data_words size < need_of form.scheme document)
-RefusesSymbol form input rest symbol_refusals.Memory = IsSide form.side × (rest.has_failed ≡ input.has_failed)
+RefusesSymbol form input rest symbol_refusals.Memory = IsSide form.side × ((rest ≡ input) ⊎ ((size : Size)
+    × (document : List ℕ) × (side size ≡ form.side) × ReadsDocument input rest document
+    × (need_of form.scheme document ≤ data_words size)))
 
 -- the codewords in decimal, a space between each two, and a line end
 abbrev pub words_line : List ℕ → List ℕ

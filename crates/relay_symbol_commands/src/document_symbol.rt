@@ -66,8 +66,10 @@ fn read_symbol<A: Allocator + Copy, R: Read>(
         Err(EncodeFault::TooLong) => return Err(SymbolRefusal::TooLong),
         Err(EncodeFault::Memory) => return Err(SymbolRefusal::Memory),
     };
-    let words = complete(alloc, size, &data)?;
-    Ok(Symbol { size, words })
+    match complete(alloc, size, &data) {
+        Ok(words) => Ok(Symbol { size, words }),
+        Err(AllocError) => Err(SymbolRefusal::Memory),
+    }
 }
 
 fn push_later<A: Allocator + Copy>(line: &mut String<A>, words: &[u8]) -> Result<(), AllocError>

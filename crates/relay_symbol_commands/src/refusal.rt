@@ -42,14 +42,6 @@ impl SymbolRefusal {
     }
 }
 
-impl From<AllocError> for SymbolRefusal {
-    ghost from_gives = { λ _ refusal. refusal ≡ symbol_refusals.Memory };
-
-    fn from(_: AllocError) -> Self {
-        SymbolRefusal::Memory
-    }
-}
-
 /// Why `read` has refused an image.
 #[derive(Clone, Copy, Debug, PartialEq, Eq, Error)]
 pub enum ReadRefusal {

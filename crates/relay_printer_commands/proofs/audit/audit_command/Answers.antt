@@ -9,7 +9,7 @@ returns-in-Err-clause-ends g c =
     rw (← c.streams.view_is) (not_read c.in-Err.fault c.read_up_to.new.self
     (record {
       read = λ e. c.in-Err.ensures.failed (ap Err e);
-      memory = λ e. c.in-Err.ensures.kept (ap Err e);
+      memory = λ e. c.in-Err.ensures.unread (ap Err e);
     }) (rw c.name.ensures at c.refuse.ensures, refl))
 
 pub returns-then-len-eq-TICKETS_BYTES-clause-ends : goal.returns-then-len-eq-TICKETS_BYTES-clause-ends
@@ -21,7 +21,8 @@ returns-then-len-eq-TICKETS_BYTES-clause-ends g c =
 pub returns-in_default-clause-ends : goal.returns-in_default-clause-ends
 returns-in_default-clause-ends g c =
     rw (← c.streams.view_is) (no_memory c.in-Ok.bytes.items c.read_up_to.new.self c.in-Ok.ensures.read
-    (rw c.name-in_default.ensures at c.refuse-in_default.ensures, refl))
+    (let bound = c.in-Ok.ensures.read.taken.bound in
+    let fewer : length c.in-Ok.bytes.items < 1048577 = omega arith in fewer) (rw c.name-in_default.ensures at c.refuse-in_default.ensures, refl))
 
 pub returns-then-is_empty-clause-ends : goal.returns-then-is_empty-clause-ends
 returns-then-is_empty-clause-ends g c =

@@ -9,7 +9,7 @@ returns-in-Err-clause-ends g c =
     rw (← c.streams.view_is) (not_read c.in-Err.fault c.read_document.new.input
     (record {
       read = λ e. c.in-Err.ensures.failed (ap Err e);
-      memory = λ e. c.in-Err.ensures.kept (ap Err e);
+      memory = λ e. c.in-Err.ensures.unread (ap Err e);
     }) (rw c.name.ensures at c.refuse.ensures, refl))
 
 pub returns-then-is_empty-clause-ends : goal.returns-then-is_empty-clause-ends

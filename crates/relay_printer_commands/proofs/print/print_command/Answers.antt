@@ -14,7 +14,7 @@ returns-in-Err-clause-ends g c =
     rw (← c.streams.view_is) (not_read c.in-Err.fault c.read_document.new.input
     (c.has_side.ensures.0 c.if-not-has_side.false) (record {
       read = λ e. c.in-Err.ensures.failed (ap Err e);
-      memory = λ e. c.in-Err.ensures.kept (ap Err e);
+      memory = λ e. c.in-Err.ensures.unread (ap Err e);
     }) refl (rw c.name-in-Err.ensures at c.refuse-status-in-Err.ensures, refl))
 
 pub returns-in_default-clause-ends : goal.returns-in_default-clause-ends

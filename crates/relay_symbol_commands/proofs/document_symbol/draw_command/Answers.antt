@@ -1,4 +1,4 @@
-use Rattle.std.proofs.Common.{refl, subst}
+use Rattle.std.proofs.Common.{inr, refl, subst}
 use Rattle.dm_pbm_io.specs.Image.{Picture, picture, written}
 use Rattle.relay_shared.specs.Command.{PutsText}
 use Rattle.relay_shared.proofs.{Writing.puts, Telling.told_bytes}
@@ -15,7 +15,7 @@ pub returns-in_default-clause-ends : goal.returns-in_default-clause-ends
 returns-in_default-clause-ends g c =
     let symbol = c.in-Ok.ensures.symbol in
     rw (← c.streams.view_is) (refused Memory c.read_symbol.new.input
-    ((c.in-Ok.symbol.size, symbol.2.is_side), symbol.1.whole)
+    ((c.in-Ok.symbol.size, symbol.2.is_side), inr (c.in-Ok.symbol.size, symbol.0, symbol.2.is_side, symbol.1, symbol.2.fits))
     (rw c.name-in_default.ensures at c.refuse-in_default.ensures, refl))
 
 pub returns-clause-part : goal.returns-clause-part

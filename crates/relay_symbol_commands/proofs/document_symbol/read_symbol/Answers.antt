@@ -1,10 +1,31 @@
-use Rattle.std.proofs.{Common.inl, Common.inr, Common.arith, lemmas.Bool.cases_lt}
+use Rattle.std.proofs.{Common.inl, Common.inr, Common.arith, Common.◌≡◌, Common.◌≤◌, Common.ap, Common.Err, lemmas.Bool.cases_lt}
 use Rattle.dm_size.specs.Sizes.{data_words}
 use Rattle.dm_encodation.specs.Written.{need_of}
 use Rattle.relay_symbol_commands.proofs.document_symbol.read_symbol.Goals as goal
 
-pub returns-clause-symbol : goal.returns-clause-symbol
-returns-clause-symbol g c =
+pub returns-in-Err-Memory-clause-symbol : goal.returns-in-Err-Memory-clause-symbol
+returns-in-Err-Memory-clause-symbol g c = ((_, c.in-Some.ensures.found), inl (c.in-Err-Memory.ensures.unread (ap Err c.in-Err-Memory.field-0-is)))
+
+pub returns-in-Err-Memory-encode-clause-symbol : goal.returns-in-Err-Memory-encode-clause-symbol
+returns-in-Err-Memory-encode-clause-symbol g c =
+    let document = c.in-Ok.document.items in
+    let too_long = rw c.deref.ensures.value at c.in-Err-Memory-encode.ensures.too_long in (
+      (_, c.in-Some.ensures.found),
+      inr (
+        c.in-Some.size,
+        document,
+        c.in-Some.ensures.found,
+        c.in-Ok.ensures.taken,
+        elim (cases_lt (data_words c.in-Some.size)
+            (need_of c.args.form.scheme document)) [
+              | inl below ↦ cc (too_long.1 (omega (arith, below)))
+              | inr fits ↦ fits
+            ],
+      ),
+    )
+
+pub returns-in-Ok-complete-clause-symbol : goal.returns-in-Ok-complete-clause-symbol
+returns-in-Ok-complete-clause-symbol g c =
     let document = c.in-Ok.document.items in
     let too_long = rw c.deref.ensures.value at c.in-Ok-encode.ensures.too_long in
     let filled = rw c.deref.ensures.value at c.in-Ok-encode.ensures.filled in (
@@ -16,6 +37,24 @@ returns-clause-symbol g c =
           | inl below ↦ cc (too_long.1 (omega (arith, below)))
           | inr fits ↦ fits
         ];
-        completed = rw (c.deref-2.ensures.value, filled) at c.in_ok-words.ensures.completed;
+        completed = rw (c.deref-2.ensures.value, filled) at c.in-Ok-complete.ensures.completed;
       },
+    )
+
+pub returns-clause-symbol : goal.returns-clause-symbol
+returns-clause-symbol g c =
+    let document = c.in-Ok.document.items in
+    let too_long = rw c.deref.ensures.value at c.in-Ok-encode.ensures.too_long in (
+      (_, c.in-Some.ensures.found),
+      inr (
+        c.in-Some.size,
+        document,
+        c.in-Some.ensures.found,
+        c.in-Ok.ensures.taken,
+        elim (cases_lt (data_words c.in-Some.size)
+            (need_of c.args.form.scheme document)) [
+              | inl below ↦ cc (too_long.1 (omega (arith, below)))
+              | inr fits ↦ fits
+            ],
+      ),
     )

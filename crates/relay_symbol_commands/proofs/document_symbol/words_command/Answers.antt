@@ -1,4 +1,4 @@
-use Rattle.std.proofs.Common.{refl}
+use Rattle.std.proofs.Common.{inr, refl}
 use Rattle.relay_shared.proofs.{Writing.puts, Telling.told}
 use Rattle.relay_symbol_commands.specs.{Symbols.EndsWords as ends, declared.refusal.SymbolRefusal.TheVariants.Memory}
 use Rattle.relay_symbol_commands.proofs.document_symbol.words_command.Goals as goal
@@ -27,5 +27,5 @@ pub returns-clause-ends : goal.returns-clause-ends
 returns-clause-ends g c =
     let symbol = c.in-Ok.ensures.symbol in
     rw (← c.streams.view_is) (ends.refused Memory c.read_symbol.new.input
-    ((c.in-Ok.symbol.size, symbol.2.is_side), symbol.1.whole)
+    ((c.in-Ok.symbol.size, symbol.2.is_side), inr (c.in-Ok.symbol.size, symbol.0, symbol.2.is_side, symbol.1, symbol.2.fits))
     (rw c.name-in-Err-line_of_words.ensures at c.refuse-in-Err-line_of_words.ensures, refl))

@@ -7,7 +7,7 @@ pub returns-in-Err-clause-ends : goal.returns-in-Err-clause-ends
 returns-in-Err-clause-ends g c =
     rw (← c.streams.view_is) (not_read c.in-Err.fault (record {
       read = λ e. c.in-Err.ensures.failed (ap Err e);
-      memory = λ e. c.in-Err.ensures.kept (ap Err e);
+      memory = λ e. c.in-Err.ensures.unread (ap Err e);
     })
     (rw c.name.ensures at c.refuse.ensures))
 
