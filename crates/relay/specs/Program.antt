@@ -31,8 +31,8 @@ abbrev pub OnFile : (OnLedger → ℕ → OnLedger → Type 0) → OnDesk → �
 OnFile Ends old status new = Ends (ledger_at old.files.joint old.streams) status (ledger_at new.files.joint new.streams)
     × (new.files.set ≡ old.files.set)
 
--- What a command does over the store at the path that it names and the set beside it, and, of `scan`, `read` and `audit`,
--- over the files of images or ledgers that it is given, by their bytes; `A` is what it allocates in.
+-- What a command does over the store at the path that it names and the set beside it, and, of `scan`, `read`, `audit` and
+-- `import`, over the files that it is given, by their bytes; `A` is what it allocates in.
 abbrev pub Does : Type 0 → Command → List (Option (List ℕ)) → OnDesk → ℕ → OnDesk → Type 0
 Does A (Words side scheme) images old status new =
     OnStreams (EndsWords (record { side = side; scheme = scheme })) old status new
@@ -61,7 +61,7 @@ Does A (Deliver file id) images old status new = EndsDeliver id.now old status n
 Does A (Forget file id) images old status new = EndsForget id.now old status new
 Does A (Export file id) images old status new = EndsExport id.now old status new
 Does A (Import file capacity) images old status new =
-    EndsImport capacity old status new × ReadsPart IMPORT_BYTES old.streams new.streams
+    EndsImport capacity images old status new × ReadsPart IMPORT_BYTES old.streams new.streams
 Does A (Held file id) images old status new = EndsHeld (option_copied id) old status new
 Does A (Copy file id page side scheme) images old status new =
     EndsCopy (record { id = id; page = page; side = side; scheme = scheme }) old status new

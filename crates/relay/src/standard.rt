@@ -40,10 +40,10 @@ fn answers_each_image(command: Command) -> bool {
     matches!(command, Command::Read | Command::Scan { .. })
 }
 
-// How many bytes of its output a command keeps: of `read`, `scan` and `world` each line goes out before the next image
-// is waited for or the next event comes.
+// How many bytes of its output a command keeps: of `read`, `scan`, `import` and `world` each line goes out before the
+// next image is waited for, the next file is read or the next event comes.
 fn least_of(command: Command) -> usize {
-    if answers_each_image(command) || matches!(command, Command::World) {
+    if answers_each_image(command) || matches!(command, Command::World | Command::Import { .. }) {
         0
     } else {
         MANY_BYTES

@@ -1,20 +1,20 @@
 -- What the commands of desks do to files and streams, and the lines that they write: what these show is this project's own rule.
-use Rattle.std.specs.Prelude.{ℕ, List, [], ◌∷◌, ◌++◌, codes, zero, suc, ◌+◌, ◌^◌, ◌==◌, Bool, if◌then◌else◌, ◌≡◌, ◌<◌, Option, None, IfSome, Result, Ok, Err, MatchResult, true, false, ◌≤◌, ◌⊎◌, ◌||◌, Some, is_err, IsOk, IsTrue, IsSomeAnd, IsSome, IfOk}
+use Rattle.std.specs.Prelude.{ℕ, List, [], ◌∷◌, ◌++◌, codes, zero, suc, take, ◌+◌, ◌^◌, ◌==◌, Bool, if◌then◌else◌, ◌≡◌, ◌<◌, Option, None, IfSome, Result, Ok, Err, MatchResult, true, false, ◌≤◌, ◌⊎◌, ◌||◌, Some, is_err, IsOk, IsTrue, IsSomeAnd, IsSome, IfOk}
 use Rattle.std.specs.Fmt.{decimal}
 use Rattle.dm_assembly_desk.specs.Documents.{names, Documents, DeskView, KeepsPages, DeskIsInOrder, Pages, summary, count_at, page_at}
-use Rattle.dm_assembly_desk.specs.declared.{reply.Held.Held, limits.TheConstants.MOST_CAPACITY, reply.Accepted.Accepted}
+use Rattle.dm_assembly_desk.specs.declared.{reply.Held.Held, limits.TheConstants.MOST_CAPACITY, reply.Accepted.Accepted, reply.Imported.Imported}
 use Rattle.relay_shared.specs.Lines.{id_text, word_text, accepted_line, imported_line}
 use Rattle.hex.specs.Hex.{decode_sized}
 use Rattle.dm_store.specs.Saved.{Saved, SavedSet, ListsKeys, LoadsOpen, Settles}
 use Rattle.dm_append_label.specs.Labels.{id_words, PageView, Carries, Fits, IsTooLong, Seals}
 use Rattle.dm_append_label.specs.{Opening.OpensAs, declared.fault.LabelFault.LabelFault, declared.opening.Opened.Opened}
 use Rattle.dm_assembly_desk.specs.Desk.{Asks, Exports, Forgets, ImportsBytes, AcceptsGrid, kind_name, ask_fault_name, desk_fault_name, export_fault_name, forget_fault_name, import_fault_name, move_fault_name, scan_fault_name, move_fault_of, Moves, HasDeskFault, DeskOpens, HasJointFileFault, HoldsJointFile, SeesKey}
-use Rattle.dm_assembly_desk.specs.declared.fault.{DeskFault.DeskFault, MoveFault.MoveFault, ScanFault.ScanFault}
+use Rattle.dm_assembly_desk.specs.declared.fault.{DeskFault.DeskFault, ImportFault.ImportFault, MoveFault.MoveFault, ScanFault.ScanFault}
 use Rattle.relay_streams.specs.Streams.{input_fault_name, OutputView, ReadsFirst, refused_line, AppendsPart}
 use Rattle.relay_streams.specs.declared.fault.InputFault.{InputFault}
 use Rattle.relay_desk_commands.specs.declared.documents.Given.{Given, TheVariants.Document, TheVariants.File}
 use Rattle.relay_desk_commands.specs.declared.{import.TheConstants.IMPORT_BYTES, copy.CopyOptions.CopyOptions}
-use Rattle.relay_shared.specs.Command.{HasInputFault, refusal_name, OnlyOutput, RefusesOnErrors, RefusesOnOutput, StreamsView, TellsAnswer, TellsBytes, TellsRefusal, ImageCommand, Said, TellsInputs, progress_at, refusal_of, Tells, EndsNote, NotesImage}
+use Rattle.relay_shared.specs.Command.{HasInputFault, refusal_name, OnlyOutput, RefusesOnErrors, RefusesOnOutput, StreamsView, TellsAnswer, TellsBytes, TellsRefusal, ImageCommand, Said, TellsFiles, TellsInputs, progress_at, refusal_of, Tells, EndsNote, NotesImage}
 use Rattle.dm_finder_frame.specs.Frame.{GridView}
 use Rattle.dm_pbm_io.specs.{FaultNames.shape_fault_name, Image.Picture, Image.HasShape, Image.IsGridInside, Image.p4}
 use Rattle.dm_pbm_io.specs.declared.fault.ShapeFault.{ShapeFault, TheVariants.Shape, TheVariants.Memory}
@@ -173,18 +173,38 @@ EndsForget text = EndsOnId RefusesOnOutput text (λ id. EndsAtDesk RefusesOnOutp
     (λ desk old status new. OnlyOutput old new.streams
     × AnswersCall (λ _. forgotten_line id) forget_fault_name (Forgets id) desk old status new))
 
--- How `import` ends: the input could not be read; or no read failed, and these bytes were read, and no other, one more
--- than the greatest file has, or all if they are fewer, and then the desk was opened, and has answered. Nothing was
--- written to the standard error.
-pub data EndsImport (capacity : ℕ) (old : OnDesk) (status : ℕ) (new : OnDesk) : Type 0 where
-  not_read : (fault : InputFault) → HasInputFault old.streams.input new.streams.input fault → new.files ≡ old.files
+-- the line of what was added
+abbrev pub import_line : Imported → List ℕ
+import_line reply = imported_line reply.id reply.n reply.added (kind_name reply.kind)
+
+-- What `import` does with a file, by its bytes: it was not read, and was refused; or these are its first bytes, one more
+-- than the greatest file has, or all if they are fewer, and the desk has answered.
+pub data ImportsFile (file : Option (List ℕ)) : DeskView × OutputView → ℕ → DeskView × OutputView → Type 0 where
+  file_not_read : {desk : DeskView} {old new : OutputView} {status : ℕ} (fault : InputFault)
+      → TellsRefusal (input_fault_name fault) old status new → ImportsFile file (desk, old) status (desk, new)
+  file_read : {desk after : DeskView} {old new : OutputView} {status : ℕ} (bytes : List ℕ)
+      (reply : Result Imported ImportFault) → IfSome file (λ all. bytes ≡ take IMPORT_BYTES all)
+      → ImportsBytes bytes desk reply after → TellsAnswer import_line import_fault_name reply old status new
+      → ImportsFile file (desk, old) status (after, new)
+
+-- How `import` ends over its input: that could not be read; or these bytes of it were read, the desk was opened, and has
+-- answered. Nothing went to the standard error. Over files: the desk was opened, and they were taken in, until the output
+-- or a save has failed. What was held stays held, and is in order with the set of the desk.
+pub data EndsImport (capacity : ℕ) : List (Option (List ℕ)) → OnDesk → ℕ → OnDesk → Type 0 where
+  not_read : {old new : OnDesk} {status : ℕ} (fault : InputFault)
+      → HasInputFault old.streams.input new.streams.input fault → new.files ≡ old.files
       → TellsRefusal (input_fault_name fault) old.streams.output status new.streams.output
-      → new.streams.errors ≡ old.streams.errors → EndsImport capacity old status new
-  read : (bytes : List ℕ) → ReadsFirst old.streams.input new.streams.input IMPORT_BYTES bytes
+      → new.streams.errors ≡ old.streams.errors → EndsImport capacity [] old status new
+  read : {old new : OnDesk} {status : ℕ} (bytes : List ℕ)
+      → ReadsFirst old.streams.input new.streams.input IMPORT_BYTES bytes
       → EndsAtDesk (λ name before told after. TellsRefusal name before.output told after.output) capacity
-      (AnswersCall (λ reply. imported_line reply.id reply.n reply.added (kind_name reply.kind)) import_fault_name
-      (ImportsBytes bytes)) old status new
-      → new.streams.errors ≡ old.streams.errors → EndsImport capacity old status new
+      (AnswersCall import_line import_fault_name (ImportsBytes bytes)) old status new
+      → new.streams.errors ≡ old.streams.errors → EndsImport capacity [] old status new
+  read_files : {old new : OnDesk} {status : ℕ} {file : Option (List ℕ)} {later : List (Option (List ℕ))}
+      → EndsAtDesk RefusesOnOutput capacity (λ desk old status new. (after : DeskView)
+      × TellsFiles ImportsFile (λ at. at.1.has_failed || at.0.is_failed) (file ∷ later) (desk, old.output) status
+      (after, new.streams.output) × OnlyOutput old new.streams × KeepsPages desk.held after.held × DeskIsInOrder after
+      × (new.files.set ≡ after.saved)) old status new → EndsImport capacity (file ∷ later) old status new
 
 -- ---- what is scanned
 

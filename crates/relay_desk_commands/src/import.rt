@@ -1,51 +1,89 @@
 //! `relay import`: pages from another desk.
 
+ghost use Rattle.std.specs.Prelude.{◌≡◌, false, map};
+ghost use Rattle.dm_assembly_desk.specs.{Desk.import_fault_name, Documents.KeepsPages};
+ghost use Rattle.relay_shared.specs.Command.{TellsAnswer};
 ghost use Rattle.relay_streams.specs.Streams.{TakesPart};
-ghost use Rattle.relay_desk_commands.specs.Desks.{EndsImport, desk_at};
+ghost use Rattle.relay_desk_commands.specs.Desks.{EndsImport, ImportsFile, desk_at, import_line};
 
-use crate::desk_opening::open_desk;
-use dm_assembly_desk::Imported;
+use crate::desk_opening::{OpenDesk, open_desk};
+use dm_assembly_desk::{Desk, ImportFault, Imported};
 use dm_store::{Store, StoreSet};
-use relay_shared::{EndedDesk, Streams, put_imported, refuse, status_after};
+use relay_shared::{EndedDesk, ImageFile, Streams, greater, put_imported, refuse, status_after};
+use relay_streams::{Input, Output};
 use std::alloc::Allocator;
 use std::io::{Read, Write};
 
 /// One byte more than the greatest file of a document.
 pub const IMPORT_BYTES: usize = 41_643;
 
-/// Reads the file that `export` has written, at most 41,643 bytes of it, holds and saves its pages that were not held,
-/// and prints `IIII n added MASK KIND`: the ID, how many pages the document has, which of them were added
-/// (bit m - 1 for page m), and whether it was `new`, `again` or `complete`; or the line `refused NAME`. The input is
-/// read before the desk is opened.
-pub fn import_command<A: Allocator + Copy, S: Store, T: StoreSet, R: Read, W: Write, E: Write>(
-    alloc: A,
-    store: S,
-    set: T,
-    streams: &mut Streams<R, W, E>,
-    capacity: u16,
+// Writes the line of a desk's answer. Gives the exit status, and the name of the refusal, if it is one.
+#[rattlefmt::skip] // a pattern a line
+fn tell<W: Write>(output: &mut Output<W>, answer: Result<Imported, ImportFault>) -> (u8, Option<&'static str>)
+    ensures { TellsAnswer import_line import_fault_name answer output.old result.0 output.new }
+{
+    match answer {
+        Ok(Imported { id, n, added, kind }) => (status_after(put_imported(output, id, n, added, kind.name())), None),
+        Err(fault) => (refuse(output, fault.name()), Some(fault.name())),
+    }
+}
+
+// Takes in a file, and writes the line of the answer.
+#[rattlefmt::skip] // a signature a line
+fn import_file<A: Allocator + Copy, T: StoreSet, F: ImageFile, W: Write>(
+    alloc: A, desk: &mut Desk<T, A>, file: &F, output: &mut Output<W>,
+) -> u8
+    requires { desk.old.is_failed ≡ false }
+    ensures does { ImportsFile (F.remaining file.now) (desk.old, output.old) result (desk.new, output.new) }
+    ensures kept { KeepsPages desk.old.held desk.new.held }
+{
+    let reader = match file.open() {
+        Ok(reader) => reader,
+        Err(fault) => return refuse(output, fault.name()),
+    };
+    let mut input = Input::new(reader);
+    let (status, refused) = match input.read_up_to(alloc, IMPORT_BYTES) {
+        Ok(bytes) => tell(output, desk.import(&bytes)),
+        Err(fault) => (refuse(output, fault.name()), Some(fault.name())),
+    };
+    file.end(input.into_reader(), refused);
+    status
+}
+
+/// Reads files that `export` has written, at most 41,643 bytes of each, or one from the input where none is named. It
+/// holds and saves their pages that were not held, and prints `IIII n added MASK KIND` for each: the ID, how many pages
+/// the document has, which of them were added (bit m - 1 for page m), and whether it was `new`, `again` or `complete`;
+/// or the line `refused NAME`. The input is read before the desk is opened, and files are read after that. A refused
+/// file doesn't end the command; a save that failed does.
+#[rattlefmt::skip] // a signature a line
+pub fn import_command<A: Allocator + Copy, S: Store, T: StoreSet, F: ImageFile, R: Read, W: Write, E: Write>(
+    alloc: A, store: S, set: T, files: &[F], streams: &mut Streams<R, W, E>, capacity: u16,
 ) -> EndedDesk<S, T>
     ensures part { TakesPart streams.old.input.remaining streams.new.input.remaining IMPORT_BYTES }
-    ensures ends { EndsImport capacity (desk_at (S.state store) (T.state set) streams.old) result.status
-        (desk_at (S.state result.store) (T.state result.set) streams.new) }
+    ensures ends { EndsImport capacity (map F.remaining files.now) (desk_at (S.state store) (T.state set) streams.old)
+        result.status (desk_at (S.state result.store) (T.state result.set) streams.new) }
 {
-    let bytes = match streams.input.read_up_to(alloc, IMPORT_BYTES) {
-        Ok(bytes) => bytes,
-        Err(fault) => {
-            let status = refuse(&mut streams.output, fault.name());
-            return EndedDesk { status, store, set };
+    let mut bytes = None;
+    if files.is_empty() {
+        match streams.input.read_up_to(alloc, IMPORT_BYTES) {
+            Ok(read) => bytes = Some(read),
+            Err(fault) => return EndedDesk { status: refuse(&mut streams.output, fault.name()), store, set },
         }
-    };
-    let mut opened = match open_desk(alloc, store, set, &mut streams.output, capacity) {
+    }
+    let output = &mut streams.output;
+    let OpenDesk { store, mut desk } = match open_desk(alloc, store, set, output, capacity) {
         Ok(opened) => opened,
         Err(ended) => return ended,
     };
-    let status = match opened.desk.import(&bytes) {
-        Ok(imported) => {
-            let kind = imported.kind.name();
-            let Imported { id, n, added, .. } = imported;
-            status_after(put_imported(&mut streams.output, id, n, added, kind))
+    if let Some(bytes) = bytes {
+        return EndedDesk { status: tell(output, desk.import(&bytes)).0, store, set: desk.close() };
+    }
+    let mut status = 0;
+    for file in files {
+        status = greater(status, import_file(alloc, &mut desk, file, output));
+        if output.has_failed() | desk.has_failed() {
+            return EndedDesk { status, store, set: desk.close() };
         }
-        Err(fault) => refuse(&mut streams.output, fault.name()),
-    };
-    opened.end(status)
+    }
+    EndedDesk { status, store, set: desk.close() }
 }

@@ -3,9 +3,9 @@
 //! again.
 //!
 //! Proved: each but `held` moves the documents of an old joint file, opens the desk whose files the set holds, does the
-//! desk's call, writes its answer, and leaves the files as the call left them. `scan` does so for each image, in order.
-//! `held` opens no desk and leaves the files as they were: it writes a line for each document, by what its file holds,
-//! and for each file that is not sound. What `copy` gives opens as the page that is held.
+//! desk's call, writes its answer, and leaves the files as the call left them. `scan` does so for each image, `import`
+//! for each file, in order. `held` opens no desk and leaves the files as they were: it writes a line for each document,
+//! by what its file holds, and for each that is not sound. What `copy` gives opens as the page that is held.
 #![tactic(auto)]
 
 mod copy;

@@ -1,6 +1,6 @@
 -- An import keeps a desk so, and so does a forget.
 use Rattle.std.proofs.Common.{◌≡◌, ℕ, List, Result, Ok, Err, sym, subst}
-use Rattle.std.specs.Prelude.{IfSome}
+use Rattle.std.specs.{List.AllByRecursion, Prelude.Option}
 use Rattle.dm_assembly_desk.specs.Desk.{Imports, ImportsBytes, IsFileReadAs, import_of}
 use Rattle.dm_assembly_desk.specs.Documents.{DeskView, Pages, SpellsFile}
 use Rattle.dm_assembly_desk.specs.declared.{adding.AddFault.AddFault, fault.ImportFault.ImportFault}
@@ -8,10 +8,12 @@ use Rattle.dm_assembly_desk.specs.declared.adding.AddFault.TheVariants as adds
 use Rattle.dm_assembly_desk.specs.declared.{limits.TheConstants.MOST_CAPACITY, reply.Imported.Imported}
 use Rattle.dm_assembly_desk.proofs.AnyFile.{one_spelled}
 use Rattle.dm_event_history.specs.{Relay.Label, Headline.ArePrinted, Headline.IsCleanExport}
-use Rattle.relay_desk_commands.specs.Desks.{EndsImport, EndsAtDesk.no_desk, EndsAtDesk.opened}
-use Rattle.relay_desk_commands.specs.Desks.EndsImport.{not_read, read}
-use Rattle.relay_desk_runs.specs.Answered.{file_imported, if_imported, EachForgetKeeps, EachImportKeeps, HasNoDocuments, HoldsPrinted, HasPrinted, IsPrintedFile}
+use Rattle.relay_desk_commands.specs.Desks.{EndsImport, EndsAtDesk.no_desk, EndsAtDesk.opened, ImportsFile}
+use Rattle.relay_desk_commands.specs.Desks.{EndsImport.not_read, EndsImport.read, EndsImport.read_files, ImportsFile.file_not_read, ImportsFile.file_read}
+use Rattle.relay_streams.specs.Streams.{OutputView}
+use Rattle.relay_desk_runs.specs.Answered.{bytes_of_file, files_imported, if_imported, EachForgetKeeps, EachImportKeeps, HasNoDocuments, HoldsPrinted, HasPrinted, IsPrintedFile}
 use Rattle.relay_desk_runs.proofs.Saving.{MayBeAdded, ShowsPrinted, adding, forgetting}
+use Rattle.relay_desk_runs.proofs.Scanning.{each_file_keeps}
 use Rattle.relay_desk_runs.proofs.Opened.{as_they_were, at_desk_keeps, is_opened, on_id_keeps, still_clean, unopened}
 
 pub same_pair : {E : Type 0} (a b : ℕ × Pages) → ◌≡◌ {A = Result (ℕ × Pages) E} (Ok a) (Ok b) → a ≡ b
@@ -19,11 +21,11 @@ same_pair a b is = cc
 
 module _ (labels : List Label) (printed : ArePrinted labels) (bytes : List ℕ) (old new : DeskView)
     (answer : Result Imported ImportFault) (clean : ShowsPrinted labels old)
-    (near : IfSome (if_imported answer bytes) (IsPrintedFile labels)) where
+    (near : AllByRecursion (IsPrintedFile labels) (if_imported answer bytes)) where
   by_added : (added : Result Imported AddFault) → MayBeAdded added →
-      IfSome (if_imported (import_of added) bytes) (IsPrintedFile labels) → IsPrintedFile labels bytes
-  by_added (Ok reply) may file = file
-  by_added (Err adds.Save) may file = file
+      AllByRecursion (IsPrintedFile labels) (if_imported (import_of added) bytes) → IsPrintedFile labels bytes
+  by_added (Ok reply) may file = file.0
+  by_added (Err adds.Save) may file = file.0
   by_added (Err fault) may file = absurd may
 
   sent : (id : ℕ) (pages : Pages) → SpellsFile id bytes pages → IsPrintedFile labels bytes →
@@ -37,7 +39,7 @@ module _ (labels : List Label) (printed : ArePrinted labels) (bytes : List ℕ) 
       ShowsPrinted labels new
   imports id pages spells (added, is, does) = adding labels old new clean printed id pages added
       (λ may. sent id pages spells (by_added added may
-      (subst (λ (a : Result Imported ImportFault). IfSome (if_imported a bytes) (IsPrintedFile labels)) is near))) does
+      (subst (λ (a : Result Imported ImportFault). AllByRecursion (IsPrintedFile labels) (if_imported a bytes)) is near))) does
 
   pub imported : ImportsBytes bytes old answer new → ShowsPrinted labels new
   imported call = elim (call.read) as (λ what. IsFileReadAs bytes what → ShowsPrinted labels new) [
@@ -46,10 +48,17 @@ module _ (labels : List Label) (printed : ArePrinted labels) (bytes : List ℕ) 
   ] call.is_read
 
 pub each_import_keeps : EachImportKeeps
-each_import_keeps labels capacity old status new printed clean how near = by_input how near
+each_import_keeps labels capacity images old status new printed clean how near = by_input how near
   where
-    by_input : (ends : EndsImport capacity old status new) → IfSome (file_imported ends) (IsPrintedFile labels) →
-        HasPrinted labels new
+    one : (file : Option (List ℕ)) (old : DeskView × OutputView) (status : ℕ) (new : DeskView × OutputView)
+        (does : ImportsFile file old status new) → ShowsPrinted labels old.0 →
+        AllByRecursion (IsPrintedFile labels) (bytes_of_file file old status new does) → ShowsPrinted labels new.0
+    one file old status new (file_not_read fault told) clean near = clean
+    one file old status new (file_read {desk} {after} bytes reply first imports told) clean near =
+        imported labels printed bytes desk after reply clean near imports
+
+    by_input : {files : List (Option (List ℕ))} (ends : EndsImport capacity files old status new) →
+        AllByRecursion (IsPrintedFile labels) (files_imported ends) → HasPrinted labels new
     by_input (not_read fault has same told leaves) near =
         still_clean labels old new clean (as_they_were old.files new.files same)
     by_input (read bytes reads (no_desk name has refuses) leaves) near =
@@ -59,6 +68,15 @@ each_import_keeps labels capacity old status new printed clean how near = by_inp
         record {
           set = subst (HoldsPrinted labels) (sym rest.3)
               (imported labels printed bytes desk rest.0 rest.1 o.0.shows near rest.2).set;
+          joint = subst HasNoDocuments (sym o.1) clean.joint;
+        }
+    by_input (read_files (no_desk name has refuses)) near =
+        still_clean labels old new clean (unopened old.files new.files capacity name clean.joint has)
+    by_input (read_files (opened desk opens rest)) near =
+        let o = is_opened labels old.files capacity new.files.joint desk clean.set clean.joint opens in
+        record {
+          set = subst (HoldsPrinted labels) (sym rest.5) (each_file_keeps bytes_of_file
+              (λ (at : DeskView × OutputView). ShowsPrinted labels at.0) (IsPrintedFile labels) one rest.1 o.0.shows near).set;
           joint = subst HasNoDocuments (sym o.1) clean.joint;
         }
 

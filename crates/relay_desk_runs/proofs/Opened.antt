@@ -10,7 +10,7 @@ use Rattle.relay_shared.specs.Command.{StreamsView}
 use Rattle.relay_desk_commands.specs.Desks.{EndsCopy, EndsCopyOf, EndsHeld, DeskFiles, EndsAtDesk, EndsImport, EndsOnId, HasNoDesk, OnDesk, OpensDesk}
 use Rattle.relay_desk_commands.specs.Desks.{EndsCopyOf.no_side, EndsCopyOf.of_side, EndsOnId.no_id, EndsOnId.of_id}
 use Rattle.relay_desk_commands.specs.declared.copy.CopyOptions.{CopyOptions}
-use Rattle.relay_desk_commands.specs.Desks.{EndsImport.not_read, EndsImport.read, EndsAtDesk.no_desk, EndsAtDesk.opened}
+use Rattle.relay_desk_commands.specs.Desks.{EndsImport.not_read, EndsImport.read, EndsImport.read_files, EndsAtDesk.no_desk, EndsAtDesk.opened}
 use Rattle.relay_desk_commands.specs.Desks.HasNoDesk.{not_moved, not_opened}
 use Rattle.relay_desk_runs.specs.Answered.{HasNoDocuments, HoldsPrinted, HasPrinted}
 use Rattle.relay_desk_runs.proofs.Saving.{ShowsPrinted}
@@ -110,11 +110,12 @@ pub on_id_joint : {Refuses : List ℕ → StreamsView → ℕ → StreamsView �
 on_id_joint text old status new each (no_id isnt same refuses) = ap (λ (f : DeskFiles). f.joint) same
 on_id_joint text old status new each (of_id id text_is rest) = each id rest
 
-pub import_joint : (capacity : ℕ) (old : OnDesk) (status : ℕ) (new : OnDesk) → HasNoDocuments old.files.joint →
-    EndsImport capacity old status new → new.files.joint ≡ old.files.joint
+pub import_joint : (capacity : ℕ) {files : List (Option (List ℕ))} (old : OnDesk) (status : ℕ) (new : OnDesk) →
+    HasNoDocuments old.files.joint → EndsImport capacity files old status new → new.files.joint ≡ old.files.joint
 import_joint capacity old status new none (not_read fault has same told leaves) = ap (λ (f : DeskFiles). f.joint) same
 import_joint capacity old status new none (read bytes reads rest leaves) =
     at_desk_joint capacity old status new none rest
+import_joint capacity old status new none (read_files rest) = at_desk_joint capacity old status new none rest
 
 -- what is held is looked at, and nothing else
 pub held_same : (text : Option (List ℕ)) (old : OnDesk) (status : ℕ) (new : OnDesk) → EndsHeld text old status new →

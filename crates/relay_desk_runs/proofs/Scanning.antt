@@ -24,7 +24,7 @@ use Rattle.relay_shared.specs.Command.TellsInputs.{of_files, of_input}
 use Rattle.relay_desk_commands.specs.Desks.{AtDesk, EndsScan, ScansPicture, scan_images}
 use Rattle.relay_desk_commands.specs.Desks.ScansPicture.{accepted, refused, unsettled, no_grid}
 use Rattle.relay_desk_commands.specs.Desks.EndsAtDesk.{no_desk, opened}
-use Rattle.relay_desk_runs.specs.Answered.{grids_at_end, grids_before, grids_of_bytes, grids_of_file, grids_of_files, grids_of_images, grids_of_inputs, grids_of_picture, grids_scanned, if_saved, EachScanKeeps, HasNoDocuments, HoldsPrinted, HasPrinted, IsNearPrinted, IsOfLabel}
+use Rattle.relay_desk_runs.specs.Answered.{grids_at_end, grids_before, grids_of_bytes, grids_of_file, grids_of_images, grids_of_inputs, grids_of_picture, grids_scanned, if_saved, of_each_file, EachScanKeeps, HasNoDocuments, HoldsPrinted, HasPrinted, IsNearPrinted, IsOfLabel}
 use Rattle.relay_desk_runs.proofs.Saving.{MayBeAdded, ShowsPrinted, adding}
 use Rattle.relay_desk_runs.proofs.Opened.{is_opened, still_clean, unopened}
 
@@ -36,6 +36,19 @@ first_part P (x ∷ xs) ys all = (all.0, first_part P xs ys all.1)
 last_part : {X : Type 0} (P : X → Type 0) (xs ys : List X) → AllByRecursion P (xs ++ ys) → AllByRecursion P ys
 last_part P [] ys all = all
 last_part P (x ∷ xs) ys all = last_part P xs ys all.1
+
+-- what one file keeps, so do all
+pub each_file_keeps : {S X : Type 0} {Tells : Option (List ℕ) → S → ℕ → S → Type 0} {has_stopped : S → Bool}
+    (of_one : (file : Option (List ℕ)) (old : S) (status : ℕ) (new : S) → Tells file old status new → List X)
+    (P : S → Type 0) (Q : X → Type 0) → ((file : Option (List ℕ)) (old : S) (status : ℕ) (new : S)
+    (tells : Tells file old status new) → P old → AllByRecursion Q (of_one file old status new tells) → P new) →
+    {files : List (Option (List ℕ))} {old new : S} {status : ℕ} (tells : TellsFiles Tells has_stopped files old status new) →
+    P old → AllByRecursion Q (of_each_file of_one tells) → P new
+each_file_keeps of_one P Q keeps no_file so all = so
+each_file_keeps of_one P Q keeps (last_file tells is_last) so all = keeps _ _ _ _ tells so all
+each_file_keeps of_one P Q keeps (next_file tells goes_on others) so all = each_file_keeps of_one P Q keeps others
+    (keeps _ _ _ _ tells so (first_part Q (of_one _ _ _ _ tells) (of_each_file of_one others) all))
+    (last_part Q (of_one _ _ _ _ tells) (of_each_file of_one others) all)
 
 -- the page of a label that left, alone
 page_clean : (labels : List Label) (page : PageView) → ArePrinted labels → IsOfLabel labels page →
@@ -128,27 +141,19 @@ module _ (A : Type 0) (labels : List Label) (printed : ArePrinted labels) where
       come takes.comes (before answers clean (first_part _ (grids_before answers) (grids_of_bytes takes.comes) near))
       (last_part _ (grids_before answers) (grids_of_bytes takes.comes) near)
 
-  file : {bytes : Option (List ℕ)} {old new : AtImage (scan_images A)} {status : ℕ}
+  file : (bytes : Option (List ℕ)) (old : AtImage (scan_images A)) (status : ℕ) (new : AtImage (scan_images A))
       (tells : TellsFile (scan_images A) bytes old status new) → ShowsPrinted labels old.state.desk →
-      Near (grids_of_file tells) → ShowsPrinted labels new.state.desk
-  file (was_opened rest tells) clean near = images tells clean near
-  file (not_opened fault same told) clean near =
+      Near (grids_of_file bytes old status new tells) → ShowsPrinted labels new.state.desk
+  file bytes old status new (was_opened rest tells) clean near = images tells clean near
+  file bytes old status new (not_opened fault same told) clean near =
       subst (λ (at : AtDesk). ShowsPrinted labels at.desk) (sym same) clean
-
-  files : {all : List (Option (List ℕ))} {old new : AtImage (scan_images A)} {status : ℕ}
-      (tells : TellsFiles (scan_images A) all old status new) → ShowsPrinted labels old.state.desk →
-      Near (grids_of_files tells) → ShowsPrinted labels new.state.desk
-  files no_file clean near = clean
-  files (last_file tells is_last) clean near = file tells clean near
-  files (next_file tells goes_on others) clean near =
-      files others (file tells clean (first_part _ (grids_of_file tells) (grids_of_files others) near))
-      (last_part _ (grids_of_file tells) (grids_of_files others) near)
 
   inputs : {all : List (Option (List ℕ))} {start new : Progress (scan_images A)} {status : ℕ}
       (tells : TellsInputs (scan_images A) all start status new) → ShowsPrinted labels start.state.desk →
       Near (grids_of_inputs tells) → ShowsPrinted labels new.state.desk
   inputs (of_input tells) clean near = images tells clean near
-  inputs (of_files same tells) clean near = files tells clean near
+  inputs (of_files same tells) clean near = each_file_keeps grids_of_file
+      (λ (at : AtImage (scan_images A)). ShowsPrinted labels at.state.desk) (IsNearPrinted labels) file tells clean near
 
 -- ---- the command
 

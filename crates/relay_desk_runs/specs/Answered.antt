@@ -1,14 +1,14 @@
--- What commands of a desk took in and gave out, by their contracts: the grids of a scan, the file of an import, the file
+-- What commands of a desk took in and gave out, by their contracts: the grids of a scan, the files of an import, the file
 -- of an export, and the label that `copy` wrote.
 use Rattle.std.specs.Prelude.{ℕ, Bool, List, [], ◌∷◌, ◌++◌, Option, None, Some, Result, Ok, Err, ◌≡◌, ◌<◌, IfSome, IsTrue, slice_get}
 use Rattle.dm_finder_frame.specs.Frame.{GridView}
 use Rattle.dm_size.specs.declared.size.Size.{Size}
 use Rattle.dm_encodation.specs.declared.scheme.Scheme.{Scheme}
 use Rattle.dm_pbm_io.specs.Image.{Picture}
-use Rattle.dm_assembly_desk.specs.Documents.{Documents, HoldsFiles, IsEntry, Pages, file}
+use Rattle.dm_assembly_desk.specs.Documents.{DeskView, Documents, HoldsFiles, IsEntry, Pages, file}
 use Rattle.dm_assembly_desk.specs.declared.fault.{ScanFault.ScanFault, ImportFault.ImportFault}
 use Rattle.dm_assembly_desk.specs.{declared.reply.Imported.Imported, Desk.HoldsJointFile}
-use Rattle.relay_streams.specs.Streams.{InputView, AppendsPart}
+use Rattle.relay_streams.specs.Streams.{InputView, OutputView, AppendsPart}
 use Rattle.relay_shared.specs.Command.{AnswersImages, AtImage, ImageComes, EndsImages, Progress, Said, TellsFile, TellsFiles, TellsImages, TellsInputs}
 use Rattle.relay_shared.specs.Command.ImageComes.{image, unread, too_many}
 use Rattle.relay_shared.specs.Command.AnswersImages.{none, another}
@@ -21,7 +21,7 @@ use Rattle.relay_desk_commands.specs.Desks.{EndsCopy, GivesCopy, AtDesk, EndsExp
 use Rattle.relay_desk_commands.specs.Desks.{EndsCopyOf.no_side, EndsCopyOf.of_side, EndsOnId.no_id, EndsOnId.of_id}
 use Rattle.relay_desk_commands.specs.declared.copy.CopyOptions.{CopyOptions}
 use Rattle.relay_desk_commands.specs.Desks.ScansPicture.{accepted, refused, unsettled, no_grid}
-use Rattle.relay_desk_commands.specs.Desks.{EndsAtDesk.no_desk, EndsAtDesk.opened, EndsImport.not_read, EndsImport.read}
+use Rattle.relay_desk_commands.specs.Desks.{EndsAtDesk.no_desk, EndsAtDesk.opened, EndsImport.not_read, EndsImport.read, EndsImport.read_files, ImportsFile, ImportsFile.file_not_read, ImportsFile.file_read}
 use Rattle.std.specs.{List.AllByRecursion, Result.result_ok, Io.KnownBytes.Appends}
 use Rattle.dm_symbol.specs.Correction.{IsNear}
 use Rattle.dm_append_label.specs.Labels.{Carries, PageView}
@@ -31,6 +31,14 @@ use Rattle.dm_event_history.specs.Headline.{AreOfOneDocument, ArePrinted, HaveLe
 use Rattle.dm_assembly_desk.specs.declared.fault.ScanFault.TheVariants as scans
 use Rattle.dm_assembly_desk.specs.declared.fault.ImportFault.TheVariants as imports
 use Rattle.std.specs.FinMap as finite
+
+-- what came of files, one after another
+abbrev pub of_each_file : {S X : Type 0} {Tells : Option (List ℕ) → S → ℕ → S → Type 0} {has_stopped : S → Bool}
+    (of_one : (file : Option (List ℕ)) (old : S) (status : ℕ) (new : S) → Tells file old status new → List X)
+    {files : List (Option (List ℕ))} {old new : S} {status : ℕ} → TellsFiles Tells has_stopped files old status new → List X
+of_each_file of_one no_file = []
+of_each_file of_one (last_file tells is_last) = of_one _ _ _ _ tells
+of_each_file of_one (next_file tells goes_on others) = of_one _ _ _ _ tells ++ of_each_file of_one others
 
 -- ---- a scan: the grids that were accepted, and one that may have been, since its save failed
 
@@ -66,39 +74,40 @@ abbrev pub grids_of_images : {A : Type 0} {start new : Progress (scan_images A)}
 grids_of_images (ended said answers last reads appends is) = grids_before answers ++ grids_at_end last
 grids_of_images (stopped said answers takes failed part is) = grids_before answers ++ grids_of_bytes takes.comes
 
-abbrev pub grids_of_file : {A : Type 0} {bytes : Option (List ℕ)} {old new : AtImage (scan_images A)} {status : ℕ} →
-    TellsFile (scan_images A) bytes old status new → List GridView
-grids_of_file (was_opened rest tells) = grids_of_images tells
-grids_of_file (not_opened fault same told) = []
-
-abbrev pub grids_of_files : {A : Type 0} {files : List (Option (List ℕ))} {old new : AtImage (scan_images A)}
-    {status : ℕ} → TellsFiles (scan_images A) files old status new → List GridView
-grids_of_files no_file = []
-grids_of_files (last_file tells is_last) = grids_of_file tells
-grids_of_files (next_file tells goes_on others) = grids_of_file tells ++ grids_of_files others
+abbrev pub grids_of_file : {A : Type 0} (bytes : Option (List ℕ)) (old : AtImage (scan_images A)) (status : ℕ)
+    (new : AtImage (scan_images A)) → TellsFile (scan_images A) bytes old status new → List GridView
+grids_of_file bytes old status new (was_opened rest tells) = grids_of_images tells
+grids_of_file bytes old status new (not_opened fault same told) = []
 
 abbrev pub grids_of_inputs : {A : Type 0} {files : List (Option (List ℕ))} {start new : Progress (scan_images A)}
     {status : ℕ} → TellsInputs (scan_images A) files start status new → List GridView
 grids_of_inputs (of_input tells) = grids_of_images tells
-grids_of_inputs (of_files same tells) = grids_of_files tells
+grids_of_inputs (of_files same tells) = of_each_file grids_of_file tells
 
 abbrev pub grids_scanned : {A : Type 0} {capacity : ℕ} {images : List (Option (List ℕ))} {old new : OnDesk} {status : ℕ} →
     EndsScan A capacity images old status new → List GridView
 grids_scanned (no_desk name has refuses) = []
 grids_scanned (opened desk opens rest) = grids_of_inputs rest.1
 
--- ---- an import: the file that was taken in, or may have been, since its save failed
+-- ---- an import: the files that were taken in, and one that may have been, since its save failed
 
-abbrev pub if_imported : Result Imported ImportFault → List ℕ → Option (List ℕ)
-if_imported (Ok reply) bytes = Some bytes
-if_imported (Err imports.Save) bytes = Some bytes
-if_imported (Err fault) bytes = None
+abbrev pub if_imported : Result Imported ImportFault → List ℕ → List (List ℕ)
+if_imported (Ok reply) bytes = bytes ∷ []
+if_imported (Err imports.Save) bytes = bytes ∷ []
+if_imported (Err fault) bytes = []
 
-abbrev pub file_imported : {capacity : ℕ} {old new : OnDesk} {status : ℕ} → EndsImport capacity old status new →
-    Option (List ℕ)
-file_imported (not_read fault has same told leaves) = None
-file_imported (read bytes reads (no_desk name has refuses) leaves) = None
-file_imported (read bytes reads (opened desk opens rest) leaves) = if_imported rest.1 bytes
+abbrev pub bytes_of_file : (file : Option (List ℕ)) (old : DeskView × OutputView) (status : ℕ)
+    (new : DeskView × OutputView) → ImportsFile file old status new → List (List ℕ)
+bytes_of_file file old status new (file_not_read fault told) = []
+bytes_of_file file old status new (file_read bytes reply first imports told) = if_imported reply bytes
+
+abbrev pub files_imported : {capacity : ℕ} {files : List (Option (List ℕ))} {old new : OnDesk} {status : ℕ} →
+    EndsImport capacity files old status new → List (List ℕ)
+files_imported (not_read fault has same told leaves) = []
+files_imported (read bytes reads (no_desk name has refuses) leaves) = []
+files_imported (read bytes reads (opened desk opens rest) leaves) = if_imported rest.1 bytes
+files_imported (read_files (no_desk name has refuses)) = []
+files_imported (read_files (opened desk opens rest)) = of_each_file bytes_of_file rest.1
 
 -- ---- an export, and a copy: what was given out, if anything
 
@@ -182,9 +191,9 @@ EachScanKeeps A = (labels : List Label) (capacity : ℕ) (images : List (Option 
     AllByRecursion (IsNearPrinted labels) (grids_scanned ends) → HasPrinted labels new
 
 abbrev pub EachImportKeeps : Type 0
-EachImportKeeps = (labels : List Label) (capacity : ℕ) (old : OnDesk) (status : ℕ) (new : OnDesk) → ArePrinted labels →
-    HasPrinted labels old → (ends : EndsImport capacity old status new) →
-    IfSome (file_imported ends) (IsPrintedFile labels) → HasPrinted labels new
+EachImportKeeps = (labels : List Label) (capacity : ℕ) (files : List (Option (List ℕ))) (old : OnDesk) (status : ℕ)
+    (new : OnDesk) → ArePrinted labels → HasPrinted labels old → (ends : EndsImport capacity files old status new) →
+    AllByRecursion (IsPrintedFile labels) (files_imported ends) → HasPrinted labels new
 
 abbrev pub EachForgetKeeps : Type 0
 EachForgetKeeps = (labels : List Label) (text : List ℕ) (old : OnDesk) (status : ℕ) (new : OnDesk) → ArePrinted labels →

@@ -9,7 +9,7 @@ pub fn scans<A: Allocator>()
     ensures { EachScanKeeps A }
 {}
 
-/// An import keeps it so, if the file that it took in has such pages alone.
+/// An import keeps it so, if each file that it took in has such pages alone.
 pub fn imports()
     ensures { EachImportKeeps }
 {}

@@ -39,7 +39,7 @@ saves_output (Deliver file id) = true
 saves_output (Export file id) = true
 saves_output other = false
 
--- the files of images that a line names, in turn, and the file that its output is saved as
+-- the files that a line names to be read, in turn, and the file that its output is saved as
 abbrev pub named_images : CommandLine → List (List ℕ)
 named_images line = map (λ name. name.now) line.images.items
 

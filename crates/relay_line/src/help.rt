@@ -4,8 +4,8 @@
 use crate::options::Row;
 use crate::options::rows::{
     ANY_ID, CAPACITY, COPY_SIDE, COUNT, DESK, FIRST, ID, IMAGES, LABELS, LAST, LEAST_SIDE, LEDGER,
-    LEDGERS, NUMBER, OWN_NUMBER, PAGE, PLAIN, REFUSAL, SAVED, SCHEME, SIDE, SOME_FIRST, SOME_LAST,
-    TICKET, TO,
+    LEDGERS, NUMBER, OWN_NUMBER, PAGE, PAGES, PLAIN, REFUSAL, SAVED, SCHEME, SIDE, SOME_FIRST,
+    SOME_LAST, TICKET, TO,
 };
 
 /// A command, its options, and what its help says above and below them.
@@ -291,17 +291,18 @@ Example:
     Page {
         name: "import",
         about: "Takes in the pages that another desk has exported",
-        usage: "relay import --file DESK [--capacity N] < PAGES",
-        rows: &[DESK, CAPACITY],
+        usage: "relay import --file DESK [--capacity N] [FILES ..] < PAGES",
+        rows: &[DESK, CAPACITY, PAGES],
         more: "\
 Prints `IIII n added MASK KIND`: the ID, how many pages the document has, which
 of them were added (bit m - 1 for page m, in hexadecimal), and whether the
 document is `complete` now, or `new` pages were added, or all were held already
-(`again`). All are saved at once. A refusal goes to standard
-output. `relay scan --help` says more of --capacity.
+(`again`). All are saved at once. A refusal goes to standard output. Files that
+are named are taken in one after another, with a line for each, but none after
+`refused Save`. `relay scan --help` says more of --capacity.
 
 Example:
-  relay import --file other-desk < 0101.pages",
+  relay import --file other-desk 0101.pages",
     },
     Page {
         name: "held",

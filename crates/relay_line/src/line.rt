@@ -9,7 +9,7 @@ use relay_command::Command;
 #[derive(Drop)]
 pub struct CommandLine<'a> {
     pub command: Command<'a>,
-    /// Those that `read` or `scan` takes images from, in turn, or none where it takes them from its input.
+    /// Those that `read` or `scan` takes images from, `audit` ledgers or `import` pages, in turn.
     pub images: Vec<&'a str>,
     /// The one that `deliver` or `export` saves its output as, if it is not the standard output.
     pub saved_as: Option<&'a str>,

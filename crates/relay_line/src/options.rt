@@ -68,6 +68,7 @@ pub mod rows {
     pub const PAGE: Row = Row("page", "M", Required, Number(1, 16), "the page, from 1 to 16");
     pub const SAVED: Row = Row("to", "FILE", Optional, NotEmpty, SAVED_HELP);
     pub const IMAGES: Row = Row("images", "IMAGES", Words, Text, IMAGES_HELP);
+    pub const PAGES: Row = Row("images", "FILES", Words, Text, "files of pages, in turn; `-` is the standard input");
     pub const REFUSAL: Row = Row("name", "NAME", Word, Text, "the name of a refusal; without one, prints all names");
 }
 

@@ -1,4 +1,4 @@
-//! Files of images that were named on the line.
+//! Files that were named on the line, of images or for `audit` and `import`.
 
 ghost use Rattle.std.specs.Prelude.{None};
 
@@ -54,9 +54,9 @@ impl ImageFile for NamedImages<'_> {
         }
     }
 
-    fn end(&self, reader: Self::Reader, refused: bool) {
-        if refused {
-            note(self.rt, self.name.as_str(), "has images that are refused");
+    fn end(&self, reader: Self::Reader, refused: Option<&str>) {
+        if let Some(why) = refused {
+            note(self.rt, self.name.as_str(), why);
         } else if reader.is_empty() {
             note(self.rt, self.name.as_str(), NO_IMAGE);
         }

@@ -106,7 +106,7 @@ module _ (A : Type 0) (labels : List Label) (printed : ArePrinted labels) (one :
 
   effect : (command : Command) (does : Does A command images before status after) →
       AllByRecursion (IsNearPrinted labels) (passed_by A command images before status after does).scanned →
-      IfSome (passed_by A command images before status after does).imported (IsPrintedFile labels) →
+      AllByRecursion (IsPrintedFile labels) (passed_by A command images before status after does).imported →
       Clean labels command before status after (passed_by A command images before status after does)
   effect (Scan file capacity) does near sent = record {
     set = (each_scan_keeps A labels capacity images before status after printed clean does near).set;
@@ -115,7 +115,7 @@ module _ (A : Type 0) (labels : List Label) (printed : ArePrinted labels) (one :
     delivered = tt;
   }
   effect (Import file capacity) does near sent = record {
-    set = (each_import_keeps labels capacity before status after printed clean does.0 sent).set;
+    set = (each_import_keeps labels capacity images before status after printed clean does.0 sent).set;
     exported = tt;
     copied = tt;
     delivered = tt;
@@ -179,7 +179,7 @@ clean_at : (A : Type 0) (labels : List Label) (printed : ArePrinted labels) (one
     (ends : Halts A command images before after)
     (clean : HasPrinted labels before) →
     AllByRecursion (IsNearPrinted labels) (passed_at ends).scanned →
-    IfSome (passed_at ends).imported (IsPrintedFile labels) →
+    AllByRecursion (IsPrintedFile labels) (passed_at ends).imported →
     Clean labels command before (status_at ends) after (passed_at ends)
 clean_at A labels printed one command {images} before after (exited status does) clean near sent =
     effect A labels printed one images before after status clean command does near sent
@@ -256,7 +256,7 @@ module _ (A : Type 0) (IsAmong : List ℕ → Type 0) where
             joint = no_documents c.stands.relay ran.before.files.joint _ (holds A ranges earlier site c.stands ran place found);
           })
           (all_so _ _ (passed ran).scanned near (takes.scans among))
-          (if_so _ _ (passed ran).imported c.exported (takes.imports among))
+          (all_so _ _ (passed ran).imported c.exported (takes.imports among))
 
       -- ---- what is delivered
 

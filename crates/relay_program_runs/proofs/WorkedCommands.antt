@@ -1,6 +1,6 @@
 -- The premises of the laws, of the commands of the worked list.
-use Rattle.std.proofs.Common.{◌≡◌, ◌≤◌, ◌<◌, ◌++◌, inl, inr, ℕ, List, [], ◌∷◌, None, Option, Some, length, slice_get, refl, sym, ap, subst, ◌∙◌, arith}
-use Rattle.std.specs.Prelude.{AllPairs, IfSome, IsSomeAnd, IsTrue, codes, is_some, true}
+use Rattle.std.proofs.Common.{◌≡◌, ◌≤◌, ◌<◌, ◌++◌, inl, inr, ℕ, List, [], ◌∷◌, Option, Some, length, slice_get, refl, sym, ap, subst, ◌∙◌, arith}
+use Rattle.std.specs.Prelude.{AllPairs, IsSomeAnd, IsTrue, codes, is_some, true}
 use Rattle.std.specs.{Borrow.Bor, List.AllByRecursion}
 use Rattle.dm_gf256.proofs.OneBlockWord.{differ-self}
 use Rattle.dm_check_blocks.specs.Blocks.{block_of}
@@ -34,11 +34,11 @@ near_one IsAmong earlier {one} {grid} number at out = (grid, near_itself grid, (
 
 -- it took in no grid, and no file
 takes_none : {A : Type 0} {IsAmong : List ℕ → Type 0} {earlier : List (Ran A)} {ran : Ran A} → (passed ran).scanned ≡ [] →
-    (passed ran).imported ≡ None → TakesPrinted IsAmong earlier ran
+    (passed ran).imported ≡ [] → TakesPrinted IsAmong earlier ran
 takes_none {A} {IsAmong} {earlier} no_grid no_file = record {
   scans = λ among. subst (AllByRecursion (λ grid. (own : GridView) × IsNear grid own
       × SomeRan {A = A} (LetsOut IsAmong own) earlier)) (sym no_grid) tt;
-  imports = λ among. subst (λ (o : Option (List ℕ)). IfSome o (λ bytes. SomeRan {A = A}
+  imports = λ among. subst (AllByRecursion (λ bytes. SomeRan {A = A}
       (λ other. ((passed other).exported ≡ Some bytes) × IsAmong (path_of other.command)) earlier)) (sym no_file) tt;
 }
 
@@ -114,8 +114,8 @@ module _ {A : Type 0} {f1 f2 f3 f4 f5 f6 f7 f8 f9 f10 f11 f12 f13 f14 t i9 i10 i
       (scanned_so A (λ g. g ≡ copied.0) 10 (given no_files o11) 0 r12.after r12.does (copied.0 ∷ []) (copied.2, tt)
       (ap Some copied.3))
 
-  imports : IfSome (passed (ran r13)).imported (λ bytes. SomeRan
-      (λ other. ((passed other).exported ≡ Some bytes) × IsTrue true) (before_copy ++ ran r12 ∷ []))
+  imports : AllByRecursion (λ bytes. SomeRan (λ other. ((passed other).exported ≡ Some bytes) × IsTrue true)
+      (before_copy ++ ran r12 ∷ [])) (passed (ran r13)).imported
   imports = import_of_all _ 10 (given e1 o10) 0 r13.after o10 refl short r13.does.0
       (9, ran r10, refl, (export_done r10, refl))
 

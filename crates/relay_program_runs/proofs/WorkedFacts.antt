@@ -37,7 +37,7 @@ use Rattle.relay_desk_commands.specs.Desks.EndsCopyOf.{no_side as no_size, of_si
 use Rattle.relay_desk_commands.specs.Desks.EndsImport.{not_read, read}
 use Rattle.relay_runs.proofs.{Files.opened as open_as, TicketTexts.text_once}
 use Rattle.relay_runs.specs.Runs.{job_ended, ticket_given, ticket_taken, KeepsLedger}
-use Rattle.relay_desk_runs.specs.Answered.{file_exported, file_imported, if_imported, label_copied}
+use Rattle.relay_desk_runs.specs.Answered.{file_exported, files_imported, if_imported, label_copied}
 use Rattle.relay_program_runs.specs.{Law.passed, Passed.Made, Passed.made_where}
 use Rattle.relay_program_runs.specs.Worked.{IsDone, two_files, given, no_files, streams_of_input}
 use Rattle.relay_program_runs.proofs.{Images.Is12, Steps.PrintsId, Steps.ran}
@@ -315,7 +315,7 @@ copy_done {A} {i = i} {page} {x} {input = input} {o} r = by_ends r.after r.outpu
 
 pub import_of_all : (P : List ℕ → Type 0) (capacity : ℕ) (old : OnDesk) (status : ℕ) (new : OnDesk) (input : List ℕ) →
     old.streams.input.remaining ≡ Some input → length input ≤ 1000 →
-    (ends : EndsImport capacity old status new) → P input → IfSome (file_imported ends) P
+    (ends : EndsImport capacity [] old status new) → P input → AllByRecursion P (files_imported ends)
 import_of_all P capacity old status new input known short (not_read fault has same told leaves) so = tt
 import_of_all P capacity old status new input known short (read bytes reads (no_desk name has refuses) leaves) so = tt
 import_of_all P capacity old status new input known short (read bytes reads (opened desk opens rest) leaves) so =
@@ -328,7 +328,7 @@ import_of_all P capacity old status new input known short (read bytes reads (ope
     whole : bytes ≡ input
     whole = first old.streams.input.remaining known reads.taken.first ∙ take_all IMPORT_BYTES input (omega (arith, short))
 
-    by_answer : (answer : Result Imported ImportFault) → P bytes → IfSome (if_imported answer bytes) P
-    by_answer (Ok reply) is = is
-    by_answer (Err import_fault.Save) is = is
+    by_answer : (answer : Result Imported ImportFault) → P bytes → AllByRecursion P (if_imported answer bytes)
+    by_answer (Ok reply) is = (is, tt)
+    by_answer (Err import_fault.Save) is = (is, tt)
     by_answer (Err fault) is = tt

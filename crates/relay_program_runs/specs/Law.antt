@@ -118,8 +118,8 @@ LetsOut IsAmong grid ran = IsSomeAnd (passed ran).printed (λ job. (i : ℕ) × 
 pub record TakesPrinted {A : Type 0} (IsAmong : List ℕ → Type 0) (earlier : List (Ran A)) (ran : Ran A) : Type 0 where
   pub scans : IsAmong (path_of ran.command) → AllByRecursion (λ grid. (own : GridView) × IsNear grid own
       × SomeRan (LetsOut IsAmong own) earlier) (passed ran).scanned
-  pub imports : IsAmong (path_of ran.command) → IfSome (passed ran).imported (λ bytes.
-      SomeRan (λ other. ((passed other).exported ≡ Some bytes) × IsAmong (path_of other.command)) earlier)
+  pub imports : IsAmong (path_of ran.command) → AllByRecursion (λ bytes.
+      SomeRan (λ other. ((passed other).exported ≡ Some bytes) × IsAmong (path_of other.command)) earlier) (passed ran).imported
 
 -- ---- conclusions
 

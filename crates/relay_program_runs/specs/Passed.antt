@@ -6,7 +6,7 @@ use Rattle.relay_command.specs.declared.command.Command.{Command}
 use Rattle.relay_command.specs.declared.command.Command.TheVariants.{Copy, Deliver, Export, Give, GiveLast, Import, Ledger, Print, Scan, Take}
 use Rattle.relay_desk_commands.specs.Desks.{OnDesk}
 use Rattle.relay_runs.specs.Runs.{job_ended, ticket_given, ticket_given_last, ticket_taken}
-use Rattle.relay_desk_runs.specs.Answered.{file_exported, file_imported, grids_scanned, label_copied}
+use Rattle.relay_desk_runs.specs.Answered.{file_exported, files_imported, grids_scanned, label_copied}
 use Rattle.relay.specs.Program.{Does}
 
 -- the text of the ID that `deliver` is to give
@@ -18,7 +18,7 @@ text_of other = None
 
 -- the job of a print, by which its ID is used whatever is written of it; the ticket of a give; the label that
 -- `copy` wrote; the file of an export. And what was taken in, or may have been, since its save failed: a ticket, the
--- grids of a scan, the file of an import.
+-- grids of a scan, the files of an import.
 pub record Passed : Type 0 where
   pub printed : Option JobView
   pub given : Option TicketView
@@ -26,11 +26,11 @@ pub record Passed : Type 0 where
   pub exported : Option (List ℕ)
   pub taken : Option TicketView
   pub scanned : List GridView
-  pub imported : Option (List ℕ)
+  pub imported : List (List ℕ)
 
 abbrev pub nothing : Passed
 nothing =
-    record { printed = None; given = None; copied = None; exported = None; taken = None; scanned = []; imported = None }
+    record { printed = None; given = None; copied = None; exported = None; taken = None; scanned = []; imported = [] }
 
 -- by the clause of the command
 abbrev pub passed_by : (A : Type 0) (command : Command) (images : List (Option (List ℕ))) (before : OnDesk) (status : ℕ)
@@ -41,7 +41,7 @@ passed_by A (GiveLast file number to count) images before status after does = re
 passed_by A (Take file number ticket) images before status after does = record nothing { taken = ticket_taken does.0 }
 passed_by A (Scan file capacity) images before status after does = record nothing { scanned = grids_scanned does }
 passed_by A (Export file id) images before status after does = record nothing { exported = file_exported does }
-passed_by A (Import file capacity) images before status after does = record nothing { imported = file_imported does.0 }
+passed_by A (Import file capacity) images before status after does = record nothing { imported = files_imported does.0 }
 passed_by A (Copy file id page side scheme) images before status after does = record nothing { copied = label_copied does }
 passed_by A other images before status after does = nothing
 

@@ -96,7 +96,7 @@ pub record EndWell (statuses : List ℕ) (status : ℕ) (some file one other : L
 pub record RefusalsCountNot : Type 0 where
   pub ticket : (fault : TakeFault) → fault ≢ takes.Save → (ticket : TicketView) → if_taken (Err fault) ticket ≡ None
   pub grid : (fault : ScanFault) → fault ≢ scans.Save → (grid : GridView) → if_saved fault grid ≡ []
-  pub file : (fault : ImportFault) → fault ≢ imports.Save → (file : List ℕ) → if_imported (Err fault) file ≡ None
+  pub file : (fault : ImportFault) → fault ≢ imports.Save → (file : List ℕ) → if_imported (Err fault) file ≡ []
   pub there : (old : List ℕ) (after : Option (List ℕ)) (ledger : Made) → made_where (Some old) after ledger ≡ []
   pub absent : (before : Option (List ℕ)) (ledger : Made) → made_where before None ledger ≡ []
 
@@ -111,7 +111,7 @@ pub record SayAtLeast (A : Type 0) : Type 0 where
       (passed ran).printed ≡ Some job → slice_get job.labels i ≡ Some grid → LetsOut (λ path. IsTrue (among path)) grid ran
   pub near : (among : List ℕ → Bool) (earlier : List (Ran A)) (ran : Ran A) (own grid : GridView) → IsNear grid own →
       SomeRan (LetsOut (λ path. IsTrue (among path)) own) earlier → (passed ran).scanned ≡ grid ∷ [] →
-      (passed ran).imported ≡ None → TakesPrinted (λ path. IsTrue (among path)) earlier ran
+      (passed ran).imported ≡ [] → TakesPrinted (λ path. IsTrue (among path)) earlier ran
   pub first : (earlier : List (Ran A)) (ran : Ran A) (job : JobView) → IsFirstOfItsId earlier ran →
       (passed ran).printed ≡ Some job → ¬ SomeRan (λ other. IsSomeAnd (passed other).printed (λ its. its.id ≡ job.id)) earlier
   pub read : (id : ℕ) (document : List ℕ) (ran : Ran A) → PrintsUnder id document ran →
@@ -157,7 +157,7 @@ NeedsFiles A = Breaks A (λ site. Each FindsOld []) AreApart TakesGiven IsFirstO
 
 -- a label is taken in that no print or copy of the list let out, and no file
 abbrev pub NeedsLabels : Type 0 → Type 0
-NeedsLabels A = Breaks A RunInTurn AreApart (λ earlier ran. TakesGiven earlier ran × ((passed ran).imported ≡ None))
+NeedsLabels A = Breaks A RunInTurn AreApart (λ earlier ran. TakesGiven earlier ran × ((passed ran).imported ≡ []))
     (DeliversPrinted (λ path. IsTrue true))
 
 -- a file is taken in that no export of the list gave, and no label

@@ -1,9 +1,9 @@
--- From one file of images to all of them.
-use Rattle.std.specs.Prelude.{◌≡◌, ◌≢◌, ◌<◌, ◌≤◌, ◌+◌, ℕ, List, [], ◌∷◌, Option, false, true, drop, get_or, length, map, max}
+-- From one file to all of them.
+use Rattle.std.specs.Prelude.{◌≡◌, ◌≢◌, ◌<◌, ◌≤◌, ◌+◌, ℕ, List, [], ◌∷◌, Option, Bool, false, true, drop, get_or, length, map, max}
 use Rattle.std.proofs.Common.{◌∙◌, ap, arith, refl, subst, sym}
 use Rattle.std.proofs.{lemmas.List.drop_all, lemmas.List.drop_more, Math.Nat.max-zero}
 use Rattle.relay_streams.specs.Streams.{InputView, OutputView}
-use Rattle.relay_shared.specs.Command.{AtImage, ImageCommand, Progress, TellsFile, TellsFiles, TellsImages, TellsInputs, at_image, has_stopped, progress_at}
+use Rattle.relay_shared.specs.Command.{ImageCommand, Progress, TellsFile, TellsFiles, TellsImages, TellsInputs, at_image, has_stopped, progress_at}
 use Rattle.relay_shared.specs.Command.{TellsFile.opened, TellsFiles.last_file, TellsFiles.next_file, TellsFiles.no_file}
 use Rattle.relay_shared.specs.Command.TellsInputs.{of_files}
 
@@ -27,33 +27,36 @@ drop_next files done file within is =
 max_again : (a b c : ℕ) → max (max a b) c ≡ max a (max b c)
 max_again a b c = grind arith
 
-module _ (c : ImageCommand) {F : Type 0} (bytes : F → Option (List ℕ)) (files : List F) (start : AtImage c) where
-  -- After this many files, with this status, whatever the others come to, so do all.
-  abbrev pub Before : ℕ → ℕ → AtImage c → Type 0
-  Before done status now = (others : ℕ) (new : AtImage c) → TellsFiles c (map bytes (drop done files)) now others new →
-      TellsFiles c (map bytes files) start (max status others) new
+module _ {S : Type 0} (Tells : Option (List ℕ) → S → ℕ → S → Type 0) (has_stopped : S → Bool) {F : Type 0}
+    (bytes : F → Option (List ℕ)) (files : List F) (start : S) where
+  abbrev All : List F → S → ℕ → S → Type 0
+  All some now others new = TellsFiles Tells has_stopped (map bytes some) now others new
 
-  module _ (done status one : ℕ) (file : F) (now after : AtImage c) (within : done < length files) (is : file ≡ get_or files done file)
-      (so_far : Before done status now) (tells : TellsFile c (bytes file) now one after) where
+  -- After this many files, with this status, whatever the others come to, so do all.
+  abbrev pub Before : ℕ → ℕ → S → Type 0
+  Before done status now = (others : ℕ) (new : S) → All (drop done files) now others new →
+      All files start (max status others) new
+
+  module _ (done status one : ℕ) (file : F) (now after : S) (within : done < length files) (is : file ≡ get_or files done file)
+      (so_far : Before done status now) (tells : Tells (bytes file) now one after) where
     -- one file more
-    pub one_more_file : has_stopped c after ≡ false → Before (done + 1) (max status one) after
+    pub one_more_file : has_stopped after ≡ false → Before (done + 1) (max status one) after
     one_more_file goes_on others new rest = rw (max_again status one others)
         (so_far (max one others) new (rw (drop_next files done file within is) (next_file tells goes_on rest)))
 
     -- nothing is read after that one
-    pub at_last_file : has_stopped c after ≡ true → TellsFiles c (map bytes files) start (max status one) after
+    pub at_last_file : has_stopped after ≡ true → All files start (max status one) after
     at_last_file stopped = so_far one after (rw (drop_next files done file within is) (last_file tells stopped))
 
   -- there is no other
-  pub at_no_file : (done status : ℕ) (now : AtImage c) → length files ≤ done → Before done status now →
-      TellsFiles c (map bytes files) start status now
-  at_no_file done status now all so_far = subst (λ (s : ℕ). TellsFiles c (map bytes files) start s now) (max-zero status)
+  pub at_no_file : (done status : ℕ) (now : S) → length files ≤ done → Before done status now → All files start status now
+  at_no_file done status now all so_far = subst (λ (s : ℕ). All files start s now) (max-zero status)
       (so_far 0 now (rw (drop_all done files all) no_file))
 
 -- and nothing of the input is read
 pub over_files : (c : ImageCommand) {F : Type 0} (bytes : F → Option (List ℕ)) (files : List F) (now : c.State)
     (input : InputView) (output : OutputView) (status : ℕ) (new : c.State) (after : OutputView) → files ≢ [] →
-    TellsFiles c (map bytes files) (at_image now output) status (at_image new after) →
+    TellsFiles (TellsFile c) (has_stopped c) (map bytes files) (at_image now output) status (at_image new after) →
     TellsInputs c (map bytes files) (progress_at now input output) status (progress_at new input after)
 over_files c bytes [] now input output status new after some tells = absurd (some refl)
 over_files c bytes (file ∷ later) now input output status new after some tells = of_files refl tells

@@ -234,19 +234,19 @@ pub data TellsFile (c : ImageCommand) (bytes : Option (List ℕ)) (old : AtImage
   not_opened : (fault : InputFault) → new.state ≡ old.state
       → TellsRefusal (input_fault_name fault) old.output status new.output → TellsFile c bytes old status new
 
--- nothing is read after that
+-- the output has failed or the command has ended, so that nothing is read any more
 abbrev pub has_stopped : (c : ImageCommand) → AtImage c → Bool
 has_stopped c at = at.output.has_failed || c.has_ended at.state
 
--- How a command ends over files of images: it goes over one after another, until the output has failed or the command
--- has ended. The status is the greatest.
-pub data TellsFiles (c : ImageCommand) : List (Option (List ℕ)) → AtImage c → ℕ → AtImage c → Type 0 where
-  no_file : {now : AtImage c} → TellsFiles c [] now 0 now
-  last_file : {file : Option (List ℕ)} {later : List (Option (List ℕ))} {old new : AtImage c} {status : ℕ}
-      → TellsFile c file old status new → has_stopped c new ≡ true → TellsFiles c (file ∷ later) old status new
-  next_file : {file : Option (List ℕ)} {later : List (Option (List ℕ))} {old now new : AtImage c} {status others : ℕ}
-      → TellsFile c file old status now → has_stopped c now ≡ false → TellsFiles c later now others new
-      → TellsFiles c (file ∷ later) old (max status others) new
+-- so over files, one after another, until it has stopped; the status is the greatest
+pub data TellsFiles {S : Type 0} (Tells : Option (List ℕ) → S → ℕ → S → Type 0) (has_stopped : S → Bool)
+    : List (Option (List ℕ)) → S → ℕ → S → Type 0 where
+  no_file : {now : S} → TellsFiles Tells has_stopped [] now 0 now
+  last_file : {file : Option (List ℕ)} {later : List (Option (List ℕ))} {old new : S} {status : ℕ}
+      → Tells file old status new → has_stopped new ≡ true → TellsFiles Tells has_stopped (file ∷ later) old status new
+  next_file : {file : Option (List ℕ)} {later : List (Option (List ℕ))} {old now new : S} {status others : ℕ}
+      → Tells file old status now → has_stopped now ≡ false → TellsFiles Tells has_stopped later now others new
+      → TellsFiles Tells has_stopped (file ∷ later) old (max status others) new
 
 -- How a command over images ends: over the files that it is given, and it reads nothing else; or over its input, if it is
 -- given none.
@@ -254,7 +254,8 @@ pub data TellsInputs (c : ImageCommand) : List (Option (List ℕ)) → Progress 
   of_input : {start new : Progress c} {status : ℕ} → TellsImages c start status new → TellsInputs c [] start status new
   of_files : {file : Option (List ℕ)} {later : List (Option (List ℕ))} {start new : Progress c} {status : ℕ}
       → new.input ≡ start.input
-      → TellsFiles c (file ∷ later) (at_image start.state start.output) status (at_image new.state new.output)
+      → TellsFiles (TellsFile c) (has_stopped c) (file ∷ later) (at_image start.state start.output) status
+      (at_image new.state new.output)
       → TellsInputs c (file ∷ later) start status new
 
 -- ---- changes after which an image would be read

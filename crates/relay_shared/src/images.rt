@@ -156,7 +156,7 @@ fn each_image<A: Allocator + Copy, C: OnImages<A>, R: Read, W: Write, E: Write>(
     refuse(output, Refusal::TooMany.name())
 }
 
-/// A file of images that a command is given by its name, and that is opened when its turn comes.
+/// A file that a command is given by its name, and that is opened when its turn comes.
 pub trait ImageFile {
     type Reader: Read + Drop;
 
@@ -170,9 +170,9 @@ pub trait ImageFile {
     fn open(&self) -> Result<Self::Reader, InputFault>
         ensures { IfOk result (λ reader. Self.Reader.remaining reader ≡ remaining self.now) };
 
-    /// Called after the last line of a file that was opened, with its reader, and whether any of its lines names a
-    /// refusal and the output took them all.
-    fn end(&self, reader: Self::Reader, refused: bool);
+    /// Called after the last line of a file that was opened, with its reader, and what is to be noted of it where a
+    /// line names a refusal and the output took them all.
+    fn end(&self, reader: Self::Reader, refused: Option<&str>);
 }
 
 impl<'a> ImageFile for &'a [u8] {
@@ -184,7 +184,7 @@ impl<'a> ImageFile for &'a [u8] {
         Ok(*self)
     }
 
-    fn end(&self, _reader: &'a [u8], _refused: bool) {}
+    fn end(&self, _reader: &'a [u8], _refused: Option<&str>) {}
 }
 
 // Answers to each image of a file.
@@ -206,12 +206,14 @@ fn each_of_file<A: Allocator + Copy, C: OnImages<A>, F: ImageFile, W: Write, E: 
     };
     let mut input = Input::new(reader);
     let status = each_image(alloc, command, &mut input, output, errors);
-    file.end(input.into_reader(), status != 0 && !output.has_failed());
+    let is_noted = status != 0 && !output.has_failed();
+    let refused = is_noted.then_some("has images that are refused");
+    file.end(input.into_reader(), refused);
     status
 }
 
-// The greater of two exit statuses.
-fn greater(one: u8, other: u8) -> u8
+/// The greater of two exit statuses.
+pub fn greater(one: u8, other: u8) -> u8
     ensures { result ≡ max one other }
 {
     if one < other { other } else { one }
@@ -237,7 +239,7 @@ fn each_file<A: Allocator + Copy, C: OnImages<A>, F: ImageFile, W: Write, E: Wri
     errors: &mut Output<E>,
 ) -> u8
     requires { C.command.has_ended (C.state command.old errors.old) ≡ false }
-    ensures told { TellsFiles C.command (map F.remaining files.now)
+    ensures told { TellsFiles (TellsFile C.command) (has_stopped C.command) (map F.remaining files.now)
         (at_image (C.state command.old errors.old) output.old) result
         (at_image (C.state command.new errors.new) output.new) }
     ensures kept { C.keeps command.old errors.old command.new errors.new }

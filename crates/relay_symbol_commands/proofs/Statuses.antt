@@ -2,7 +2,7 @@
 use Rattle.std.specs.Prelude.{◌≡◌, ◌⊎◌, ℕ, ◌||◌, if◌then◌else◌, Bool, false, true, List, Option, max}
 use Rattle.std.proofs.Common.{arith, inl, inr, refl}
 use Rattle.relay_streams.specs.Streams.{OutputView, input_fault_name}
-use Rattle.relay_shared.specs.Command.{TellsRefusal, AtImage, ImageCommand, Progress, TellsFile, TellsFiles, TellsImages, TellsInputs}
+use Rattle.relay_shared.specs.Command.{TellsRefusal, AtImage, ImageCommand, Progress, TellsFile, TellsFiles, TellsImages, TellsInputs, has_stopped}
 use Rattle.relay_shared.specs.Command.{TellsImages.ended, TellsImages.stopped, TellsFile.not_opened, TellsFile.opened}
 use Rattle.relay_shared.specs.Command.TellsFiles.{last_file, next_file, no_file}
 use Rattle.relay_shared.specs.Command.TellsInputs.{of_input, of_files as of_named}
@@ -36,8 +36,8 @@ module _ (c : ImageCommand) where
   of_file {old = old} {new = new} {status = status} (not_opened fault same told) =
       refused_status (input_fault_name fault) old.output new.output status told
 
-  of_files : {files : List (Option (List ℕ))} {old new : AtImage c} {status : ℕ} → TellsFiles c files old status new →
-      IsStatus status
+  of_files : {files : List (Option (List ℕ))} {old new : AtImage c} {status : ℕ} →
+      TellsFiles (TellsFile c) (has_stopped c) files old status new → IsStatus status
   of_files no_file = inl refl
   of_files (last_file tells is_last) = of_file tells
   of_files (next_file {status = one} {others = others} tells goes_on later) =

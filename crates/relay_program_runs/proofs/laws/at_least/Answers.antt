@@ -19,11 +19,11 @@ some_so {X} P o x is so = subst (λ (p : Option X). IsSomeAnd p P) (sym is) so
 
 takes_near : (A : Type 0) (IsAmong : List ℕ → Type 0) (earlier : List (Ran A)) (ran : Ran A) (own grid : GridView) →
     IsNear grid own → SomeRan (LetsOut IsAmong own) earlier → (passed ran).scanned ≡ grid ∷ [] →
-    (passed ran).imported ≡ None → TakesPrinted IsAmong earlier ran
+    (passed ran).imported ≡ [] → TakesPrinted IsAmong earlier ran
 takes_near A IsAmong earlier ran own grid near out scanned no_file = record {
   scans = λ among. subst (AllByRecursion (λ grid. (own : GridView) × IsNear grid own
       × SomeRan {A = A} (LetsOut IsAmong own) earlier)) (sym scanned) ((own, near, out), tt);
-  imports = λ among. subst (λ (o : Option (List ℕ)). IfSome o (λ bytes. SomeRan {A = A}
+  imports = λ among. subst (AllByRecursion (λ bytes. SomeRan {A = A}
       (λ other. ((passed other).exported ≡ Some bytes) × IsAmong (path_of other.command)) earlier)) (sym no_file) tt;
 }
 
