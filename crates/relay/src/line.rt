@@ -12,7 +12,7 @@ use dm_store::{MemSet, MemStore, StoreFault};
 use relay_command::Command;
 use relay_line::{CommandLine, LineFault, command_line};
 use relay_places::{Places, note_of_input};
-use relay_shared::ImageFile;
+use relay_shared::NamedFile;
 use std::alloc::{AllocError, Global};
 use std::convert::AsStr;
 use std::io::{Read, Write};
@@ -110,7 +110,7 @@ impl<I: Read + Drop, O: Write + Drop, E: Write + Drop> StandardStreams<I, O, E> 
 #[rattlefmt::skip] // a pattern a line
 impl<I: Read + Drop, O: Write + Drop, E: Write + Drop, P: Places> System<I, O, E, P> {
     // Does a command that writes to the output, unless memory is refused for the paths that it names.
-    fn do_here<F: ImageFile>(self, alloc: Global, images: &[F], command: Command) -> (Result<u8, AllocError>, Self)
+    fn do_here<F: NamedFile>(self, alloc: Global, images: &[F], command: Command) -> (Result<u8, AllocError>, Self)
         ensures { OrNothing (DoesAt Global command.entry (map F.remaining images.now))
             (IsSome (named_path command.entry)) (system_at self.standard (P.state self.places)) result.0
             (system_at result.1.standard (P.state result.1.places)) }

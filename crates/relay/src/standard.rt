@@ -12,7 +12,7 @@ use crate::named::refuses_on_errors;
 use dm_store::{Store, StoreSet};
 use relay_command::Command;
 use relay_places::Watched;
-use relay_shared::{EndedDesk, ImageFile, Streams, refuse};
+use relay_shared::{EndedDesk, NamedFile, Streams, refuse};
 use relay_streams::{Output, put_to};
 use std::alloc::Allocator;
 use std::io::{Read, Write};
@@ -116,7 +116,7 @@ pub(crate) struct Done<S: Store, T: StoreSet, I: Read, O: Write, E: Write> {
 #[inline(never)]
 #[rattlefmt::skip] // a pattern a line
 pub(crate) fn do_between<
-    A: Allocator + Copy, S: Store, T: StoreSet, F: ImageFile, I: Read + Drop, O: Write + Drop, E: Write + Drop,
+    A: Allocator + Copy, S: Store, T: StoreSet, F: NamedFile, I: Read + Drop, O: Write + Drop, E: Write + Drop,
 >(
     alloc: A, store: S, set: T, images: &[F], standard: StandardStreams<I, O, E>, command: Command,
 ) -> Done<S, T, I, O, E>

@@ -9,7 +9,7 @@ ghost use Rattle.relay_desk_commands.specs.Desks.{EndsImport, ImportsFile, desk_
 use crate::desk_opening::{OpenDesk, open_desk};
 use dm_assembly_desk::{Desk, ImportFault, Imported};
 use dm_store::{Store, StoreSet};
-use relay_shared::{EndedDesk, ImageFile, Streams, greater, put_imported, refuse, status_after};
+use relay_shared::{EndedDesk, NamedFile, Streams, greater, put_imported, refuse, status_after};
 use relay_streams::{Input, Output};
 use std::alloc::Allocator;
 use std::io::{Read, Write};
@@ -30,7 +30,7 @@ fn tell<W: Write>(output: &mut Output<W>, answer: Result<Imported, ImportFault>)
 
 // Takes in a file, and writes the line of the answer.
 #[rattlefmt::skip] // a signature a line
-fn import_file<A: Allocator + Copy, T: StoreSet, F: ImageFile, W: Write>(
+fn import_file<A: Allocator + Copy, T: StoreSet, F: NamedFile, W: Write>(
     alloc: A, desk: &mut Desk<T, A>, file: &F, output: &mut Output<W>,
 ) -> u8
     requires { desk.old.is_failed ≡ false }
@@ -56,7 +56,7 @@ fn import_file<A: Allocator + Copy, T: StoreSet, F: ImageFile, W: Write>(
 /// or the line `refused NAME`. The input is read before the desk is opened, and files are read after that. A refused
 /// file doesn't end the command; a save that failed does.
 #[rattlefmt::skip] // a signature a line
-pub fn import_command<A: Allocator + Copy, S: Store, T: StoreSet, F: ImageFile, R: Read, W: Write, E: Write>(
+pub fn import_command<A: Allocator + Copy, S: Store, T: StoreSet, F: NamedFile, R: Read, W: Write, E: Write>(
     alloc: A, store: S, set: T, files: &[F], streams: &mut Streams<R, W, E>, capacity: u16,
 ) -> EndedDesk<S, T>
     ensures part { TakesPart streams.old.input.remaining streams.new.input.remaining IMPORT_BYTES }

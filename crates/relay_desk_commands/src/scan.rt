@@ -16,7 +16,7 @@ use dm_finder_frame::Grid;
 use dm_pbm_io::{Image, ShapeFault, grid_of};
 use dm_store::{Store, StoreFault, StoreSet};
 use relay_shared::{
-    Answered, DONE, EndedDesk, ImageFile, OnImages, REFUSED, Streams, each_input, note_ending,
+    Answered, DONE, EndedDesk, NamedFile, OnImages, REFUSED, Streams, each_input, note_ending,
     put_accepted, put_image_note,
 };
 use relay_streams::{Output, WriteFault};
@@ -171,7 +171,7 @@ pub fn scan_command<
     A: Allocator + Copy,
     S: Store,
     T: StoreSet,
-    F: ImageFile,
+    F: NamedFile,
     R: Read,
     W: Write,
     E: Write,

@@ -12,10 +12,10 @@
 mod lock;
 mod locked;
 mod mem_places;
-mod named_images;
 mod notes;
 mod place;
 mod places;
+mod real_file;
 mod real_places;
 mod saved_output;
 mod system_disk;

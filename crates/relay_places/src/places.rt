@@ -5,7 +5,7 @@ ghost use Rattle.relay_places.specs.Places.{PlacesView, KeepsOthers, SavesNew, f
 
 use crate::place::Named;
 use dm_store::{Store, StoreFault, StoreSet};
-use relay_shared::ImageFile;
+use relay_shared::NamedFile;
 use std::alloc::AllocError;
 
 /// What is at the paths of a system: at each a ledger or a desk; and files of images.
@@ -17,7 +17,7 @@ pub trait Places: Drop {
     type Folder: StoreSet;
 
     /// A file of images.
-    type Images: ImageFile + Drop;
+    type Images: NamedFile + Drop;
 
     /// What is there.
     ghost state: { Self → PlacesView };

@@ -4,10 +4,10 @@ ghost use Rattle.std.specs.Prelude.{None};
 ghost use Rattle.relay_places.specs.Places.{unclaimed_places};
 
 use crate::locked::{CommandFiles, Locked, Reason};
-use crate::named_images::NamedImages;
 use crate::notes::{note_of_file, note_of_folder, note_of_reason};
 use crate::place::{Access, Named, Place};
 use crate::places::Places;
+use crate::real_file::RealFile;
 use crate::saved_output::save_new;
 use crate::system_disk::SystemDisk;
 use dm_store::{FileSet, FileStore, StoreFault};
@@ -105,7 +105,7 @@ impl<'a> Places for RealPlaces<'a> {
 
     type Folder = FileSet<Gated<'a>>;
 
-    type Images = NamedImages<'a>;
+    type Images = RealFile<'a>;
 
     ghost state = { λ _. unclaimed_places };
 
@@ -136,7 +136,7 @@ impl<'a> Places for RealPlaces<'a> {
 
     fn images(&self, name: &str) -> Result<Self::Images, AllocError> {
         let (rt, name) = (self.rt, String::from_str(self.rt.alloc(), name)?);
-        Ok(NamedImages { rt, name })
+        Ok(RealFile { rt, name })
     }
 
     fn save_new(&mut self, path: &str, bytes: &[u8]) -> (Result<(), StoreFault>, Option<String>) {

@@ -8,7 +8,7 @@ ghost use Rattle.relay_printer_commands.specs.Printers.{EndsAudit, EvidenceView,
 
 use crate::tickets::ticket_on;
 use dm_print_ledger::{MOST_BYTES, Shown, Ticket};
-use relay_shared::{ImageFile, Refusal, Streams, refuse, status_after};
+use relay_shared::{NamedFile, Refusal, Streams, refuse, status_after};
 use relay_streams::Input;
 use std::alloc::{AllocError, Allocator};
 use std::io::{Read, Write};
@@ -56,7 +56,7 @@ impl Evidence {
     }
 
     // What a file shows.
-    fn of_file<A: Allocator, F: ImageFile>(alloc: A, file: &F, place: usize) -> Evidence
+    fn of_file<A: Allocator, F: NamedFile>(alloc: A, file: &F, place: usize) -> Evidence
         ensures { ShowsFile place (F.remaining file.now) result }
     {
         let reader = match file.open() {
@@ -160,7 +160,7 @@ fn is_lacked(evidence: &[Evidence], ticket: Ticket) -> bool
 }
 
 // Gathers what files show.
-fn gather_files<A: Allocator + Copy, F: ImageFile>(
+fn gather_files<A: Allocator + Copy, F: NamedFile>(
     alloc: A,
     files: &[F],
 ) -> Result<Vec<Evidence, A>, AllocError>
@@ -264,7 +264,7 @@ fn lines_of<A: Allocator + Copy>(alloc: A, evidence: &[Evidence]) -> Result<Vec<
 }
 
 // The lines of an audit of these files, and of the tickets in these bytes.
-fn audit<A: Allocator + Copy, F: ImageFile>(
+fn audit<A: Allocator + Copy, F: NamedFile>(
     alloc: A,
     files: &[F],
     bytes: &[u8],
@@ -282,7 +282,7 @@ fn audit<A: Allocator + Copy, F: ImageFile>(
 /// Reads ledgers from files, and tickets from the lines of the input, at most 1,048,576 bytes of them. Prints a line
 /// for each two of them that break what printers rely on, one for each file that gives no ledger, and one for each line
 /// that has no ticket and is not empty. The exit status is 0 where it prints none. Nothing is saved or locked.
-pub fn audit_command<A: Allocator + Copy, F: ImageFile, R: Read, W: Write, E: Write>(
+pub fn audit_command<A: Allocator + Copy, F: NamedFile, R: Read, W: Write, E: Write>(
     alloc: A,
     files: &[F],
     streams: &mut Streams<R, W, E>,

@@ -157,7 +157,7 @@ fn each_image<A: Allocator + Copy, C: OnImages<A>, R: Read, W: Write, E: Write>(
 }
 
 /// A file that a command is given by its name, and that is opened when its turn comes.
-pub trait ImageFile {
+pub trait NamedFile {
     type Reader: Read + Drop;
 
     /// The bytes that it gives, if they are known.
@@ -175,7 +175,7 @@ pub trait ImageFile {
     fn end(&self, reader: Self::Reader, refused: Option<&str>);
 }
 
-impl<'a> ImageFile for &'a [u8] {
+impl<'a> NamedFile for &'a [u8] {
     type Reader = &'a [u8];
 
     ghost remaining = { λ bytes. Some bytes.now };
@@ -188,7 +188,7 @@ impl<'a> ImageFile for &'a [u8] {
 }
 
 // Answers to each image of a file.
-fn each_of_file<A: Allocator + Copy, C: OnImages<A>, F: ImageFile, W: Write, E: Write>(
+fn each_of_file<A: Allocator + Copy, C: OnImages<A>, F: NamedFile, W: Write, E: Write>(
     alloc: A,
     command: &mut C,
     file: &F,
@@ -231,7 +231,7 @@ fn has_stopped<A: Allocator + Copy, C: OnImages<A>, W: Write, E: Write>(
 }
 
 // Answers to each image of each file in turn, until the output has failed or the command has ended.
-fn each_file<A: Allocator + Copy, C: OnImages<A>, F: ImageFile, W: Write, E: Write>(
+fn each_file<A: Allocator + Copy, C: OnImages<A>, F: NamedFile, W: Write, E: Write>(
     alloc: A,
     command: &mut C,
     files: &[F],
@@ -256,7 +256,7 @@ fn each_file<A: Allocator + Copy, C: OnImages<A>, F: ImageFile, W: Write, E: Wri
 
 /// Answers to each image of these files in turn, until the output has failed or the command has ended; where there is
 /// no file, to those of the input.
-pub fn each_input<A: Allocator + Copy, C: OnImages<A>, F: ImageFile, R: Read, W: Write, E: Write>(
+pub fn each_input<A: Allocator + Copy, C: OnImages<A>, F: NamedFile, R: Read, W: Write, E: Write>(
     alloc: A,
     command: &mut C,
     files: &[F],

@@ -17,5 +17,5 @@ pub use command::{
     status_after_bytes,
 };
 pub use cure::{note_ending, put_image_note};
-pub use images::{Answered, DONE, ImageFile, MOST_IMAGES, OnImages, REFUSED, each_input, greater};
+pub use images::{Answered, DONE, MOST_IMAGES, NamedFile, OnImages, REFUSED, each_input, greater};
 pub use lines::{id_digits, put_accepted, put_imported, word_digits};

@@ -15,7 +15,7 @@ use dm_finder_frame::LentGrid;
 use dm_pbm_io::{Image, grid_in};
 use dm_symbol::{Corrected, correct_grid};
 use relay_shared::{
-    Answered, DONE, ImageFile, OnImages, REFUSED, Streams, each_input, note_ending, put_image_note,
+    Answered, DONE, NamedFile, OnImages, REFUSED, Streams, each_input, note_ending, put_image_note,
 };
 use relay_streams::{Output, WriteFault};
 use std::alloc::{AllocError, Allocator};
@@ -180,7 +180,7 @@ impl<A: Allocator + Copy> OnImages<A> for Reading {
 /// `refused NAME`. A refused image doesn't end the command; bytes that are no image end their file, and so does a plain
 /// image. At most 65,536 images of a file are read. An image that would be read if it were changed is named on the
 /// standard error, as `relay: image N: NAME`, and then what [`note_ending`] gives.
-pub fn read_command<A: Allocator + Copy, F: ImageFile, R: Read, W: Write, E: Write>(
+pub fn read_command<A: Allocator + Copy, F: NamedFile, R: Read, W: Write, E: Write>(
     alloc: A,
     images: &[F],
     streams: &mut Streams<R, W, E>,

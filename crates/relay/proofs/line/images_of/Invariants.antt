@@ -3,5 +3,5 @@ use Rattle.relay.proofs.line.images_of.Given as goal
 
 -- those of the first names
 abbrev pub invariant-loop-name : goal.invariant-loop-name
-invariant-loop-name g l = map g.P.Images.ImageFile.remaining l.files.items
+invariant-loop-name g l = map g.P.Images.NamedFile.remaining l.files.items
     ≡ map (g.P.Places.images l.places) (map (λ name. name.now) (take l.name-index l.names))

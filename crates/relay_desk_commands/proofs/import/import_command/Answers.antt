@@ -45,7 +45,7 @@ returns-in-Err-open_desk-clause-ends g c =
           rw (empty, w.streams-inside-is, ← c.streams.view_is) (read w.in-Ok.read.items w.in-Ok.ensures.read
           (no_desk none.0 none.1 told) refl)
       | else-is_empty w ↦
-          let f = some_file g.F.ImageFile.remaining c.args.files.now (sym c.is_empty.ensures ∙ w.if-is_empty.false) in
+          let f = some_file g.F.NamedFile.remaining c.args.files.now (sym c.is_empty.ensures ∙ w.if-is_empty.false) in
           let told = rw w.streams-inside-is at none.2 in
           rw (f.2, w.streams-inside-is, ← c.streams.view_is) (read_files (no_desk none.0 none.1 (told, refl)))
     ]
@@ -81,14 +81,14 @@ returns-then-has_failed-clause-ends g c =
     let opens = c.in-Ok-open_desk.ensures in
     let there : c.loop-file.file-index < length c.args.files.now = omega arith in
     let stops = rw (c.has_failed.ensures, c.has_failed-in-loop-file.ensures) at c.if-has_failed.true in
-    let told : Told (map g.F.ImageFile.remaining c.args.files.now) (c.in-Ok-open_desk.opened.desk, c.open_desk.new.output)
+    let told : Told (map g.F.NamedFile.remaining c.args.files.now) (c.in-Ok-open_desk.opened.desk, c.open_desk.new.output)
     c.greater-status.result (c.import_file.new.desk, c.import_file.new.output) = rw c.greater-status.ensures
     (at_last_file _ _ _ _ _ _ _ _ c.file-item.result _ _ there c.file-item.is c.loop-file.invariant.does
     c.import_file.ensures.does stops) in
     elim c.if-is_empty.branch [
       | then-is_empty+in-Ok w ↦ cc (w.bytes-is, c.in_default.is)
       | else-is_empty w ↦
-          let f = some_file g.F.ImageFile.remaining c.args.files.now (sym c.is_empty.ensures ∙ w.if-is_empty.false) in
+          let f = some_file g.F.NamedFile.remaining c.args.files.now (sym c.is_empty.ensures ∙ w.if-is_empty.false) in
           let all = rw (opens.1, f.2, w.streams-inside-is) at told in
           rw (f.2, w.streams-inside-is, ← c.streams.view_is) (read_files (opened c.in-Ok-open_desk.opened.desk opens.0 (
             c.import_file.new.desk,
@@ -105,13 +105,13 @@ pub returns-clause-ends : goal.returns-clause-ends
 returns-clause-ends g c =
     let opens = c.in-Ok-open_desk.ensures in
     let ended : length c.args.files.now ≤ c.loop-file.file-index = omega arith in
-    let told : Told (map g.F.ImageFile.remaining c.args.files.now) (c.in-Ok-open_desk.opened.desk, c.open_desk.new.output)
+    let told : Told (map g.F.NamedFile.remaining c.args.files.now) (c.in-Ok-open_desk.opened.desk, c.open_desk.new.output)
     c.loop-file.status (c.loop-file.desk, c.loop-file.output) =
     at_no_file _ _ _ _ _ _ _ _ ended c.loop-file.invariant.does in
     elim c.if-is_empty.branch [
       | then-is_empty+in-Ok w ↦ cc (w.bytes-is, c.in_default.is)
       | else-is_empty w ↦
-          let f = some_file g.F.ImageFile.remaining c.args.files.now (sym c.is_empty.ensures ∙ w.if-is_empty.false) in
+          let f = some_file g.F.NamedFile.remaining c.args.files.now (sym c.is_empty.ensures ∙ w.if-is_empty.false) in
           let all = rw (opens.1, f.2, w.streams-inside-is) at told in
           rw (f.2, w.streams-inside-is, ← c.streams.view_is) (read_files (opened c.in-Ok-open_desk.opened.desk opens.0
           (c.loop-file.desk, all, refl, c.loop-file.invariant.kept, c.close-2.ensures.order, c.close-2.ensures.state)))

@@ -6,7 +6,7 @@ use Rattle.relay_desk_commands.proofs.import.import_command.Given as goal
 
 abbrev pub invariant-loop-file : goal.invariant-loop-file
 invariant-loop-file g l = record {
-  does : Before ImportsFile (λ at. at.1.has_failed || at.0.is_failed) g.F.ImageFile.remaining l.files
+  does : Before ImportsFile (λ at. at.1.has_failed || at.0.is_failed) g.F.NamedFile.remaining l.files
       (l.initial.desk, l.initial.output) l.file-index l.status (l.desk, l.output);
   running : l.desk.is_failed ≡ false;
   kept : KeepsPages l.initial.desk.held l.desk.held;

@@ -10,13 +10,13 @@ loop-i-init g c = λ lines. rw c.new-evidence.ensures.items begun
 pub loop-i-preserved : goal.loop-i-preserved
 loop-i-preserved g c = λ lines.
     let grown : c.push.new.self.items ≡ c.loop-i.evidence.items ++ c.of_file.result ∷ [] = grind (arith, common_steps) in
-    rw grown (file_gathered g.F.ImageFile.remaining c.args.files.now lines c.loop-i.i c.index-files-i.result _ _
+    rw grown (file_gathered g.F.NamedFile.remaining c.args.files.now lines c.loop-i.i c.index-files-i.result _ _
     c.loop-i-test.true (c.loop-i.invariant lines) (subst
-    (λ (file : g.row.F.Denot). ShowsFile (c.loop-i.i + 1) (g.F.ImageFile.remaining file) c.of_file.result)
+    (λ (file : g.row.F.Denot). ShowsFile (c.loop-i.i + 1) (g.F.NamedFile.remaining file) c.of_file.result)
     c.index-files-i.is c.of_file.ensures))
 
 pub returns : goal.returns
 returns g c = λ lines.
-    let all : c.loop-i.i ≡ length (map g.F.ImageFile.remaining c.args.files.now) =
-    omega (arith, length-map c.args.files.now g.F.ImageFile.remaining) in
+    let all : c.loop-i.i ≡ length (map g.F.NamedFile.remaining c.args.files.now) =
+    omega (arith, length-map c.args.files.now g.F.NamedFile.remaining) in
     rw all at (c.loop-i.invariant lines)

@@ -32,5 +32,5 @@ returns-in-Ok g c =
     let old : SystemView = system_at c.args.self.standard (g.P.Places.state c.args.self.places) in
     let new : SystemView = system_at c.do_here.result.1.standard (g.P.Places.state c.do_here.result.1.places) in
     over_files _ c.args.line.now (g.P.Places.images c.args.self.places) old new
-    (map g.P.Images.ImageFile.remaining c.as_slice-in-Ok.result.now) c.do_here.result.0 (search rules) (search rules)
+    (map g.P.Images.NamedFile.remaining c.as_slice-in-Ok.result.now) c.do_here.result.0 (search rules) (search rules)
     c.do_here.ensures

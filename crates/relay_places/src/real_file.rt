@@ -1,18 +1,18 @@
-//! Files that were named on the line, of images or for `audit` and `import`.
+//! The files that a line names to be read, and the standard input.
 
 ghost use Rattle.std.specs.Prelude.{None};
 
 use crate::notes::note;
 use crate::watched::{NO_IMAGE, Watched};
-use relay_shared::ImageFile;
+use relay_shared::NamedFile;
 use relay_streams::InputFault;
 use std::fs::File;
 use std::io::{BufReader, Read};
 use std::{fs, io};
 
-/// A file of images by its name, or the program's input, where that is `-`.
+/// A file by its name, or the standard input if that is `-`.
 #[derive(Drop)]
-pub struct NamedImages<'a> {
+pub struct RealFile<'a> {
     pub(crate) rt: &'a HostRuntime,
     pub(crate) name: String,
 }
@@ -33,7 +33,7 @@ impl<I: Read + Drop> Read for Source<I> {
     }
 }
 
-impl ImageFile for NamedImages<'_> {
+impl NamedFile for RealFile<'_> {
     type Reader = Watched<BufReader<Source<<HostRuntime as Input>::Reader>>>;
 
     ghost remaining = { λ _. None };
