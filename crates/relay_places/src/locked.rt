@@ -1,6 +1,6 @@
 //! Files that lock themselves.
 
-ghost use Rattle.std.specs.Prelude.{◌≡◌};
+ghost use Rattle.std.specs.Prelude.{◌≡◌, IfErr};
 ghost use Rattle.relay_places.specs.Places.{locks};
 
 use crate::lock::{Lock, LockFault};
@@ -9,7 +9,7 @@ use crate::place::{Access, Place};
 use crate::system_disk::KeepsError;
 use dm_store::{Disk, Folders, StoreFault};
 use std::cell::{Cell, OnceCell};
-use std::fs::{File, Metadata};
+use std::fs::Metadata;
 use std::io::{self, ErrorKind};
 use std::os::unix::fs::MetadataExt;
 use std::rc::Rc;
@@ -178,21 +178,26 @@ impl<'a> CommandFiles<'a> {
     }
 
     // Says whether the command may go on, and keeps why not.
-    fn allows(&self, answer: Result<(), Reason>) -> bool {
+    fn allow(&self, answer: Result<(), Reason>) -> Result<(), StoreFault>
+        ensures { IfErr result (λ fault. fault ≡ StoreFault.Device) }
+    {
         if let Err(reason) = answer {
             self.reason.set(Some(reason));
+            return Err(StoreFault::Device);
         }
-        answer.is_ok()
+        Ok(())
     }
 
     // Whether the command may load what is at a path.
-    fn may_load(&self, path: &str) -> bool {
+    fn may_load(&self, path: &str) -> Result<(), StoreFault>
+        ensures { IfErr result (λ fault. fault ≡ StoreFault.Device) }
+    {
         if self.entered.get().is_none() {
             let _ = self.entered.set(self.enter());
         }
         let place = &self.place;
         let is_lost = place.is_folder_lost && path.starts_with(place.folder.as_str());
-        self.allows(match self.entered.get() {
+        self.allow(match self.entered.get() {
             Some(Err(reason)) => Err(*reason),
             _ if is_lost => Err(Reason::LostFolder),
             _ => Ok(()),
@@ -200,9 +205,11 @@ impl<'a> CommandFiles<'a> {
     }
 
     // Whether the command may save: its lock is held, and other programs find it.
-    fn may_save(&self) -> bool {
+    fn may_save(&self) -> Result<(), StoreFault>
+        ensures { IfErr result (λ fault. fault ≡ StoreFault.Device) }
+    {
         self.has_saved.set(true);
-        self.allows(match self.entered.get() {
+        self.allow(match self.entered.get() {
             Some(Ok(Some(lock))) if lock.is_in_place(self.rt, self.place.lock.as_str()) => Ok(()),
             Some(Ok(Some(_))) => Err(Reason::LostLock),
             _ => Err(Reason::NotLocked),
@@ -245,11 +252,14 @@ impl<'a, D> Locked<'a, D> {
 }
 
 impl<D: KeepsError> Locked<'_, D> {
-    // Keeps why the system has refused a call on the file at a path, if it has.
-    fn tell<T>(&self, path: &str, ended: &Result<T, StoreFault>) {
-        if let (Err(StoreFault::Device), Some(error)) = (ended, self.within.last_error()) {
+    // The end of a call on the file at a path. Why the system has refused it, if it has, is kept.
+    fn told<T>(&self, path: &str, ended: Result<T, StoreFault>) -> Result<T, StoreFault>
+        ensures { result ≡ ended }
+    {
+        if let (Err(StoreFault::Device), Some(error)) = (&ended, self.within.last_error()) {
             self.command_files.keep(path, &error);
         }
+        ended
     }
 }
 
@@ -259,90 +269,68 @@ impl<D: Disk + KeepsError> Disk for Locked<'_, D> {
     ghost state = { λ locked. D.state locked.within };
 
     fn read(&mut self, name: &str, limit: usize) -> Result<Option<Vec<u8, D::Memory>>, StoreFault> {
-        if !self.command_files.may_load(name) {
-            return Err(StoreFault::Device);
-        }
+        self.command_files.may_load(name)?;
         let kept = String::from_str(self.rt.alloc(), name);
         self.command_files.loaded.set(kept.ok());
         let read = self.within.read(name, limit);
-        self.tell(name, &read);
-        read
+        self.told(name, read)
     }
 
     fn write(&mut self, name: &str, bytes: &[u8]) -> Result<(), StoreFault> {
-        if !self.command_files.may_save() {
-            return Err(StoreFault::Device);
-        }
+        self.command_files.may_save()?;
         let written = self.within.write(name, bytes);
-        self.tell(name, &written);
-        written
+        self.told(name, written)
     }
 
     fn sync(&mut self, name: &str) -> Result<(), StoreFault> {
         let synced = self.within.sync(name);
-        self.tell(name, &synced);
-        synced
+        self.told(name, synced)
     }
 
     fn rename(&mut self, from: &str, to: &str) -> Result<(), StoreFault> {
-        if !self.command_files.may_save() {
-            return Err(StoreFault::Device);
-        }
+        self.command_files.may_save()?;
         let renamed = self.within.rename(from, to);
         if renamed.is_err() {
             self.command_files.look_at_place();
         }
-        self.tell(to, &renamed);
-        renamed
+        self.told(to, renamed)
     }
 
     fn remove(&mut self, name: &str) -> Result<(), StoreFault> {
-        if !self.command_files.may_save() {
-            return Err(StoreFault::Device);
-        }
+        self.command_files.may_save()?;
         let removed = self.within.remove(name);
-        self.tell(name, &removed);
-        removed
+        self.told(name, removed)
     }
 
     fn sync_entry(&mut self, name: &str) -> Result<(), StoreFault> {
         let synced = self.within.sync_entry(name);
-        self.tell(name, &synced);
-        synced
+        self.told(name, synced)
     }
 
     fn settle_entry(&mut self, name: &str) -> Result<(), StoreFault> {
         let settled = self.within.settle_entry(name);
-        self.tell(name, &settled);
-        settled
+        self.told(name, settled)
     }
 }
 
 impl<D: Folders + KeepsError> Folders for Locked<'_, D> {
     fn make_folder(&mut self, folder: &str) -> Result<(), StoreFault> {
-        if !self.command_files.may_save() {
-            return Err(StoreFault::Device);
-        }
+        self.command_files.may_save()?;
         let made = self.within.make_folder(folder);
-        self.tell(folder, &made);
-        made
+        self.told(folder, made)
     }
 
     fn keys(&mut self, folder: &str, limit: usize) -> Result<Vec<u16, D::Memory>, StoreFault> {
-        if !self.command_files.may_load(folder) {
-            return Err(StoreFault::Device);
-        }
+        self.command_files.may_load(folder)?;
         let keys = self.within.keys(folder, limit);
         self.command_files
             .has_no_list
             .set(matches!(&keys, Err(StoreFault::Device)));
-        self.tell(folder, &keys);
-        keys
+        self.told(folder, keys)
     }
 
     fn settle_folder(&mut self, folder: &str) -> Result<(), StoreFault> {
         let settled = self.within.settle_folder(folder);
-        self.tell(folder, &settled);
-        settled
+        self.told(folder, settled)
     }
 }

@@ -48,10 +48,8 @@ impl NamedFile for RealFile<'_> {
             };
             Source::File(file)
         };
-        match BufReader::new(self.rt.alloc(), source) {
-            Ok(reader) => Ok(Watched::new(reader)),
-            Err(_) => Err(InputFault::Memory),
-        }
+        let reader = BufReader::new(self.rt.alloc(), source).map_err(|_| InputFault::Memory)?;
+        Ok(Watched::new(reader))
     }
 
     fn end(&self, reader: Self::Reader, refused: Option<&str>) {

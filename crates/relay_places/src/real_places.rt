@@ -59,10 +59,7 @@ fn note_of(rt: &HostRuntime, command_files: &CommandFiles<'_>) -> Option<String>
 // The gate of the files that a command names.
 fn gate_of<'a>(rt: &'a HostRuntime, named: Named<'_>) -> Result<Rc<CommandFiles<'a>>, AllocError> {
     let command_files = CommandFiles::new(rt, Place::of(rt, named)?);
-    match Rc::new(rt.alloc(), command_files) {
-        Ok(command_files) => Ok(command_files),
-        Err(_) => Err(AllocError),
-    }
+    Rc::new(rt.alloc(), command_files).map_err(|_| AllocError)
 }
 
 // The ledger or the joint file behind a gate. A new ledger takes the place of nothing.
