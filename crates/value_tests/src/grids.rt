@@ -43,43 +43,32 @@ fn cells_are_free_or_on_no_finder_pattern(rt: HostRuntime) -> Result<(), Fail> {
     Ok(())
 }
 
-// Whether the codewords of the standard's example are placed as it draws them, without a layout made before.
+// Whether the codewords of the standard's example are placed as it draws them, without a layout made before and with
+// one.
 fn is_placed(alloc: Global) -> Result<bool, AllocError> {
     let placed = place(alloc, Size::Side10, &WORDS)?;
-    Ok(is_worked_example(&frame(alloc, Size::Side10, &placed)?))
+    let layout = Layout::of_size(alloc, Size::Side10)?;
+    let placed_with = place_with(alloc, &layout, &WORDS)?;
+    Ok(
+        is_worked_example(&frame(alloc, Size::Side10, &placed)?)
+            && is_worked_example(&frame(alloc, Size::Side10, &placed_with)?),
+    )
 }
 
-// The same with a layout.
-fn is_placed_with(alloc: Global, layout: &Layout) -> Result<bool, AllocError> {
-    if layout.size() != Size::Side10 {
-        return Ok(false);
-    }
-    let placed = place_with(alloc, layout, &WORDS)?;
-    Ok(is_worked_example(&frame(alloc, Size::Side10, &placed)?))
-}
-
-// Whether the modules that it draws give them back, without a layout.
+// Whether the modules that it draws give them back, without a layout and with one.
 fn is_lifted(alloc: Global, drawn: &Grid) -> Result<bool, Fail> {
     let framed = unframe(alloc, drawn)?;
     let words = lift(alloc, framed.size, &framed.matrix)?;
-    Ok(framed.wrong == 0 && words.as_slice() == WORDS.as_slice())
-}
-
-// The same with a layout.
-fn is_lifted_with(alloc: Global, drawn: &Grid) -> Result<bool, Fail> {
-    let framed = unframe(alloc, drawn)?;
     let layout = Layout::of_size(alloc, framed.size)?;
-    Ok(lift_with(alloc, &layout, &framed.matrix)?.as_slice() == WORDS.as_slice())
+    let words_with = lift_with(alloc, &layout, &framed.matrix)?;
+    Ok(framed.wrong == 0 && words.as_slice() == WORDS.as_slice() && words_with == words)
 }
 
 #[test]
 fn words_are_placed_and_lifted(rt: HostRuntime) -> Result<(), Fail> {
-    let alloc = rt.alloc();
-    assert!(rt;
-        is_placed(alloc)? && is_placed_with(alloc, &Layout::of_size(alloc, Size::Side10)?)?
-    );
-    let drawn = Grid::of_modules(alloc, 10, &worked_modules())?;
-    assert!(rt; is_lifted(alloc, &drawn)? && is_lifted_with(alloc, &drawn)?);
+    assert!(rt; is_placed(rt.alloc())?);
+    let drawn = Grid::of_modules(rt.alloc(), 10, &worked_modules())?;
+    assert!(rt; is_lifted(rt.alloc(), &drawn)?);
     Ok(())
 }
 
