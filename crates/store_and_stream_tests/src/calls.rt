@@ -3,7 +3,7 @@
 use crate::scripted::Scripted;
 use dm_store::{FileSet, FileStore, Folders, RealDisk, Store, StoreFault, StoreSet};
 use std::alloc::{Allocator, Global};
-use test_helpers::{Refusing, says};
+use test_helpers::Refusing;
 
 // A call: on the store in the file `pages/0001`, or on that of the key 1 of the set in the folder `pages`. Bytes are
 // loaded under a limit, and `three` is what replaces them.
@@ -129,10 +129,4 @@ fn of_files<A: Allocator + Copy>(
 // The text of the answer.
 pub fn answer(files: &Scripted, memory: &Memory, folder: &str, call: Call) -> &'static str {
     named(of_files(&(files, files.alloc()), memory, folder, call))
-}
-
-#[test]
-fn a_fault_says_what_it_is(rt: HostRuntime) {
-    assert!(rt; says(rt.alloc(), &StoreFault::Device, "the device failed"));
-    assert!(rt; says(rt.alloc(), &StoreFault::Memory, "out of memory"));
 }

@@ -1,7 +1,7 @@
 //! Tests of stores and sets of stores: on real files, with each call on the file system failing in turn, and over an
 //! allocator that refuses each growth in turn; and what a power loss leaves of a save. Tests of streams and of images:
 //! known images and refusals, readers and writers that fail in mid-stream or are interrupted, and the texts of faults.
-//! And tests of the helpers: the allocator that refuses one growth, and the copies of bytes that are spoiled.
+//! And a test of a helper: the copies of bytes that are spoiled.
 #![tactic(auto)]
 
 #[cfg(test)]

@@ -5,7 +5,7 @@ use dm_store::{KeyMap, MemSet, MemStore, Store, StoreSet};
 use std::alloc::Global;
 use test_helpers::Refusing;
 
-// More growths than the calls of a part ask for.
+// More growths than these calls ask for.
 const MOST_GROWTHS: u64 = 200;
 
 // More keys than a map takes before it grows a second time.
@@ -50,33 +50,16 @@ fn fills_a_map(memory: &Memory) -> bool {
     are_listed && map.len() == usize::from(KEYS)
 }
 
-// What takes memory.
-#[derive(Clone, Copy)]
-enum Part {
-    Store,
-    Set,
-    Map,
-}
-
-// How many growths a part asks for, if it is filled whichever of them is refused.
-fn growths_of(alloc: Global, part: Part) -> Option<u64> {
-    for passes in 0..MOST_GROWTHS {
-        let memory = Refusing::new(alloc, passes);
-        let is_filled = match part {
-            Part::Store => fills_a_store(&memory),
-            Part::Set => fills_a_set(&memory),
-            Part::Map => fills_a_map(&memory),
-        };
-        if !is_filled || !memory.is_spent() {
-            return is_filled.then_some(passes);
-        }
-    }
-    None
-}
-
 #[test]
 fn each_growth_is_refused(rt: HostRuntime) {
-    for part in [Part::Store, Part::Set, Part::Map] {
-        assert!(rt; growths_of(rt.alloc(), part).is_some_and(|growths| growths > 2));
+    for passes in 0..MOST_GROWTHS {
+        let memory = Refusing::new(rt.alloc(), passes);
+        let is_filled = fills_a_store(&memory) && fills_a_set(&memory) && fills_a_map(&memory);
+        assert!(rt; is_filled, "{passes}");
+        if !memory.is_spent() {
+            assert!(rt; passes > 9);
+            return;
+        }
     }
+    assert!(rt; false, "growths without end");
 }

@@ -1,7 +1,8 @@
 //! Inputs and outputs over readers and writers that fail in mid-stream, and over one that is interrupted; and the texts
-//! of the faults of streams and of images.
+//! of the faults of stores, streams and images.
 
 use dm_pbm_io::{PbmFault, ShapeFault};
+use dm_store::StoreFault;
 use relay_streams::{Input, InputFault, Output, ReadFault, WriteFault};
 use std::test::Fail;
 use test_helpers::Faulty;
@@ -66,6 +67,7 @@ fn a_failed_write_is_remembered(rt: HostRuntime) {
 }
 
 const TEXTS: &str = "\
+the device failed, out of memory
 the input could not be read
 the input could not be read, out of memory
 the output could not be written
@@ -78,7 +80,7 @@ the image has not the shape of a symbol, out of memory";
 #[test]
 fn faults_say_what_is_wrong(rt: HostRuntime) -> Result<(), Fail> {
     let texts = format!(in rt.alloc();
-        "{}\n{}, {}\n{}\n{}, {}, {}\n{}, {}\n{}, {}\n{}, {}",
+        "{}, {}\n{}\n{}, {}\n{}\n{}, {}, {}\n{}, {}\n{}, {}\n{}, {}", StoreFault::Device, StoreFault::Memory,
         ReadFault::Read, InputFault::Read, InputFault::Memory, WriteFault::Write, PbmFault::Magic,
         PbmFault::Header, PbmFault::TooLarge, PbmFault::Cut, PbmFault::Pixel, PbmFault::Read,
         PbmFault::Memory, ShapeFault::Shape, ShapeFault::Memory,
