@@ -1,10 +1,10 @@
 //! The lines of replies. They take no memory.
 
-ghost use Rattle.std.specs.Prelude.{◌≡◌, [], codes, if◌then◌else◌};
+ghost use Rattle.std.specs.Prelude.{◌≡◌, [], codes, if◌then◌else◌, option_map};
 ghost use Rattle.hex.specs.Hex.{encode_lower};
 ghost use Rattle.dm_print_ledger.specs.Ledger.{ticket_bytes};
 ghost use Rattle.relay_shared.specs.Command.{PutsText};
-ghost use Rattle.relay_world_command.specs.World.{answer_line, document_line, export_line, is_refusal, is_refused_answer, labels_line, numbered_ticket_line, reply_line};
+ghost use Rattle.relay_world_command.specs.World.{answer_line, document_line, export_line, is_refused_answer, labels_line, numbered_ticket_line, reply_refusal, reply_line};
 
 use dm_append_label::FileId;
 use dm_event_history::Reply;
@@ -87,6 +87,27 @@ fn put_exported<W: Write>(
     output.put_all(&[b"export ", index, b" ", &id, b" ", n, b" ", &mask, b"\n"])
 }
 
+// The name of the refusal that a reply is, if it is one.
+fn reply_refusal<A: Allocator>(reply: &Reply<A>) -> Option<&'static str>
+    ensures { option_map (λ name. name.now) result ≡ reply_refusal reply.now }
+{
+    Some(match reply {
+        Reply::PrintRefused(fault) => fault.name(),
+        Reply::ScanRefused(fault) => fault.name(),
+        Reply::AskRefused(fault) => fault.name(),
+        Reply::ForgetRefused(fault) => fault.name(),
+        Reply::GiveRefused(fault) => fault.name(),
+        Reply::TakeRefused(fault) => fault.name(),
+        Reply::ExportRefused(fault) => fault.name(),
+        Reply::ImportRefused(fault) => fault.name(),
+        Reply::PrinterRefused(fault) => fault.name(),
+        Reply::DeskRefused(fault) => fault.name(),
+        Reply::Memory => "Memory",
+        _ => return None,
+    })
+}
+
+// Writes the line of a reply that is no refusal.
 fn put_reply<A: Allocator, W: Write>(
     output: &mut Output<W>,
     reply: &Reply<A>,
@@ -95,49 +116,20 @@ fn put_reply<A: Allocator, W: Write>(
 {
     match reply {
         Reply::Printed { id, first, count } => put_labels(output, *id, *first, *count),
-        Reply::PrintRefused(fault) => output.put_refusal(fault.name()),
         Reply::Scanned(page) => put_accepted(output, page.id, page.m, page.n, page.kind.name()),
-        Reply::ScanRefused(fault) => output.put_refusal(fault.name()),
         Reply::Document(bytes) => put_document(output, bytes.as_slice()),
-        Reply::AskRefused(fault) => output.put_refusal(fault.name()),
         Reply::Forgotten => output.put(b"forgotten\n"),
-        Reply::ForgetRefused(fault) => output.put_refusal(fault.name()),
         Reply::Given { index, ticket } => put_given(output, *index, *ticket),
-        Reply::GiveRefused(fault) => output.put_refusal(fault.name()),
         Reply::Taken => output.put(b"taken\n"),
-        Reply::TakeRefused(fault) => output.put_refusal(fault.name()),
         Reply::Exported { index, id, n, mask } => put_exported(output, *index, *id, *n, *mask),
-        Reply::ExportRefused(fault) => output.put_refusal(fault.name()),
         Reply::Imported(pages) => {
             put_imported(output, pages.id, pages.n, pages.added, pages.kind.name())
         }
-        Reply::ImportRefused(fault) => output.put_refusal(fault.name()),
         Reply::Restarted => output.put(b"restarted\n"),
-        Reply::PrinterRefused(fault) => output.put_refusal(fault.name()),
-        Reply::DeskRefused(fault) => output.put_refusal(fault.name()),
         Reply::Stopped => output.put(b"stopped\n"),
         Reply::Down => output.put(b"down\n"),
         Reply::NoSuch => output.put(b"none\n"),
-        Reply::Memory => output.put_refusal("Memory"),
-    }
-}
-
-fn is_refused<A: Allocator>(reply: &Reply<A>) -> bool
-    ensures { result ≡ is_refusal reply.now }
-{
-    match reply {
-        Reply::PrintRefused(_)
-        | Reply::ScanRefused(_)
-        | Reply::AskRefused(_)
-        | Reply::ForgetRefused(_)
-        | Reply::GiveRefused(_)
-        | Reply::TakeRefused(_)
-        | Reply::ExportRefused(_)
-        | Reply::ImportRefused(_)
-        | Reply::PrinterRefused(_)
-        | Reply::DeskRefused(_)
-        | Reply::Memory => true,
-        _ => false,
+        _ => output.put(b""),
     }
 }
 
@@ -158,17 +150,17 @@ pub(crate) fn put_answer<A: Allocator, W: Write>(
         return output.put_refusal("Memory");
     };
     output.put(mark_of(*is_honest))?;
-    put_reply(output, reply)
+    match reply_refusal(reply) {
+        Some(name) => output.put_refusal(name),
+        None => put_reply(output, reply),
+    }
 }
 
 pub(crate) fn is_refused_answer<A: Allocator>(answer: &Answer<A>) -> bool
     ensures { result ≡ is_refused_answer answer.now }
 {
     match answer {
-        Answer::Given {
-            is_honest: _,
-            reply,
-        } => is_refused(reply),
+        Answer::Given { reply, .. } => reply_refusal(reply).is_some(),
         Answer::NotGiven => true,
     }
 }
