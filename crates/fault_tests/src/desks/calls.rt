@@ -2,7 +2,7 @@
 // is made again.
 use super::{FULL, THIRD, WHOLE};
 use dm_append_label::{FileId, Page, seal};
-use dm_assembly_desk::{Desk, Kind};
+use dm_assembly_desk::Desk;
 use dm_encodation::Scheme;
 use dm_finder_frame::Grid;
 use dm_size::Size;
@@ -42,14 +42,6 @@ const CALLS: [(Call, &str); 8] = [
 // More growths than all calls together ask for.
 const MANY: u32 = 3000;
 
-fn name_of(kind: Kind) -> &'static str {
-    match kind {
-        Kind::New => "new",
-        Kind::Again => "again",
-        Kind::Complete => "complete",
-    }
-}
-
 fn done_if(is_right: bool) -> &'static str {
     if is_right { "done" } else { "another answer" }
 }
@@ -71,7 +63,7 @@ fn scanned<'a, S: StoreSet>(
         return "no label";
     };
     match desk.accept(&label) {
-        Ok(accepted) => name_of(accepted.kind),
+        Ok(accepted) => accepted.kind.name(),
         Err(fault) => fault.name(),
     }
 }
@@ -108,7 +100,7 @@ fn made<'a, S: StoreSet>(
             Err(_) => "Memory",
         },
         Call::Import(file) => match desk.import(file) {
-            Ok(imported) => name_of(imported.kind),
+            Ok(imported) => imported.kind.name(),
             Err(fault) => fault.name(),
         },
         Call::Forget => match desk.forget(nine) {
@@ -128,18 +120,14 @@ fn filled<'a>(rt: &impl Abort, memory: &'a Memory) -> MemSet<&'a Memory> {
 type MemDesk<'a> = Desk<MemSet<&'a Memory>, &'a Memory>;
 
 // A desk over a set that holds the document 9, opened again where it was refused.
-fn opened<'a>(memory: &'a Memory, set: MemSet<&'a Memory>) -> Option<MemDesk<'a>> {
-    let set = match Desk::open(memory, set, 4) {
-        Ok(desk) => return Some(desk),
-        Err(refused) => refused.store,
-    };
-    match Desk::open(memory, set, 4) {
-        Ok(desk) => Some(desk),
-        Err(refused) => {
-            let _set = refused.store;
-            None
-        }
+fn opened<'a>(memory: &'a Memory, mut set: MemSet<&'a Memory>) -> Option<MemDesk<'a>> {
+    for _time in 0..2 {
+        set = match Desk::open(memory, set, 4) {
+            Ok(desk) => return Some(desk),
+            Err(refused) => refused.store,
+        };
     }
+    None
 }
 
 // Whether a call is refused, and is done when it is made again; or none, if it isn't done then.

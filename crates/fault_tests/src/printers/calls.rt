@@ -61,32 +61,25 @@ type MemPrinter<'a> = Printer<MemStore<&'a Memory>, &'a Memory>;
 
 // The printer over an empty store, created again where it was refused.
 fn created<'a>(memory: &'a Memory) -> Option<MemPrinter<'a>> {
-    let store = match Printer::create(memory, MemStore::new(memory), 0, RANGE) {
-        Ok(printer) => return Some(printer),
-        Err(refused) => refused.store,
-    };
-    match Printer::create(memory, store, 0, RANGE) {
-        Ok(printer) => Some(printer),
-        Err(refused) => {
-            let _store = refused.store;
-            None
-        }
+    let mut store = MemStore::new(memory);
+    for _time in 0..2 {
+        store = match Printer::create(memory, store, 0, RANGE) {
+            Ok(printer) => return Some(printer),
+            Err(refused) => refused.store,
+        };
     }
+    None
 }
 
 // The printer over what is saved, opened again where it was refused.
-fn opened<'a>(memory: &'a Memory, store: MemStore<&'a Memory>) -> Option<MemPrinter<'a>> {
-    let store = match Printer::open(memory, store, 0) {
-        Ok(printer) => return Some(printer),
-        Err(refused) => refused.store,
-    };
-    match Printer::open(memory, store, 0) {
-        Ok(printer) => Some(printer),
-        Err(refused) => {
-            let _store = refused.store;
-            None
-        }
+fn opened<'a>(memory: &'a Memory, mut store: MemStore<&'a Memory>) -> Option<MemPrinter<'a>> {
+    for _time in 0..2 {
+        store = match Printer::open(memory, store, 0) {
+            Ok(printer) => return Some(printer),
+            Err(refused) => refused.store,
+        };
     }
+    None
 }
 
 // Whether a call is refused, and is done when it is made again; or none, if it isn't done then.
