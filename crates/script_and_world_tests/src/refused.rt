@@ -1,7 +1,7 @@
 //! Scripts and worlds whose memory is refused, one growth after another. A growth that is refused is asked for once
 //! more by std, in its least size, so two in a row are refused.
 
-use dm_assembly_desk::{AskFault, DeskFault, ExportFault, Kind, ScanFault};
+use dm_assembly_desk::{AskFault, DeskFault, ExportFault, ScanFault};
 use dm_event_history::{Event, Reply};
 use dm_event_world::{World, is_honest};
 use dm_print_ledger::{GiveFault, OpenFault, PrintFault, TakeFault};
@@ -58,11 +58,7 @@ const STOPPED_DESKS: &str =
 pub fn told<A: Allocator>(reply: &Reply<A>) -> &'static str {
     match reply {
         Reply::Printed { .. } => "printed",
-        Reply::Scanned(accepted) => match accepted.kind {
-            Kind::New => "new",
-            Kind::Again => "again",
-            Kind::Complete => "complete",
-        },
+        Reply::Scanned(accepted) => accepted.kind.name(),
         Reply::Document(_) => "document",
         Reply::AskRefused(AskFault::NotHeld) => "not held",
         Reply::PrintRefused(PrintFault::Save) => "save",

@@ -6,7 +6,6 @@ use dm_event_history::{Event, Reply};
 use dm_event_world::{World, WorldFault, is_honest, run};
 use relay_script::read_script;
 use std::test::Fail;
-use test_helpers::says;
 
 // Whether the replies to the gathering are these, and the fifth gives the document.
 fn are_of_gathering(replies: &[Reply]) -> bool {
@@ -51,17 +50,14 @@ fn a_run_answers_each_event_and_leaves_what_left(rt: HostRuntime) -> Result<(), 
     Ok(())
 }
 
-#[rattlefmt::skip]
-const FAULTS: [(WorldFault, &str); 4] = [
-    (WorldFault::Range, "a range is invalid"),
-    (WorldFault::Overlap, "two ranges share a number"),
-    (WorldFault::Capacity, "there is room for 1 to 1,024 documents"),
-    (WorldFault::Memory, "out of memory"),
-];
+const TEXTS: &str = "\
+a range is invalid, two ranges share a number, there is room for 1 to 1,024 documents, out of memory";
 
+#[rattlefmt::skip]
 #[test]
-fn world_faults_say_what_is_wrong(rt: HostRuntime) {
-    for (fault, text) in FAULTS {
-        assert!(rt; says(rt.alloc(), &fault, text), "{text}");
-    }
+fn world_faults_say_what_is_wrong(rt: HostRuntime) -> Result<(), Fail> {
+    let texts = format!(in rt.alloc(); "{}, {}, {}, {}",
+        WorldFault::Range, WorldFault::Overlap, WorldFault::Capacity, WorldFault::Memory)?;
+    assert!(rt; texts.as_str() == TEXTS);
+    Ok(())
 }

@@ -1,5 +1,5 @@
 //! What tests share: an allocator that refuses one allocation, copies of bytes with one byte spoiled, readers and
-//! writers that fail or are interrupted, a look at the text of a fault, and a disk whose machine stops.
+//! writers that fail or are interrupted, and a disk whose machine stops.
 //!
 //! Proved: each call returns and is safe, and [`Refusing`] is an allocator, so that what owns memory of it owns memory
 //! of the allocator within. [`MemDisk`] is proved to be an honest disk with folders, of which a stop may leave whatever
@@ -18,5 +18,5 @@ mod stopping;
 pub use failing::{Faulty, FaultyWriter};
 pub use mem_disk::{DiskCall, MemDisk};
 pub use refusing::Refusing;
-pub use spoiling::{count, says, spoiled};
+pub use spoiling::{count, spoiled};
 pub use stopping::Stopping;

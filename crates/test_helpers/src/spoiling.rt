@@ -1,8 +1,7 @@
 //! Spoiled copies of bytes, for tests of what reads them: one byte is changed or added, or the end is cut off. And
-//! counts of what is answered to them, and the texts of faults.
+//! counts of what is answered to them.
 
 use std::alloc::{AllocError, Global};
-use std::fmt::Display;
 
 // Adds a copy for each byte that may stand between what is before a place and what is after it.
 fn add_between(
@@ -42,9 +41,4 @@ pub fn count(counts: &mut [u32], names: &[&str], answer: &str) {
             *count = count.saturating_add(1);
         }
     }
-}
-
-/// Whether this is the text of a value.
-pub fn says(alloc: Global, value: &impl Display, text: &str) -> bool {
-    format!(in alloc; "{value}").is_ok_and(|written| written.as_str() == text)
 }
