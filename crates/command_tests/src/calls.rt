@@ -89,13 +89,14 @@ pub const OTHER: &[u8] = b"DMPG\x02\x01\x03\x02\0\x01\0\x0212";
 const JOINT: &[u8] = b"DMPG\x01\0\x02\x01\x01\x02\0\x02\0\x0234\x01\x03\x02\0\x01\0\x0212";
 
 /// The images of the two labels of `1234`, as `print` writes them.
-pub const LABELS: &[u8] =
-    b"P4\n14 14\n\0\0\x55\x50\x42\x38\x4c\x60\x79\xc8\x76\x90\x62\x08\x55\x30\x62\x48\x63\xd0\x4b\x68\x41\xd0\x7f\xf8\0\0\
-    P4\n14 14\n\0\0\x55\x50\x42\x38\x5c\x60\x7c\x88\x74\x40\x7a\x48\x79\xf0\x44\xa8\x4a\x50\x42\x28\x41\x10\x7f\xf8\0\0";
+pub const LABELS: &[u8] = b"P4\n14 14\n\
+    \0\0\x55\x50\x42\x38\x4c\x60\x79\xc8\x76\x90\x62\x08\x55\x30\x62\x48\x63\xd0\x4b\x68\x41\xd0\x7f\xf8\0\0\
+    P4\n14 14\n\
+    \0\0\x55\x50\x42\x38\x5c\x60\x7c\x88\x74\x40\x7a\x48\x79\xf0\x44\xa8\x4a\x50\x42\x28\x41\x10\x7f\xf8\0\0";
 
 /// The first of them.
-pub const LABEL: &[u8] =
-    b"P4\n14 14\n\0\0\x55\x50\x42\x38\x4c\x60\x79\xc8\x76\x90\x62\x08\x55\x30\x62\x48\x63\xd0\x4b\x68\x41\xd0\x7f\xf8\0\0";
+pub const LABEL: &[u8] = b"P4\n14 14\n\
+    \0\0\x55\x50\x42\x38\x4c\x60\x79\xc8\x76\x90\x62\x08\x55\x30\x62\x48\x63\xd0\x4b\x68\x41\xd0\x7f\xf8\0\0";
 
 const SCRIPT: &[u8] =
     b"range 0 9\ndesks 1 4\nprint 0 12 ascii 31323334 -\nscan 0 0 - -\nscan 0 1 - -\n\
@@ -147,11 +148,8 @@ impl Call {
 
     /// Whether its lines go to the standard error, since its output is not of lines.
     pub fn writes_no_lines(self) -> bool {
-        match self {
-            Call::Draw(_) | Call::Print | Call::PrintAuto => true,
-            Call::Deliver | Call::Export(_) | Call::Copy => true,
-            _ => false,
-        }
+        matches!(self, Call::Draw(_) | Call::Print | Call::PrintAuto)
+            || matches!(self, Call::Deliver | Call::Export(_) | Call::Copy)
     }
 }
 

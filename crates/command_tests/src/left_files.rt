@@ -26,11 +26,6 @@ type Content = Option<Vec<u8>>;
 /// The contents of these files, in their order.
 pub type Files = Vec<Content>;
 
-// A copy of a content.
-fn copy_of(alloc: Global, content: Option<&[u8]>) -> Result<Content, AllocError> {
-    content.map(|bytes| bytes.to_vec(alloc)).transpose()
-}
-
 // The content at a place, lent.
 fn content_at(contents: &[Content], place: usize) -> Option<&[u8]> {
     contents.get(place)?.as_deref()
@@ -62,7 +57,7 @@ fn add(
     content: Option<&[u8]>,
 ) -> Result<(), AllocError> {
     if disk.may_leave(name, content) && !left.iter().any(|one| one.as_deref() == content) {
-        left.push(copy_of(alloc, content)?)?;
+        left.push(content.map(|bytes| bytes.to_vec(alloc)).transpose()?)?;
     }
     Ok(())
 }
