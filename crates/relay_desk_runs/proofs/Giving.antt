@@ -27,7 +27,7 @@ use Rattle.relay_desk_runs.proofs.Opened.{IsOpened, as_they_were, at_desk_keeps,
 
 -- ---- exports
 
-export_clean : (labels : List Label) (held : Documents) (id : ℕ) (pages : Pages) → HaveLeft labels held →
+pub export_clean : (labels : List Label) (held : Documents) (id : ℕ) (pages : Pages) → HaveLeft labels held →
     finite.get held id ≡ Some pages → IsCleanExport labels (record { id = id; pages = pages })
 export_clean labels held id pages left there = record {
   pages = λ m bytes is. left.pages id m bytes (page_in held id m pages there ∙ is);

@@ -19,10 +19,10 @@ use Rattle.relay_desk_commands.specs.Desks.{DeskFiles, OnDesk}
 use Rattle.relay_desk_runs.specs.Answered.{GivesPrinted, HoldsPrinted, HasPrinted, IsNearPrinted, IsOfLabel, IsPrintedFile}
 use Rattle.relay_desk_runs.specs.Answered.GivesPrinted.{nothing as gives_nothing, document as gives_document}
 use Rattle.relay_desk_runs.proofs.{Scanning.each_scan_keeps, Importing.each_forget_keeps, Importing.each_import_keeps}
-use Rattle.relay_desk_runs.proofs.Giving.{each_copy_is_printed, each_deliver_is_printed, each_export_is_printed}
+use Rattle.relay_desk_runs.proofs.Giving.{each_copy_is_printed, each_deliver_is_printed, each_export_is_printed, export_clean}
 use Rattle.relay_desk_runs.proofs.Opened.{held_same}
 use Rattle.relay.specs.Program.{Does, path_of}
-use Rattle.relay_program_runs.specs.Law.{At, DeliversPrinted, Halts, IsBlank, LetsOut, PrintsUnder, Ran, SomeRan, TakesPrinted, WritesPrinted, at_its_path, cut_short, exited, passed, passed_at, status_of, writes, writes_nothing}
+use Rattle.relay_program_runs.specs.Law.{At, DeliversPrinted, Halts, IsBlank, LeavesFile, LetsOut, PrintsUnder, Ran, SomeRan, TakesPrinted, WritesPrinted, at_its_path, cut_short, exited, passed, passed_at, status_of, writes, writes_nothing}
 use Rattle.relay_program_runs.specs.Passed.{Passed, passed_by, text_of}
 use Rattle.relay_program_runs.proofs.{Effects.no_documents, Lists.all_so, Lists.before_or_now}
 use Rattle.relay_program_runs.proofs.Printers.{OneMore, Stands, begun, holds, nothing_ran}
@@ -57,6 +57,22 @@ set_more labels more set h = record {
   files = h.files;
   printed = have_more labels more h.held h.printed;
 }
+
+-- ---- the files of a set
+
+file_printed : (labels : List Label) (set : SavedSet) → HoldsPrinted labels set → (key : ℕ) (bytes : List ℕ) →
+    finite.get set.content key ≡ Some bytes → IsPrintedFile labels bytes
+file_printed labels set h key bytes there = of_held (finite.get h.held key) refl
+  where
+    of_held : (found : Option Pages) → finite.get h.held key ≡ found → IsPrintedFile labels bytes
+    of_held None none = absurd (let no_file = h.files.files key ∙ ap (option_map (file key)) none in cc (there, no_file))
+    of_held (Some pages) is = record {
+      id = key;
+      pages = pages;
+      sound = h.files.entries key pages is;
+      is_file = let its_file = h.files.files key ∙ ap (option_map (file key)) is in cc (there, its_file);
+      clean = export_clean labels h.held key pages h.printed is;
+    }
 
 -- ---- an empty set
 
@@ -189,8 +205,8 @@ clean_at A labels printed one command {images} before after (cut_short status do
 -- ---- what is so once commands ran
 
 module _ (A : Type 0) (IsAmong : List ℕ → Type 0) where
-  abbrev Exports : List ℕ → Ran A → Type 0
-  Exports bytes ran = ((passed ran).exported ≡ Some bytes) × IsAmong (path_of ran.command)
+  abbrev Leaves : List ℕ → Ran A → Type 0
+  Leaves bytes ran = LeavesFile bytes ran × IsAmong (path_of ran.command)
 
   abbrev Copies : GridView → Ran A → Type 0
   Copies grid ran = ((passed ran).copied ≡ Some grid) × IsAmong (path_of ran.command)
@@ -202,7 +218,7 @@ module _ (A : Type 0) (IsAmong : List ℕ → Type 0) where
     pub stands : Stands A ranges earlier site
     pub sets : (place : ℕ) (at : At) → slice_get site place ≡ Some at → IsAmong at.path →
         HoldsPrinted stands.relay.labels at.files.set
-    pub exported : (bytes : List ℕ) → SomeRan (Exports bytes) earlier → IsPrintedFile stands.relay.labels bytes
+    pub files : (bytes : List ℕ) → SomeRan (Leaves bytes) earlier → IsPrintedFile stands.relay.labels bytes
     pub copied : (grid : GridView) → SomeRan (Copies grid) earlier → OfLabel stands.relay.labels grid
 
   pub clean_begun : (ranges : List Range) (site : List At) →
@@ -210,7 +226,7 @@ module _ (A : Type 0) (IsAmong : List ℕ → Type 0) where
   clean_begun ranges site blank = record {
     stands = begun A ranges site blank;
     sets = λ place at there among. let b = blank place at there in empty_holds (begun A ranges site blank).relay.labels at.files.set b.set_honest b.set;
-    exported = λ bytes s. absurd (nothing_ran _ s);
+    files = λ bytes s. absurd (nothing_ran _ s);
     copied = λ grid s. absurd (nothing_ran _ s);
   }
 
@@ -256,7 +272,7 @@ module _ (A : Type 0) (IsAmong : List ℕ → Type 0) where
             joint = no_documents c.stands.relay ran.before.files.joint _ (holds A ranges earlier site c.stands ran place found);
           })
           (all_so _ _ (passed ran).scanned near (takes.scans among))
-          (all_so _ _ (passed ran).imported c.exported (takes.imports among))
+          (all_so _ _ (passed ran).imported c.files (takes.imports among))
 
       -- ---- what is delivered
 
@@ -307,9 +323,12 @@ module _ (A : Type 0) (IsAmong : List ℕ → Type 0) where
                 (more_set ran.after.files.set (clean_now (subst (λ (a : At). IsAmong a.path) (sym same.1) among)).set)
             | inr other ↦ more_set at.files.set (c.sets p at other.1 among)
           ];
-          exported = λ bytes some. elim (before_or_now (Exports bytes) earlier ran some) [
-            | inl old ↦ more_file bytes (c.exported bytes old)
-            | inr new ↦ more_file bytes (as_given (IsPrintedFile labels) (passed ran).exported bytes new.0 (clean_now new.1).exported)
+          files = λ bytes some. elim (before_or_now (Leaves bytes) earlier ran some) [
+            | inl old ↦ more_file bytes (c.files bytes old)
+            | inr new ↦ more_file bytes (elim new.0 [
+              | inl exported ↦ as_given (IsPrintedFile labels) (passed ran).exported bytes exported (clean_now new.1).exported
+              | inr left ↦ file_printed labels ran.after.files.set (clean_now new.1).set left.0 bytes left.1
+            ])
           ];
           copied = λ grid some. elim (before_or_now (Copies grid) earlier ran some) [
             | inl old ↦ more_label grid (c.copied grid old)

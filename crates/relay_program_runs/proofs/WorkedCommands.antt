@@ -15,7 +15,7 @@ use Rattle.relay_desk_commands.specs.Desks.{DeskFiles}
 use Rattle.relay_runs.proofs.TicketTexts.{ten_ticket}
 use Rattle.relay_desk_runs.specs.Answered.{grids_scanned}
 use Rattle.relay.specs.Program.{path_of}
-use Rattle.relay_program_runs.specs.Law.{AreApart, MeetsPremises, At, Each, LetsOut, Ran, SomeRan, TakesPrinted, passed}
+use Rattle.relay_program_runs.specs.Law.{AreApart, MeetsPremises, At, Each, LeavesFile, LetsOut, Ran, SomeRan, TakesPrinted, passed}
 use Rattle.relay_program_runs.specs.Worked.{Delivers, IsDone, IsWorked, given, no_files}
 use Rattle.relay_program_runs.proofs.{Images.Is12, Images.scanned_so, Lists.all_so}
 use Rattle.relay_program_runs.proofs.Steps.{Step, also, and_made, blank, cut, exits, new, pairs_so, ran, rans_of, run_so, stops, takes_given, there}
@@ -39,7 +39,7 @@ takes_none {A} {IsAmong} {earlier} no_grid no_file = record {
   scans = λ among. subst (AllByRecursion (λ grid. (own : GridView) × IsNear grid own
       × SomeRan {A = A} (LetsOut IsAmong own) earlier)) (sym no_grid) tt;
   imports = λ among. subst (AllByRecursion (λ bytes. SomeRan {A = A}
-      (λ other. ((passed other).exported ≡ Some bytes) × IsAmong (path_of other.command)) earlier)) (sym no_file) tt;
+      (λ other. LeavesFile bytes other × IsAmong (path_of other.command)) earlier)) (sym no_file) tt;
 }
 
 delivered : {A : Type 0} {f i : Bor (List ℕ)} {x y : DeskFiles} {o path written : List ℕ}
@@ -114,10 +114,10 @@ module _ {A : Type 0} {f1 f2 f3 f4 f5 f6 f7 f8 f9 f10 f11 f12 f13 f14 t i9 i10 i
       (scanned_so A (λ g. g ≡ copied.0) 10 (given no_files o11) 0 r12.after r12.does (copied.0 ∷ []) (copied.2, tt)
       (ap Some copied.3))
 
-  imports : AllByRecursion (λ bytes. SomeRan (λ other. ((passed other).exported ≡ Some bytes) × IsTrue true)
+  imports : AllByRecursion (λ bytes. SomeRan (λ other. LeavesFile bytes other × IsTrue true)
       (before_copy ++ ran r12 ∷ [])) (passed (ran r13)).imported
   imports = import_of_all _ 10 (given e1 o10) 0 r13.after o10 refl short r13.does.0
-      (9, ran r10, refl, (export_done r10, refl))
+      (9, ran r10, refl, (inl (export_done r10), refl))
 
   wrote : IsSomeAnd r7.after.streams.output.contents (λ bytes. 0 < length bytes)
   wrote = subst (λ (o : Option (List ℕ)). IsSomeAnd o (λ bytes. 0 < length bytes)) (sym r7.output_is) more

@@ -31,7 +31,7 @@ pub data Halts (A : Type 0) (command : Command) (images : List (Option (List ℕ
   exited : (status : ℕ) → Does A command images before status after → Halts A command images before after
   cut_short : (status : ℕ) → Does A command images before status after → Halts A command images before after
 
--- A command with its options; the bytes of each file of images that it was given, where they are known; what it found and
+-- A command with its options; the bytes of each file that it was given to read, where they are known; what it found and
 -- what it left: the store at its path, the set beside it, and its streams; and how it ended, with the clause of `do_command`
 -- that says so. `A` is what it allocates in.
 pub record Ran (A : Type 0) : Type 0 where
@@ -114,12 +114,17 @@ abbrev pub LetsOut : {A : Type 0} → (List ℕ → Type 0) → GridView → Ran
 LetsOut IsAmong grid ran = IsSomeAnd (passed ran).printed (λ job. (i : ℕ) × (slice_get job.labels i ≡ Some grid))
     ⊎ (((passed ran).copied ≡ Some grid) × IsAmong (path_of ran.command))
 
--- At one of these paths it took in grids near such labels alone, and files that were exported before at one of these paths.
+-- it exported these bytes; or it left them as the file of a document in the folder at its path, which has the same bytes
+abbrev pub LeavesFile : {A : Type 0} → List ℕ → Ran A → Type 0
+LeavesFile bytes ran = ((passed ran).exported ≡ Some bytes)
+    ⊎ ((key : ℕ) × (finite.get ran.after.files.set.content key ≡ Some bytes))
+
+-- At one of these paths it took in grids near such labels alone, and files that were left before at one of these paths.
 pub record TakesPrinted {A : Type 0} (IsAmong : List ℕ → Type 0) (earlier : List (Ran A)) (ran : Ran A) : Type 0 where
   pub scans : IsAmong (path_of ran.command) → AllByRecursion (λ grid. (own : GridView) × IsNear grid own
       × SomeRan (LetsOut IsAmong own) earlier) (passed ran).scanned
   pub imports : IsAmong (path_of ran.command) → AllByRecursion (λ bytes.
-      SomeRan (λ other. ((passed other).exported ≡ Some bytes) × IsAmong (path_of other.command)) earlier) (passed ran).imported
+      SomeRan (λ other. LeavesFile bytes other × IsAmong (path_of other.command)) earlier) (passed ran).imported
 
 -- ---- conclusions
 

@@ -7,7 +7,7 @@ use Rattle.relay.specs.Program.{named_path, path_of, DoesAt, SystemView, does, d
 use Rattle.relay.specs.Program as program
 use Rattle.relay_program_runs.specs.Law.{AreApart, DeliversPrinted, Each, IsBlank, IsFirstOfItsId, Ran, TakesGiven, TakesPrinted, all_made, exited}
 
--- A line that ran: the bytes of the files of images, by their names, where they are known; its first word; the system before
+-- A line that ran: the bytes of the files to read, by their names, where they are known; its first word; the system before
 -- and after it; and its status, which nobody saw if the machine cut it short. Then it left what it may leave if, from some
 -- point on, each call and each write fails.
 pub record LineRan (A : Type 0) : Type 0 where

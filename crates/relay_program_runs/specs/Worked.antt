@@ -20,7 +20,7 @@ use Rattle.dm_event_history.specs.Headline.{IsApart}
 use Rattle.relay_desk_commands.specs.Desks.{DeskFiles, IsTextOfId, OnDesk}
 use Rattle.relay.specs.Program.{Does, path_of}
 use Rattle.relay_program_runs.specs.Passed.{Made, made_where, text_of}
-use Rattle.relay_program_runs.specs.Law.{AreApart, MeetsPremises, At, DeliversPrinted, Each, IsBlank, IsFirstOfItsId, IsNew, LetsOut, NoIdIsPrintedTwice, PrintsUnder, Ran, RunInTurn, SomeRan, TakesGiven, TakesPrinted, WhatIsDeliveredWasPrinted, WritesPrinted, all_made, at_its_path, passed, status_of}
+use Rattle.relay_program_runs.specs.Law.{AreApart, MeetsPremises, At, DeliversPrinted, Each, IsBlank, IsFirstOfItsId, IsNew, LeavesFile, LetsOut, NoIdIsPrintedTwice, PrintsUnder, Ran, RunInTurn, SomeRan, TakesGiven, TakesPrinted, WhatIsDeliveredWasPrinted, WritesPrinted, all_made, at_its_path, passed, status_of}
 
 -- an input of these bytes, and outputs that nothing was written to
 abbrev pub streams_of_input : List ℕ → StreamsView
@@ -104,7 +104,7 @@ pub record RefusalsCountNot : Type 0 where
 
 -- A command is at the path that it names. A label of a job was let out, and an ID is not printed again, and a
 -- document was read, however the print ended; and what is delivered was printed, however `deliver` ended and whatever
--- is known of its output. Each grid near one that was let out may be taken in.
+-- is known of its output. Each grid near one that was let out may be taken in, and files, of which each was exported or kept.
 pub record SayAtLeast (A : Type 0) : Type 0 where
   pub place : (ran : Ran A) (files : DeskFiles) → (at_its_path ran files).path ≡ path_of ran.command
   pub label : (among : List ℕ → Bool) (ran : Ran A) (job : JobView) (i : ℕ) (grid : GridView) →
@@ -120,6 +120,13 @@ pub record SayAtLeast (A : Type 0) : Type 0 where
       (ran.after.streams.output ≡ ran.before.streams.output)
       ⊎ ((id : ℕ) × (document : List ℕ) × IsTextOfId text id × SomeRan (PrintsUnder id document) earlier
       × AppendsPart ran.before.streams.output.contents ran.after.streams.output.contents document)
+  pub exported : (bytes : List ℕ) (ran : Ran A) → (passed ran).exported ≡ Some bytes → LeavesFile bytes ran
+  pub kept : (key : ℕ) (bytes : List ℕ) (ran : Ran A) → finite.get ran.after.files.set.content key ≡ Some bytes →
+      LeavesFile bytes ran
+  pub files : (among : List ℕ → Bool) (earlier : List (Ran A)) (ran : Ran A) (one other : List ℕ) →
+      SomeRan (λ its. LeavesFile one its × IsTrue (among (path_of its.command))) earlier →
+      SomeRan (λ its. LeavesFile other its × IsTrue (among (path_of its.command))) earlier → (passed ran).scanned ≡ [] →
+      (passed ran).imported ≡ one ∷ other ∷ [] → TakesPrinted (λ path. IsTrue (among path)) earlier ran
 
 -- ---- each premise is needed
 
@@ -160,7 +167,7 @@ abbrev pub NeedsLabels : Type 0 → Type 0
 NeedsLabels A = Breaks A RunInTurn AreApart (λ earlier ran. TakesGiven earlier ran × ((passed ran).imported ≡ []))
     (DeliversPrinted (λ path. IsTrue true))
 
--- a file is taken in that no export of the list gave, and no label
+-- a file is taken in that no command of the list left, and no label
 abbrev pub NeedsExports : Type 0 → Type 0
 NeedsExports A = Breaks A RunInTurn AreApart (λ earlier ran. TakesGiven earlier ran × ((passed ran).scanned ≡ []))
     (DeliversPrinted (λ path. IsTrue true))

@@ -7,7 +7,7 @@ use Rattle.relay_streams.specs.Streams.{AppendsPart, InputView}
 use Rattle.relay_shared.specs.Command.{ReadsDocument}
 use Rattle.relay_desk_commands.specs.Desks.{IsTextOfId}
 use Rattle.relay.specs.Program.{path_of}
-use Rattle.relay_program_runs.specs.Law.{IsFirstOfItsId, LetsOut, PrintsUnder, Ran, SomeRan, TakesPrinted, WritesPrinted, passed, writes, writes_nothing}
+use Rattle.relay_program_runs.specs.Law.{IsFirstOfItsId, LeavesFile, LetsOut, PrintsUnder, Ran, SomeRan, TakesPrinted, WritesPrinted, passed, writes, writes_nothing}
 use Rattle.relay_program_runs.proofs.laws.at_least.Goals as goal
 
 as_one : {X : Type 0} (P : X → Type 0) (o : Option X) (x : X) → o ≡ Some x → IfSome o P → P x
@@ -24,7 +24,18 @@ takes_near A IsAmong earlier ran own grid near out scanned no_file = record {
   scans = λ among. subst (AllByRecursion (λ grid. (own : GridView) × IsNear grid own
       × SomeRan {A = A} (LetsOut IsAmong own) earlier)) (sym scanned) ((own, near, out), tt);
   imports = λ among. subst (AllByRecursion (λ bytes. SomeRan {A = A}
-      (λ other. ((passed other).exported ≡ Some bytes) × IsAmong (path_of other.command)) earlier)) (sym no_file) tt;
+      (λ other. LeavesFile bytes other × IsAmong (path_of other.command)) earlier)) (sym no_file) tt;
+}
+
+takes_files : (A : Type 0) (IsAmong : List ℕ → Type 0) (earlier : List (Ran A)) (ran : Ran A) (one other : List ℕ) →
+    SomeRan (λ its. LeavesFile one its × IsAmong (path_of its.command)) earlier →
+    SomeRan (λ its. LeavesFile other its × IsAmong (path_of its.command)) earlier → (passed ran).scanned ≡ [] →
+    (passed ran).imported ≡ one ∷ other ∷ [] → TakesPrinted IsAmong earlier ran
+takes_files A IsAmong earlier ran one other left_one left_other no_grid imported = record {
+  scans = λ among. subst (AllByRecursion (λ grid. (own : GridView) × IsNear grid own
+      × SomeRan {A = A} (LetsOut IsAmong own) earlier)) (sym no_grid) tt;
+  imports = λ among. subst (AllByRecursion (λ bytes. SomeRan {A = A}
+      (λ its. LeavesFile bytes its × IsAmong (path_of its.command)) earlier)) (sym imported) (left_one, (left_other, tt));
 }
 
 no_other : (A : Type 0) (earlier : List (Ran A)) (ran : Ran A) (job : JobView) → IsFirstOfItsId earlier ran →
@@ -51,4 +62,7 @@ returns g c = record {
   first = no_other _;
   read = was_read _;
   written = was_printed _;
+  exported = λ bytes ran is. inl is;
+  kept = λ key bytes ran is. inr (key, is);
+  files = λ among. takes_files _ _;
 }
