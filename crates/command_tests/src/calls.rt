@@ -46,6 +46,8 @@ pub enum Call {
     Export(&'static str),
     /// What it reads.
     Import(&'static [u8]),
+    /// Files of two documents, which its line names.
+    ImportFiles,
     /// An ID, or none for all.
     Held(Option<&'static str>),
     Copy,
@@ -71,8 +73,10 @@ const COPY: CopyOptions<'static> = CopyOptions { id: ID, page: 2, side: 12, sche
 
 const CAPACITY: u16 = 4;
 
-// The images come on the input.
-const NO_IMAGES: [&[u8]; 0] = [];
+// The images, and pages, come on the input.
+const NO_FILES: [&[u8]; 0] = [];
+
+const TWO_FILES: [&[u8]; 2] = [OTHER, BOTH];
 
 /// The file of printer 0 with the IDs 0 to 9.
 pub const NEW_LEDGER: &[u8] = b"DMLG\x02\0\0\0\0\x01\0\0\0\x09\0\xff\xf5";
@@ -162,7 +166,7 @@ fn of_streams<A: Allocator + Copy, R: Read, W: Write, E: Write>(
     match call {
         Call::Words => words_command(memory, streams, FORM),
         Call::Draw(is_plain) => draw_command(memory, streams, FORM, is_plain),
-        Call::Read => read_command(memory, &NO_IMAGES, streams),
+        Call::Read => read_command(memory, &NO_FILES, streams),
         Call::Plan => plan_command(memory, streams, Scheme::Ascii),
         Call::Ticket => ticket_command(streams, TICKET),
         _ => world_command(memory, streams),
@@ -197,11 +201,14 @@ fn of_desk<A: Allocator + Copy, S: Store, T: StoreSet, R: Read, W: Write, E: Wri
     call: Call,
 ) -> u8 {
     match call {
-        Call::Scan(_) => scan_command(memory, store, set, &NO_IMAGES, streams, CAPACITY).status,
+        Call::Scan(_) => scan_command(memory, store, set, &NO_FILES, streams, CAPACITY).status,
         Call::Deliver => deliver_command(memory, store, set, streams, ID).status,
         Call::Forget(id) => forget_command(memory, store, set, streams, id).status,
         Call::Export(id) => export_command(memory, store, set, streams, id).status,
-        Call::Import(_) => import_command(memory, store, set, streams, CAPACITY).status,
+        Call::Import(_) => import_command(memory, store, set, &NO_FILES, streams, CAPACITY).status,
+        Call::ImportFiles => import_command(
+            memory, store, set, &TWO_FILES, streams, CAPACITY,
+        ).status,
         Call::Held(id) => held_command(store, set, streams, id).status,
         Call::Copy => copy_command(memory, store, set, streams, COPY).status,
         _ => u8::from(store.replace(JOINT).is_err()),

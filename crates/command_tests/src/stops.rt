@@ -39,6 +39,8 @@ const ADDED_SECOND: &[u8] = b"0101 2 added 0002 complete\n";
 
 const ADDED_NONE: &[u8] = b"0101 2 added 0000 again\n";
 
+const OTHER_ADDED: &[u8] = b"0103 2 added 0001 new\n";
+
 const OTHER_ADDED_NONE: &[u8] = b"0103 2 added 0000 again\n";
 
 const OTHER_IS_HELD: Look = (Call::Import(OTHER), &[OTHER_ADDED_NONE, OTHER_ADDED_NONE]);
@@ -53,15 +55,23 @@ const CASES: &[Case] = &[
     (&[Call::Ledger], Call::Take, &[(Call::Take, &[b"taken left 12\n", b"refused Old\n"])]),
     (&[], Call::Scan(LABELS), &[(Call::Import(BOTH), &[ADDED_BOTH, ADDED_SECOND, ADDED_NONE])]),
     (&[Call::Scan(LABEL)], Call::Import(BOTH), &[(Call::Import(BOTH), &[ADDED_SECOND, ADDED_NONE])]),
+    (&[], Call::ImportFiles, &[
+        (Call::Import(BOTH), &[ADDED_BOTH, ADDED_BOTH, ADDED_NONE]),
+        (Call::Import(OTHER), &[OTHER_ADDED, OTHER_ADDED_NONE, OTHER_ADDED_NONE]),
+    ]),
     (&[Call::Import(BOTH)], Call::Forget("0101"), &[(Call::Import(BOTH), &[ADDED_NONE, ADDED_BOTH])]),
     // The documents of the joint file are moved first: the second page of the one, and a page of another.
     (&[Call::Joint], Call::Import(BOTH), &[(Call::Import(BOTH), &[ADDED_FIRST, ADDED_NONE]), OTHER_IS_HELD]),
     (&[Call::Joint], Call::Forget("0101"), &[(Call::Import(BOTH), &[ADDED_FIRST, ADDED_BOTH]), OTHER_IS_HELD]),
 ];
 
-// How many saves a command answers: a scan is of two labels.
+// How many saves a command answers: a scan is of two labels, an import of files of two files.
 fn saves_of(call: Call) -> u8 {
-    if matches!(call, Call::Scan(_)) { 2 } else { 1 }
+    if matches!(call, Call::Scan(_) | Call::ImportFiles) {
+        2
+    } else {
+        1
+    }
 }
 
 // How many saves it has answered: those of its lines that are no refusal.

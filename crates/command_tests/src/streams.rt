@@ -1,11 +1,12 @@
 //! Each command over readers and writers that fail, or are interrupted, after each number of bytes.
 
 use crate::calls::{
-    BOTH, CALLS, Call, CallEnd, LABEL, LABELS, Whole, alone, alone_whole, is_whole, made,
+    BOTH, CALLS, Call, CallEnd, LABEL, LABELS, OTHER, Whole, alone, alone_whole, is_whole, made,
     made_over, streams_of,
 };
 use crate::machine::Machine;
-use dm_store::Kept;
+use dm_store::{Kept, MemSet, MemStore};
+use relay_desk_commands::{held_command, import_command};
 use relay_shared::Streams;
 use std::alloc::Global;
 use std::test::Fail;
@@ -162,5 +163,22 @@ fn an_unread_import_is_refused_before_any_file(rt: HostRuntime) -> Result<(), Fa
         let is_refused = ended.is_refused(call, b"refused Read\n");
         assert!(rt; is_refused && !ended.has_stopped, "{passes}");
     }
+    Ok(())
+}
+
+// What is said of a file, of one that is damaged, and of the first again; and then of what is held.
+const IMPORTED: &[u8] =
+    b"0103 2 added 0001 new\nrefused Damaged\n0103 2 added 0000 again\n0103 2 lacks 2\n";
+
+#[test]
+fn a_refused_file_ends_no_import(rt: HostRuntime) -> Result<(), Fail> {
+    let alloc = rt.alloc();
+    let (store, set) = (MemStore::new(alloc), MemSet::new(alloc));
+    let mut streams = streams_of(alloc, BOTH);
+    let files = [OTHER, b"DMPG\x02".as_slice(), OTHER];
+    let ended = import_command(alloc, store, set, &files, &mut streams, 1);
+    let held = held_command(ended.store, ended.set, &mut streams, None);
+    let lines = streams.output.into_writer();
+    assert!(rt; (ended.status, held.status) == (1, 0) && lines.as_slice() == IMPORTED);
     Ok(())
 }
