@@ -78,7 +78,8 @@ pub static EXPLANATIONS: [&str; 45] = [
     The save failed, perhaps because the folder is missing or the lock file was\n  \
     removed. The ID or the range may be used up, the page held, the document\n  \
     forgotten; nothing was printed or given.\n  \
-    What to do: read the line `relay: PATH: WHY`, and run the command again.\n",
+    What to do: read the line `relay: PATH: WHY`, mend that, and run the command\n  \
+    again; a file that `--to` names must not be there yet.\n",
     "Write\n  From: all; `read` and `scan` write no line.\n  \
     The output refused a write. What was saved stays saved: the ledger is made,\n  \
     the ID used, the range given or taken, the pages held, the document\n  forgotten.\n  \
@@ -102,8 +103,8 @@ pub static EXPLANATIONS: [&str; 45] = [
     What to do: read the line `relay: FILE: NAME`. Move that file away, and scan\n  \
     its labels again. Meanwhile `held` lists the other documents.\n",
     "Exhausted\n  From: `print`.\n  No ID is free.\n  What to do: `give` some from another printer.\n",
-    "NotFree\n  From: `give`.\n  An ID of the range is not free here, or for `--count` not so many free IDs\n  \
-    follow one another.\n  What to do: give another range, or as many as the line `relay: the longest\n  \
+    "NotFree\n  From: `give`.\n  An ID of the range is not free here; for `--count`, no range of free IDs is\n  \
+    that long.\n  What to do: give another range, or as many as the line `relay: the longest\n  \
     range ..` says; `left` prints which are free.\n",
     "Serials\n  From: `give`.\n  The printer has given 65,535 tickets, the most that it can.\n  \
     What to do: give from another printer.\n",
@@ -119,8 +120,10 @@ pub static EXPLANATIONS: [&str; 45] = [
     "NotHeld\n  From: `deliver`, `export`, `copy`, `forget`, `held --id`.\n  \
     The desk holds no page of the document.\n  What to do: check `--id` and `--file`.\n",
     "Incomplete\n  From: `deliver`, `copy`.\n  \
-    The desk is missing a page of the document; for `copy`, the page asked for.\n  \
-    What to do: scan its other labels, or import its pages. `held` says which\n  are missing.\n",
+    The desk lacks a page of the document; for `copy`, it lacks the page asked\n  \
+    for, or the document has no such page.\n  \
+    What to do: scan its other labels, or import its pages. `held` says which\n  \
+    are missing, and how many there are.\n",
     "Script\n  The input is not a script; no event was played.\n",
     "Failed\n  A save of this printer or desk failed, and it has not been restarted since.\n",
 ];

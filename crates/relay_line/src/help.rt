@@ -26,10 +26,10 @@ pub const PROGRAM: Page = Page {
     rows: &[],
     more: "\
 Without a command, relay does `words` with its defaults. `relay help COMMAND`
-and `relay COMMAND --help` say more of each.
+and `relay COMMAND --help` say more about each.
 
 Exit status: 0 where all was done; 1 where something was refused or found, as
-`refused NAME`, `file NAME FAULT` or a line of `audit` says, or where the output
+`refused NAME`, `file NAME FAULT` or a line of `audit` says, or the output
 failed; 2 where the command line was refused; 3 where the script `./relay` could
 not build the program. `relay explain NAME` says what a refusal means.",
 };
@@ -126,8 +126,8 @@ standard output, as packed PBM images one after another. A label that is lost
 can be drawn again by `copy`, at a desk that holds its page; a document that is
 printed again gets another ID.
 
-A label holds four codewords less than a symbol: at side 18 28 digits or 12
-bytes, at side 132 2600 digits or 1297 bytes. A refusal goes to standard error.
+A label holds four codewords fewer than a symbol: 28 digits or 12 bytes at side
+18, and 2600 digits or 1297 bytes at side 132. A refusal goes to standard error.
 
 Example:
   relay print --file north.ledger --number 1 --side 52 < letter > labels.pbm",
@@ -210,8 +210,8 @@ Example:
 Reads ledgers, and from standard input tickets, one a line, in either form. For
 each two that break what printers rely on it prints a line:
   number A B        two ledgers are of one printer
-  free A B          an ID is free in both, or free in A and on the
-                    ticket B that its printer has not taken, or on two of those
+  free A B          an ID is free in both; a ticket's IDs are free on it
+                    until its receiver has taken it
   again A B         one serial of a printer was given twice
   behind A B        ledger A is an older state: by B its printer has given more,
                     or, in another ledger of that printer, has taken more
