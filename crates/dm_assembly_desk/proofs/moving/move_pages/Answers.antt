@@ -22,6 +22,12 @@ as_it_was : {old : Saved} {set : SavedSet} {result : Result ℕ MoveFault} {old_
 as_it_was {old} {set} {result} {old_after} {set_after} same ends =
     subst (λ (s : Saved). Moves old set result s set_after) (sym same) ends
 
+-- an honest store was loaded so
+loaded_as : {shown items : List ℕ} (old : Saved) → shown ≡ items →
+    (IsTrue old.is_honest → Some items ≡ option_map (take (42636295 + 1)) old.content) → IsTrue old.is_honest →
+    Some shown ≡ option_map (take (42636295 + 1)) old.content
+loaded_as old same loads honest = ap (λ (bs : List ℕ). Some bs) same ∙ loads honest
+
 pub returns-in_err-bytes : goal.returns-in_err-bytes
 returns-in_err-bytes g c = grind (arith, err_from_is_err_and, ends_so, not_loaded)
 
@@ -32,10 +38,8 @@ returns-in_default g c =
 
 pub returns-in_err-count : goal.returns-in_err-count
 returns-in_err-count g c =
-    let loaded : IsTrue (g.O.Store.state c.args.old.now).is_honest →
-    Some c.deref.result.now ≡ option_map (take (42636295 + 1)) (g.O.Store.state c.args.old.now).content =
-    λ honest. ap (λ (bs : List ℕ). Some bs) c.deref.ensures.value ∙
-    (rw c.in-Some.is at (c.in_ok-bytes.ensures.loads.saved honest)) in
+    let loaded = loaded_as (g.O.Store.state c.args.old.now) c.deref.ensures.value
+    (λ honest. rw c.in-Some.is at (c.in_ok-bytes.ensures.loads.saved honest)) in
     let answered = err_from_is_err_and c.from_residual-in_err-count.result c.from_residual-in_err-count.ensures.1 in
     ends_so c.from_residual-in_err-count.result answered.0 _ answered.1 answered.2
     (early (not_joint (g.O.Store.state c.args.old.now) (g.S.StoreSet.state c.args.set.now) c.deref.result.now loaded c.in_err-count.field-0.0 c.in_err-count.ensures.fault)
@@ -43,19 +47,15 @@ returns-in_err-count g c =
 
 pub returns-then-count-eq0 : goal.returns-then-count-eq0
 returns-then-count-eq0 g c =
-    let loaded : IsTrue (g.O.Store.state c.args.old.now).is_honest →
-    Some c.deref.result.now ≡ option_map (take (42636295 + 1)) (g.O.Store.state c.args.old.now).content =
-    λ honest. ap (λ (bs : List ℕ). Some bs) c.deref.ensures.value ∙
-    (rw c.in-Some.is at (c.in_ok-bytes.ensures.loads.saved honest)) in
+    let loaded = loaded_as (g.O.Store.state c.args.old.now) c.deref.ensures.value
+    (λ honest. rw c.in-Some.is at (c.in_ok-bytes.ensures.loads.saved honest)) in
     early (none_there (g.O.Store.state c.args.old.now) (g.S.StoreSet.state c.args.set.now) c.deref.result.now loaded c.in_ok-count.count c.in_ok-count.entries.now
     c.in_ok-count.ensures.found c.if-count-eq0.true) c.load.ensures.loads.same refl
 
 pub returns-in_err-keys : goal.returns-in_err-keys
 returns-in_err-keys g c =
-    let loaded : IsTrue (g.O.Store.state c.args.old.now).is_honest →
-    Some c.deref.result.now ≡ option_map (take (42636295 + 1)) (g.O.Store.state c.args.old.now).content =
-    λ honest. ap (λ (bs : List ℕ). Some bs) c.deref.ensures.value ∙
-    (rw c.in-Some.is at (c.in_ok-bytes.ensures.loads.saved honest)) in
+    let loaded = loaded_as (g.O.Store.state c.args.old.now) c.deref.ensures.value
+    (λ honest. rw c.in-Some.is at (c.in_ok-bytes.ensures.loads.saved honest)) in
     let answered = err_from_is_err_and c.from_residual-in_err-keys.result c.from_residual-in_err-keys.ensures.1 in
     ends_so c.from_residual-in_err-keys.result answered.0 _ answered.1 answered.2
     (early (no_keys (g.O.Store.state c.args.old.now) (g.S.StoreSet.state c.args.set.now) c.deref.result.now loaded c.in_ok-count.count c.in_ok-count.entries.now
@@ -65,10 +65,8 @@ returns-in_err-keys g c =
 
 pub returns-in_err-settle : goal.returns-in_err-settle
 returns-in_err-settle g c =
-    let loaded : IsTrue (g.O.Store.state c.args.old.now).is_honest →
-    Some c.deref.result.now ≡ option_map (take (42636295 + 1)) (g.O.Store.state c.args.old.now).content =
-    λ honest. ap (λ (bs : List ℕ). Some bs) c.deref.ensures.value ∙
-    (rw c.in-Some.is at (c.in_ok-bytes.ensures.loads.saved honest)) in
+    let loaded = loaded_as (g.O.Store.state c.args.old.now) c.deref.ensures.value
+    (λ honest. rw c.in-Some.is at (c.in_ok-bytes.ensures.loads.saved honest)) in
     let settles = rw c.keys.ensures.lists.same at c.in_err-settle.ensures.settles in
     let answered = err_from_is_err_and c.from_residual-in_err-settle.result c.from_residual-in_err-settle.ensures.1 in
     ends_so c.from_residual-in_err-settle.result answered.0 _ answered.1 answered.2
@@ -82,9 +80,8 @@ returns-in_err-written g c =
     let old : Saved = g.O.Store.state c.args.old.now in
     let set : SavedSet = g.S.StoreSet.state c.args.set.now in
     let after : SavedSet = g.S.StoreSet.state c.move_entries.new.set in
-    let loaded : IsTrue old.is_honest → Some c.deref.result.now ≡ option_map (take (42636295 + 1)) old.content =
-    λ honest. ap (λ (bs : List ℕ). Some bs) c.deref.ensures.value ∙
-    (rw c.in-Some.is at (c.in_ok-bytes.ensures.loads.saved honest)) in
+    let loaded = loaded_as (g.O.Store.state c.args.old.now) c.deref.ensures.value
+    (λ honest. rw c.in-Some.is at (c.in_ok-bytes.ensures.loads.saved honest)) in
     let ks : List ℕ = c.deref-3.result.now in
     let known : IsTrue set.is_honest → ks ≡ map_keys set.content = λ honest.
     all_of_them set.content ks (λ i. rw (c.deref-3.ensures.value ∙ sym c.deref-2.ensures.value) (c.keys_fit.ensures i))
@@ -104,9 +101,8 @@ returns-in_err-replace g c =
     let old : Saved = g.O.Store.state c.args.old.now in
     let set : SavedSet = g.S.StoreSet.state c.args.set.now in
     let after : SavedSet = g.S.StoreSet.state c.move_entries.new.set in
-    let loaded : IsTrue old.is_honest → Some c.deref.result.now ≡ option_map (take (42636295 + 1)) old.content =
-    λ honest. ap (λ (bs : List ℕ). Some bs) c.deref.ensures.value ∙
-    (rw c.in-Some.is at (c.in_ok-bytes.ensures.loads.saved honest)) in
+    let loaded = loaded_as (g.O.Store.state c.args.old.now) c.deref.ensures.value
+    (λ honest. rw c.in-Some.is at (c.in_ok-bytes.ensures.loads.saved honest)) in
     let ks : List ℕ = c.deref-3.result.now in
     let known : IsTrue set.is_honest → ks ≡ map_keys set.content = λ honest.
     all_of_them set.content ks (λ i. rw (c.deref-3.ensures.value ∙ sym c.deref-2.ensures.value) (c.keys_fit.ensures i))
@@ -131,9 +127,8 @@ returns g c =
     let old : Saved = g.O.Store.state c.args.old.now in
     let set : SavedSet = g.S.StoreSet.state c.args.set.now in
     let after : SavedSet = g.S.StoreSet.state c.move_entries.new.set in
-    let loaded : IsTrue old.is_honest → Some c.deref.result.now ≡ option_map (take (42636295 + 1)) old.content =
-    λ honest. ap (λ (bs : List ℕ). Some bs) c.deref.ensures.value ∙
-    (rw c.in-Some.is at (c.in_ok-bytes.ensures.loads.saved honest)) in
+    let loaded = loaded_as (g.O.Store.state c.args.old.now) c.deref.ensures.value
+    (λ honest. rw c.in-Some.is at (c.in_ok-bytes.ensures.loads.saved honest)) in
     let ks : List ℕ = c.deref-3.result.now in
     let known : IsTrue set.is_honest → ks ≡ map_keys set.content = λ honest.
     all_of_them set.content ks (λ i. rw (c.deref-3.ensures.value ∙ sym c.deref-2.ensures.value) (c.keys_fit.ensures i))
