@@ -1,10 +1,10 @@
 -- What a store that holds the file of a ledger opens as, and what it holds after a call.
-use Rattle.std.proofs.Common.{◌≡◌, ◌⊎◌, inl, inr, true, false, ℕ, Bool, List, Option, Some, Result, Ok, Err, refl, sym, ap, ◌∙◌, arith}
-use Rattle.std.specs.Prelude.{IsTrue, ◌==◌, if◌then◌else◌}
+use Rattle.std.proofs.Common.{◌≡◌, ◌⊎◌, inl, inr, true, false, ℕ, List, Option, Some, Result, Ok, Err, refl, sym, ap, ◌∙◌, arith}
+use Rattle.std.specs.Prelude.{IsTrue}
 use Rattle.std.proofs.lemmas.Bool.Decides.{nat_tests}
 use Rattle.dm_store.specs.Saved.{Saved}
 use Rattle.dm_print_ledger.specs.declared.fault.OpenFault.{OpenFault}
-use Rattle.dm_print_ledger.specs.declared.fault.OpenFault.TheVariants.{Number, Device, Memory}
+use Rattle.dm_print_ledger.specs.declared.fault.OpenFault.TheVariants.{Device, Memory}
 use Rattle.dm_print_ledger.specs.Ledger.{LedgerView, PrinterView, is_sound, ledger_bytes, running, shown_of}
 use Rattle.dm_print_ledger.specs.Verdicts.{CarriesOut, HoldsLedger, PrinterOpens, numbered, open_verdict}
 use Rattle.dm_print_ledger.specs.Verdicts as verdicts
@@ -15,25 +15,10 @@ use Rattle.relay_runs.proofs.Plans.{old_or_new}
 
 -- ---- opened
 
-same_by : (a b : ℕ) → (a == b) ≡ true → a ≡ b
-same_by a b is = grind (arith, nat_tests, is)
-
 -- a ledger opens for its own number alone
 pub opens_own : (l ledger : LedgerView) (number : ℕ) → numbered number (Ok (shown_of l)) ≡ Ok ledger →
     (number ≡ l.number) × (ledger ≡ l)
-opens_own l ledger number is = by_test (l.number == number) refl is
-  where
-    by_test : (b : Bool) → (l.number == number) ≡ b →
-        (if b then Ok (record { number = number; next_serial = l.next_serial; free = l.free; givers = l.givers })
-        else Err Number) ≡ Ok ledger → (number ≡ l.number) × (ledger ≡ l)
-    by_test true e at =
-        let same : l.number ≡ number = same_by l.number number e in
-        let own : record { number = number; next_serial = l.next_serial; free = l.free; givers = l.givers } ≡ ledger = cc (at) in (
-          sym same,
-          sym own ∙ ap (λ (n : ℕ). record { number = n; next_serial = l.next_serial; free = l.free; givers = l.givers })
-              (sym same),
-        )
-    by_test false e at = cc (at)
+opens_own l ledger number is = grind (arith, nat_tests)
 
 -- the file of a sound ledger opens as that
 pub file_opens : (content : Option (List ℕ)) (l : LedgerView) (number : ℕ) → is_sound l ≡ true →
@@ -68,19 +53,19 @@ pub record HoldsFile (saved : Saved) : Type 0 where
   pub content : saved.content ≡ Some (ledger_bytes ledger)
 
 module _ {X F may_lack : Type 0} (failed memory save : F) (verdict : Result LedgerView F) (old new : PrinterView)
-    (answer : Result X F) (runs : old.is_failed ≡ false) (honest : IsTrue old.saved.is_honest) (file : HoldsFile old.saved)
+    (actor : Actor LedgerView) (answer : Result X F) (runs : old.is_failed ≡ false) (keeps : KeepsLedger old.saved actor)
     (carries : CarriesOut failed memory save may_lack verdict old answer new) where
   still : (saved : Saved) → saved.content ≡ old.saved.content → HoldsFile saved
-  still saved same = record { ledger = file.ledger; sound = file.sound; content = same ∙ file.content }
+  still saved same = record { ledger = stored_of actor; sound = keeps.sound; content = same ∙ keeps.content }
 
   saved_file : (next : LedgerView) → is_sound next ≡ true → (a : Result X F) →
       verdicts.SavesLedger may_lack memory save next old a new → HoldsFile new.saved
   saved_file next sound (Ok x) does =
-      record { ledger = next; sound = sound; content = does.0.done refl honest }
+      record { ledger = next; sound = sound; content = does.0.done refl keeps.honest }
   saved_file next sound (Err fault) (inl lack) = still new.saved (ap (λ (v : PrinterView). v.saved.content) lack.2)
   saved_file next sound (Err fault) (inr fails) =
       elim (old_or_new old.saved.save_plan old.saved.content (Some (ledger_bytes next)) new.saved.content
-      (fails.1.faulted refl honest)) [
+      (fails.1.faulted refl keeps.honest)) [
         | inl is_old ↦ still new.saved is_old
         | inr is_new ↦ record { ledger = next; sound = sound; content = is_new }
       ]

@@ -6,9 +6,7 @@ pub mod Printing
 pub mod PrintTold
 pub mod Uncalled
 pub mod EachPrint
-pub mod Giving
 pub mod EachGive
 pub mod TicketTexts
-pub mod Taking
 pub mod EachTake
 pub mod Ledgers

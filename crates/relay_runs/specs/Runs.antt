@@ -8,11 +8,9 @@ use Rattle.dm_print_ledger.specs.declared.fault.TakeFault.{TakeFault, TheVariant
 use Rattle.dm_print_ledger.specs.declared.range.Range.{Range}
 use Rattle.dm_print_ledger.specs.Ledger.{JobView, TicketView, LedgerView, is_sound, ledger_bytes}
 use Rattle.relay_command.specs.declared.command.Labels.{Labels}
-use Rattle.relay_printer_commands.specs.Printers.{EndsPrint, PrintsDocument, EndsGive, EndsGiveLast, EndsTake, OnLedger}
-use Rattle.relay_printer_commands.specs.Printers.EndsPrint.{no_side, not_read, too_long, read}
+use Rattle.relay_printer_commands.specs.Printers.{EndsPrint, PrintsDocument, EndsGive, EndsGiveLast, EndsTake, OnLedger, EndsPrint.no_side, EndsPrint.not_read, EndsPrint.too_long, EndsPrint.read, EndsGiveLast.gave, EndsGiveLast.too_few, EndsGiveLast.unopened}
 use Rattle.relay_printer_commands.specs.Printers.PrintsDocument.{opened as print_opened, not_opened as print_not_opened}
 use Rattle.relay_printer_commands.specs.Printers.EndsGive.{opened as give_opened, not_opened as give_not_opened}
-use Rattle.relay_printer_commands.specs.Printers.EndsGiveLast.{gave, too_few, unopened}
 use Rattle.relay_printer_commands.specs.Printers.EndsTake.{no_ticket, opened as take_opened, not_opened as take_not_opened}
 use Rattle.dm_finder_frame.specs.Frame.{GridView}
 use Rattle.dm_store.specs.Saved.{Saved}
