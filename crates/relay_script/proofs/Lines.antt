@@ -1,25 +1,24 @@
 -- Lists of texts that are read one after another, and the last line end of a text.
-use Rattle.std.proofs.Common.{◌≡◌, ◌≢◌, ℕ, zero, suc, ◌+◌, ◌-◌, ◌<◌, ◌≤◌, List, [], ◌∷◌, ◌++◌, length, take, drop, get_or, Option, Some, None, Bor, true, false, refl, arith, codes}
-use Rattle.std.proofs.lemmas.{Grind.common_steps, Slice.Zip.all_zipped_more}
-use Rattle.std.specs.{Prelude.nat_eq, List.AllZip, List.position, List.position_or_len, List.starts_with, Option.MatchOption, Option.unwrap_or}
-use Rattle.std.proofs.lemmas.List.{drop-map, get_or-map, map_more, take-map, take_rest}
+use Rattle.std.proofs.Common.{◌≡◌, ◌≢◌, ℕ, zero, suc, ◌+◌, ◌-◌, ◌<◌, ◌≤◌, List, [], ◌∷◌, ◌++◌, length, take, get_or, Option, Some, None, Bor, cond, nat_lt, true, false, refl, arith}
+use Rattle.std.proofs.lemmas.{Grind.common_steps, List.map-append, Slice.Zip.all_zipped_more}
+use Rattle.std.specs.{List.AllZip, Option.MatchOption, Option.unwrap_or}
 use Rattle.std.specs.Io.BufRead.{strip_last, ends_with_byte}
-use Rattle.relay_script.specs.{Words.texts, Words.Nothing, Scripts.desks_place}
+use Rattle.relay_script.specs.Words.{Nothing, texts}
 
 -- one more is read
-pub one_more_read : {B : Type 0} (R : List ℕ → B → Type 0) (parts : List (Bor (List ℕ))) (ys : List B) (i : ℕ)
-    (d : Bor (List ℕ)) (y : B) → i < length parts → AllZip R (texts (take i parts)) ys → R (get_or parts i d).now y
-    → AllZip R (texts (take (i + 1) parts)) (ys ++ y ∷ [])
-one_more_read R parts ys i d y below so_far at =
-    rw (map_more (λ (part : Bor (List ℕ)). part.now) parts i d below) (all_zipped_more R _ _ _ _ so_far at)
+pub one_more : {B : Type 0} (R : List ℕ → B → Type 0) (parts : List (Bor (List ℕ))) (ys : List B)
+    (part : Bor (List ℕ)) (y : B) → AllZip R (texts parts) ys → R part.now y
+    → AllZip R (texts (parts ++ part ∷ [])) (ys ++ y ∷ [])
+one_more R parts ys part y so_far at =
+    rw (map-append (λ (part : Bor (List ℕ)). part.now) parts (part ∷ [])) (all_zipped_more R _ _ _ _ so_far at)
 
 -- one text that nothing fits is enough
-pub none_at : {B : Type 0} (R : List ℕ → B → Type 0) (parts : List (Bor (List ℕ))) (ys : List B) (i : ℕ)
-    (d : Bor (List ℕ)) → i < length parts → Nothing (R (get_or parts i d).now) → ¬ AllZip R (texts parts) ys
-none_at R [] ys i d below none all = absurd (omega arith)
-none_at R (part ∷ parts) [] i d below none all = all
-none_at R (part ∷ parts) (y ∷ ys) zero d below none all = none y all.0
-none_at R (part ∷ parts) (y ∷ ys) (suc i) d below none all = none_at R parts ys i d (omega arith) none all.1
+pub none_at : {B : Type 0} (R : List ℕ → B → Type 0) (texts : List (List ℕ)) (ys : List B) (i : ℕ) (text : List ℕ)
+    → i < length texts → text ≡ get_or texts i text → Nothing (R text) → ¬ AllZip R texts ys
+none_at R [] ys i text below is none all = absurd (omega arith)
+none_at R (x ∷ texts) [] i text below is none all = all
+none_at R (x ∷ texts) (y ∷ ys) zero text below is none all = none y (rw is all.0)
+none_at R (x ∷ texts) (y ∷ ys) (suc i) text below is none all = none_at R texts ys i text (omega arith) is none all.1
 
 -- a text without its last line end
 pub stripped : (text : Bor (List ℕ)) (found : Option (Bor (List ℕ)))
@@ -33,27 +32,8 @@ stripped text None none =
       | false ↦ λ ends. grind (arith, common_steps)
     ] refl
 
--- the first line of desks stands where the first text of desks does
-same_place : (lines : List (Bor (List ℕ)))
-    → position_or_len (λ line. starts_with nat_eq line.now (codes "desks")) lines ≡ desks_place (texts lines)
-same_place [] = refl
-same_place (line ∷ lines) = rw (same_place lines) refl
-
-pub place_found : (lines : List (Bor (List ℕ))) (found : Option ℕ)
-    → found ≡ position (λ line. starts_with nat_eq line.now (codes "desks")) lines
-    → MatchOption found (length lines ≤ desks_place (texts lines))
-    (λ n. (n ≡ desks_place (texts lines)) × (n < length lines))
-place_found lines (Some n) is = grind (arith, common_steps, same_place lines)
-place_found lines None is = grind (arith, common_steps, same_place lines)
-
--- the lines before the one of desks, that line, and those after it
-pub parts_of : (lines : List (Bor (List ℕ))) (n : ℕ) → n ≡ desks_place (texts lines) → n < length lines
-    → (take (desks_place (texts lines)) (texts lines) ≡ texts (take n lines))
-    × (get_or (texts lines) (desks_place (texts lines)) [] ≡
-    (get_or lines n (record { ref_ptr = (0, 0); now = [] })).now)
-    × (drop (desks_place (texts lines) + 1) (texts lines) ≡ texts (take (length lines - (n + 1)) (drop (n + 1) lines)))
-parts_of lines n is below = rw (← is) (
-  take-map _ n lines,
-  get_or-map (λ (line : Bor (List ℕ)). line.now) lines n _ [] below,
-  rw take_rest (drop-map _ (n + 1) lines),
-)
+-- the place of the first line of desks, where there is one
+pub place_found : (n many : ℕ) (found : Option ℕ) → found ≡ cond (nat_lt n many) (Some n) None
+    → MatchOption found (many ≤ n) (λ place. (place ≡ n) × (place < many))
+place_found n many (Some place) is = grind (arith, common_steps)
+place_found n many None is = grind (arith, common_steps)

@@ -1,11 +1,11 @@
--- What is refused: nothing fits it.
+-- What is refused: nothing fits it, or memory was refused for what does.
 use Rattle.std.proofs.Common.{◌≢◌, ℕ, List, Result, Ok, Err, refl, codes, ◌≡◌}
 use Rattle.std.specs.Prelude.{IsErrAnd}
 use Rattle.dm_event_history.specs.declared.stop.Stop.{Stop}
 use Rattle.dm_event_history.specs.declared.stop.Stop.TheVariants.{None as NoStop, BeforeSave, InSave, SaveFault, AfterLabels}
 use Rattle.dm_store.specs.declared.fuse.Kept.TheVariants.{Old, New}
 use Rattle.relay_script.specs.declared.words.ScriptFault.{ScriptFault, TheVariants.Script as Blamed, TheVariants.Memory}
-use Rattle.relay_script.specs.Words.{IsRead, IsStopOf, Nothing}
+use Rattle.relay_script.specs.Words.{IsRead, IsReadBy, IsStopOf, Nothing}
 
 -- a word that is none of the six names and no number of labels names no stop
 pub none_named : (word : List ℕ) → word ≢ codes "-" → word ≢ codes "before" → word ≢ codes "in-old"
@@ -20,9 +20,25 @@ none_named word none before in_old in_new fault_old fault_new labels (SaveFault 
 none_named word none before in_old in_new fault_old fault_new labels (SaveFault New) = fault_new
 none_named word none before in_old in_new fault_old fault_new labels (AfterLabels most) = labels most
 
--- where nothing fits if the script is to blame, the refusal is right
-pub refused_as : {X : Type 0} (result : Result X ScriptFault) (Fits : X → Type 0) (fault : ScriptFault)
-    → IsErrAnd result (λ e. e ≡ fault) → (fault ≡ Blamed → Nothing Fits) → IsRead result Fits
-refused_as (Ok x) Fits fault is none = absurd is
-refused_as (Err e) Fits Blamed is none = rw is (none refl)
-refused_as (Err e) Fits Memory is none = rw is tt
+-- where a part was refused, and something fits the whole just where something fits the part, the whole is refused
+pub refused_with : {X B C : Type 0} (shown : X → C) (result : Result X ScriptFault) (Whole : C → Type 0)
+    (Part : B → Type 0) (fault : ScriptFault) → IsErrAnd result (λ e. e ≡ fault)
+    → IsReadBy {A = B} (λ x. x) (Err fault) Part → (Nothing Part → Nothing Whole)
+    → ((x : B) → Part x → (y : C) × Whole y) → IsReadBy shown result Whole
+refused_with shown (Ok x) Whole Part fault is read none some = absurd is
+refused_with shown (Err e) Whole Part Blamed is read none some = rw is (none read)
+refused_with shown (Err e) Whole Part Memory is read none some = rw is (some read.0 read.1)
+
+-- what fits one fits the other
+pub read_so : {X : Type 0} (result : Result X ScriptFault) (F G : X → Type 0) → ((x : X) → F x → G x)
+    → ((x : X) → G x → F x) → IsRead result F → IsRead result G
+read_so (Ok x) F G to from read = to x read
+read_so (Err Blamed) F G to from read = λ x fits. read x (from x fits)
+read_so (Err Memory) F G to from read = (read.0, to read.0 read.1)
+
+-- where one is not to blame, something fits it
+pub something : {X B : Type 0} (shows : X → B) (result : Result X ScriptFault) (Fits : B → Type 0)
+    → IsReadBy shows result Fits → result ≢ Err Blamed → (x : B) × Fits x
+something shows (Ok x) Fits read is = (shows x, read)
+something shows (Err Blamed) Fits read is = absurd (is refl)
+something shows (Err Memory) Fits read is = read

@@ -1,5 +1,5 @@
 -- The words of a script, which is this project's own: what each kind of word stands for.
-use Rattle.std.specs.Prelude.{◌≡◌, ◌⊎◌, ◌<◌, ◌≤◌, ◌==◌, ℕ, List, [], ◌++◌, length, codes, Option, Result, Ok, Err, MatchOption, ⊤, map}
+use Rattle.std.specs.Prelude.{◌≡◌, ◌⊎◌, ◌<◌, ◌≤◌, ◌==◌, ℕ, List, [], ◌++◌, length, codes, Option, Result, Ok, Err, MatchOption, map}
 use Rattle.std.specs.{Borrow.Bor, List.slice_split, List.before_first, List.after_first, List.AllZip}
 use Rattle.std.specs.Str.Parse.{IsNumeral, digits_value}
 use Rattle.hex.specs.Hex.{decode_of, decode_sized}
@@ -22,11 +22,16 @@ Nothing Fits = (x : _) → ¬ Fits x
 abbrev pub FitsWhereFound : {A : Type 0} → Option A → (A → Type 0) → Type 0
 FitsWhereFound found Fits = MatchOption found (Nothing Fits) Fits
 
--- what was read fits, and where the script is to blame there is nothing that fits
+-- What was read fits, by what it shows. Where the script is to blame there is nothing that fits, and where memory was
+-- refused there is something.
+abbrev pub IsReadBy : {A B : Type 0} → (A → B) → Result A ScriptFault → (B → Type 0) → Type 0
+IsReadBy shows (Ok x) Fits = Fits (shows x)
+IsReadBy shows (Err Script) Fits = Nothing Fits
+IsReadBy shows (Err Memory) Fits = (x : _) × Fits x
+
+-- the same, where it shows itself
 abbrev pub IsRead : {A : Type 0} → Result A ScriptFault → (A → Type 0) → Type 0
-IsRead (Ok x) Fits = Fits x
-IsRead (Err Script) Fits = Nothing Fits
-IsRead (Err Memory) Fits = ⊤
+IsRead result Fits = IsReadBy (λ x. x) result Fits
 
 -- the texts of which references are held
 abbrev pub texts : List (Bor (List ℕ)) → List (List ℕ)

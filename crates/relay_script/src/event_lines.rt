@@ -2,9 +2,9 @@
 
 ghost use Rattle.std.specs.Prelude.{codes, MatchOption};
 ghost use Rattle.relay_script.specs.Scripts.{HasForm, SpellsEvent, SpellsEventLine};
-ghost use Rattle.relay_script.specs.Words.{FitsWhereFound, IsScriptNumber, IsNumberOf, texts};
+ghost use Rattle.relay_script.specs.Words.{FitsWhereFound, IsRead, IsScriptNumber, IsNumberOf, texts};
 
-use crate::spelled::{Spelled, cut};
+use crate::spelled::{Spelled, words};
 use crate::words::{ScriptFault, bytes, flips, id, number, size, stop};
 use dm_event_history::Event;
 use dm_print_ledger::Range;
@@ -23,23 +23,43 @@ impl<A: Allocator + Copy> Spelled<A> for Event<A> {
 
     #[tactic(auto, using(crate::proofs::Names::nothing_spelled))]
     fn read(alloc: A, line: &str) -> Result<Event<A>, ScriptFault> {
-        let words = cut(alloc, line, ' ')?;
-        match *words.as_slice() {
-            ["print", printer, side, scheme, document, end] => Ok(Event::Print {
-                printer: index(printer).ok_or(ScriptFault::Script)?,
-                document: bytes(alloc, document)?.ok_or(ScriptFault::Script)?,
-                size: size(side).ok_or(ScriptFault::Script)?,
-                scheme: scheme_of(scheme).ok_or(ScriptFault::Script)?,
-                stop: stop(end).ok_or(ScriptFault::Script)?,
-            }),
-            ["scan", desk, label, end, modules] => Ok(Event::Scan {
-                desk: index(desk).ok_or(ScriptFault::Script)?,
-                label: index(label).ok_or(ScriptFault::Script)?,
-                flips: flips(alloc, modules)?,
-                stop: stop(end).ok_or(ScriptFault::Script)?,
-            }),
-            _ => plain_event(&words).ok_or(ScriptFault::Script),
+        let words = words(line).ok_or(ScriptFault::Script)?;
+        event(alloc, words.as_slice())
+    }
+}
+
+// The event that words stand for: the other words are looked at before those for which memory is needed.
+#[tactic(auto, using(crate::proofs::Names::nothing_spelled))]
+fn event<A: Allocator + Copy>(alloc: A, words: &[&str]) -> Result<Event<A>, ScriptFault>
+    ensures { IsRead result (SpellsEvent (texts words.now)) }
+{
+    match *words {
+        ["print", printer, side, scheme, document, end] => {
+            let read = (index(printer), size(side), scheme_of(scheme), stop(end));
+            let (Some(printer), Some(size), Some(scheme), Some(stop)) = read else {
+                return Err(ScriptFault::Script);
+            };
+            Ok(Event::Print {
+                printer,
+                document: bytes(alloc, document)?,
+                size,
+                scheme,
+                stop,
+            })
         }
+        ["scan", desk, label, end, modules] => {
+            let read = (index(desk), index(label), stop(end));
+            let (Some(desk), Some(label), Some(stop)) = read else {
+                return Err(ScriptFault::Script);
+            };
+            Ok(Event::Scan {
+                desk,
+                label,
+                flips: flips(alloc, modules)?,
+                stop,
+            })
+        }
+        _ => plain_event(words).ok_or(ScriptFault::Script),
     }
 }
 

@@ -1,14 +1,14 @@
 //! What each kind of word of a script stands for, and why a script is not taken.
 
-ghost use Rattle.std.specs.Prelude.{◌≡◌, ℕ, IfOk, MatchOption};
+ghost use Rattle.std.specs.Prelude.{◌≡◌, ◌↔◌, ◌<◌, length, ℕ, List, Ok, IsTrue, MatchOption};
+ghost use Rattle.hex.specs.Hex.{decode_of};
 ghost use Rattle.relay_script.specs.Words.{AreBytesOf, AreFlipsOf, IsFlipOf, FitsWhereFound, IsIdOf, IsScriptNumber, IsNumberOf, IsRead, IsSideOf, IsStopOf, script_fault_name};
 ghost use Rattle.relay_script.specs.declared.words.ScriptFault.TheVariants.{Memory};
 
-use crate::spelled::{Spelled, cut, read_all};
+use crate::spelled::{Spelled, read_all};
 use dm_append_label::FileId;
 use dm_event_history::{Bytes, Flips, Kept, Stop};
 use dm_size::Size;
-use hex::FromHexError;
 use std::alloc::{AllocError, Allocator};
 use thiserror::Error;
 
@@ -91,20 +91,26 @@ fn after_labels(word: &str) -> Option<Stop>
     Some(Stop::AfterLabels(most))
 }
 
+// Whether the word is bytes in hexadecimal, one or more.
+fn is_hexadecimal(word: &str) -> bool
+    ensures { IsTrue result ↔ ((0 < length word.now) × (bytes : List ℕ) × (decode_of word.now ≡ Ok bytes)) }
+{
+    !word.is_empty() && word.len() % 2 == 0 && word.bytes().all(|digit| digit.is_ascii_hexdigit())
+}
+
 #[tactic(auto, unfolding(crate::specs::Words::AreBytesOf))]
-pub(crate) fn bytes<A: Allocator>(alloc: A, word: &str) -> Result<Option<Bytes<A>>, AllocError>
-    ensures { IfOk result (λ found. FitsWhereFound found (AreBytesOf word.now)) }
+pub(crate) fn bytes<A: Allocator>(alloc: A, word: &str) -> Result<Bytes<A>, ScriptFault>
+    ensures { IsRead result (AreBytesOf word.now) }
 {
     if word == "-" {
-        return Ok(Some(Bytes(Vec::new(alloc))));
+        return Ok(Bytes(Vec::new(alloc)));
     }
-    if word.is_empty() {
-        return Ok(None);
+    if !is_hexadecimal(word) {
+        return Err(ScriptFault::Script);
     }
     match hex::decode(alloc, word) {
-        Ok(bytes) => Ok(Some(Bytes(bytes))),
-        Err(FromHexError::OutOfMemory) => Err(AllocError),
-        Err(_) => Ok(None),
+        Ok(bytes) => Ok(Bytes(bytes)),
+        Err(_) => Err(ScriptFault::Memory),
     }
 }
 
@@ -128,6 +134,5 @@ pub(crate) fn flips<A: Allocator + Copy>(alloc: A, word: &str) -> Result<Flips<A
     if word == "-" {
         return Ok(Flips(Vec::new(alloc)));
     }
-    let parts = cut(alloc, word, ';')?;
-    Ok(Flips(read_all(alloc, &parts)?))
+    Ok(Flips(read_all(alloc, word.split(';'))?))
 }

@@ -17,6 +17,9 @@ const SCRIPT: &[u8] =
     b"range 0 9\nrange 10 19\ndesks 2 4\nprint 0 12 ascii 31323334 -\nprint 1 12 ascii - -\n\
     scan 0 0 - 1,1;2,2\nscan 0 0 - -\ngive 0 1 0 4 -\nask 0 0101\n";
 
+const NO_SCRIPT: &[u8] =
+    b"range 0 9\ndesks 2 4\nprint 0 12 ascii 31323334 -\nscan 0 0 - 1,1;2,2\nask 0\n";
+
 /// Labels are gathered in any order, and twice, and a desk that was shown none holds nothing; then an export and a
 /// ticket leave.
 pub const GATHERING: &str =
@@ -145,6 +148,7 @@ fn tells<A: Allocator + Copy>(alloc: A, text: &str, words: &str) -> Result<bool,
     Ok(script.events.len() == words.split(',').count())
 }
 
+// What is no script, if only by its last line, is refused for that with however little memory.
 #[test]
 fn refused_growths_of_a_script_are_named(rt: HostRuntime) -> Result<(), Fail> {
     for growths in 0..MOST_GROWTHS {
@@ -152,10 +156,14 @@ fn refused_growths_of_a_script_are_named(rt: HostRuntime) -> Result<(), Fail> {
         let memory = Refusing::new(&second, growths);
         let fault = read_script(&memory, SCRIPT).err();
         if !memory.is_spent() {
-            assert!(rt; fault.is_none() && growths > 20, "{growths}");
+            assert!(rt; fault.is_none() && growths > 5, "{growths}");
             return Ok(());
         }
         assert!(rt; fault == Some(ScriptFault::Memory), "{growths}");
+        let second = Refusing::new(rt.alloc(), growths);
+        let memory = Refusing::new(&second, growths);
+        let fault = read_script(&memory, NO_SCRIPT).err();
+        assert!(rt; fault == Some(ScriptFault::Script), "{growths}");
     }
     Err("growths without end".into())
 }

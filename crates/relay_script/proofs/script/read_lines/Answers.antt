@@ -1,33 +1,22 @@
-use Rattle.std.proofs.{Common.ap, Common.Err, Common.arith, lemmas.Grind.common_steps}
-use Rattle.relay_script.proofs.{Lines.parts_of, Refused.refused_as}
+use Rattle.std.proofs.Common.{◌+◌, ◌≤◌, drop, length, lit<, arith}
+use Rattle.std.proofs.lemmas.{Iterator.Adapters.YieldsList-from_skip, Iterator.Consumers.YieldsList-at}
+use Rattle.std.proofs.lemmas.{Iterator.Splits.YieldsList-from_str_split, Iterator.YieldsList-from_take, List.length-drop}
+use Rattle.relay_script.specs.Words.{cut_at}
+use Rattle.relay_script.proofs.Parts.{script_read}
 use Rattle.relay_script.proofs.script.read_lines.Goals as goal
-
-pub returns-in_err-read_all : goal.returns-in_err-read_all
-returns-in_err-read_all g c =
-    let parts = parts_of c.args.lines.now c.in-Some.printers c.in-Some.ensures.0 c.in-Some.ensures.1 in
-    refused_as _ _ c.in_err-read_all.field-0.0 c.from_residual.ensures.1 (λ blamed script fits.
-    c.in_err-read_all.ensures.none (ap Err blamed) script.ranges.items (rw parts.0 at fits.ranges))
-
-pub returns-in_err-read_desks : goal.returns-in_err-read_desks
-returns-in_err-read_desks g c =
-    let parts = parts_of c.args.lines.now c.in-Some.printers c.in-Some.ensures.0 c.in-Some.ensures.1 in
-    refused_as _ _ c.in_err-read_desks.field-0.0 c.from_residual-in_err-read_desks.ensures.1 (λ blamed script fits.
-    (rw blamed at c.in_err-read_desks.ensures) script.capacities (rw parts.1 at fits.desks))
-
-pub returns-in_err-read_all-2 : goal.returns-in_err-read_all-2
-returns-in_err-read_all-2 g c =
-    let parts = parts_of c.args.lines.now c.in-Some.printers c.in-Some.ensures.0 c.in-Some.ensures.1 in
-    refused_as _ _ c.in_err-read_all-2.field-0.0 c.from_residual-in_err-read_all-2.ensures.1 (λ blamed script fits.
-    c.in_err-read_all-2.ensures.none (ap Err blamed) script.events.items (rw parts.2 at fits.events))
 
 pub returns : goal.returns
 returns g c =
-    let parts = parts_of c.args.lines.now c.in-Some.printers c.in-Some.ensures.0 c.in-Some.ensures.1 in
-    record {
-      some_printers = omega arith;
-      few_printers = omega arith;
-      ranges = rw parts.0 c.in_ok-read_all.ensures.each;
-      desks = rw parts.1 c.in_ok-read_desks.ensures;
-      few_events = grind (arith, common_steps);
-      events = rw parts.2 c.in_ok-read_all-2.ensures.each;
-    }
+    let lines = cut_at 10 c.args.text.now in
+    let n = c.in-Some.printers in
+    let few : length (drop (n + 1) lines) ≤ 10000 = omega (arith, length-drop (n + 1) lines, c.line_count.ensures) in
+    let ranges = c.read_all-ranges.ensures _ (YieldsList-from_take n (YieldsList-at c.take.ensures.source
+    (YieldsList-from_str_split 10 c.args.text.now (lit< tt) c.split.ensures.text c.split.ensures.has_more
+    c.split.ensures.pattern)) c.take.ensures.count).runs in
+    let events = c.read_all-events.ensures _ (YieldsList-from_skip (n + 1) (YieldsList-at c.skip.ensures.source
+    (YieldsList-from_str_split 10 c.args.text.now (lit< tt) c.split-2.ensures.text c.split-2.ensures.has_more
+    c.split-2.ensures.pattern)) c.skip.ensures.count).runs in
+    script_read c.args.alloc lines c.read_all-ranges.result c.read_desks-capacities.result c.read_all-events.result
+    c.script_of.result (omega arith) (omega arith) (rw c.in-Some.ensures.0 at few) c.script_of.ensures.read
+    c.script_of.ensures.refused (rw c.in-Some.ensures.0 at ranges)
+    (rw (c.line_at.ensures, c.in-Some.ensures.0) at c.read_desks-capacities.ensures) (rw c.in-Some.ensures.0 at events)

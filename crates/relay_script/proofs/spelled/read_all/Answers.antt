@@ -1,22 +1,53 @@
-use Rattle.std.proofs.Common.{◌≡◌, ◌∷◌, ◌++◌, [], arith}
-use Rattle.std.proofs.lemmas.{Grind.common_steps, List.take_all, Result.err_from_is_err_and}
-use Rattle.relay_script.proofs.Lines.{none_at, one_more_read}
-use Rattle.relay_script.specs.declared.words.ScriptFault.TheVariants.{Script}
+use Rattle.std.proofs.Common.{◌∷◌, ◌++◌, [], Bor, List, ℕ, length, arith, rules}
+use Rattle.std.proofs.lemmas.Iterator.{YieldsList}
+use Rattle.std.proofs.lemmas.{Grind.common_steps, Iterator.Consumers.YieldsList-at, Iterator.Consumers.YieldsList-end}
+use Rattle.std.proofs.lemmas.{Iterator.Consumers.YieldsList-turn}
+use Rattle.relay_script.proofs.Lines.{none_at, one_more}
 use Rattle.relay_script.proofs.spelled.read_all.Goals as goal
+
+pub loop-part-preserved-in-Ok : goal.loop-part-preserved-in-Ok
+loop-part-preserved-in-Ok g c =
+    let (can, finite, read, zip, kept) = c.loop-part.invariant in (
+      search rules,
+      search rules,
+      read ++ c.in-Ok.item ∷ [],
+      one_more g.T.Spelled.spells c.loop-part.yielded read c.in-Some.part c.in-Ok.item zip c.in-Ok.ensures,
+      λ none. grind (arith, common_steps, kept, none),
+    )
 
 pub loop-part-preserved : goal.loop-part-preserved
 loop-part-preserved g c =
-    let grown : c.push.new.self.items ≡ c.loop-part.items.items ++ c.in_ok-read.field-0 ∷ [] =
-    grind (arith, common_steps) in
-    rw grown
-    (one_more_read g.T.Spelled.spells _ _ _ _ _ c.loop-part-test.true c.loop-part.invariant c.in_ok-read.ensures)
+    let (can, finite, read, zip, kept) = c.loop-part.invariant in
+    let (item, fits) = rw c.in-Err-Memory.field-0-is at c.in-Err-Memory.ensures in (
+      search rules,
+      search rules,
+      read ++ item ∷ [],
+      one_more g.T.Spelled.spells c.loop-part.yielded read c.in-Some.part item zip fits,
+      λ none. cc none,
+    )
 
-pub returns-clause-each : goal.returns-clause-each
-returns-clause-each g c =
-    rw (take_all c.loop-part.part-index c.args.parts.now c.loop-part-test.false) at c.loop-part.invariant
+pub returns-in-Err-Script : goal.returns-in-Err-Script
+returns-in-Err-Script g c = λ all yields items.
+    let text : Bor (List ℕ) → List ℕ = λ part. part.now in
+    let road : YieldsList g.I.Iterator.next_gives text c.into_iter-part-iterator.result all =
+    YieldsList-at c.into_iter-part-iterator.ensures.into_iter_gives (record { runs = yields }) in
+    let turn =
+    YieldsList-turn road c.loop-part.yielded _ c.loop-part.yielded_by _ _ _ c.in-Some.is c.next.ensures.steps in
+    none_at g.T.Spelled.spells all items (length c.loop-part.yielded) c.in-Some.part.now turn.0 turn.1
+    (rw c.in-Err-Script.field-0-is at c.in-Err-Script.ensures)
 
-pub returns-in_err-read-clause-none : goal.returns-in_err-read-clause-none
-returns-in_err-read-clause-none g c = λ refused items.
-    let exit = err_from_is_err_and c.from_residual-in_err-read.result c.from_residual-in_err-read.ensures.1 in
-    let is : c.in_err-read.field-0.0 ≡ Script = cc in
-    none_at g.T.Spelled.spells _ items c.loop-part.part-index _ c.loop-part-test.true (rw is at c.in_err-read.ensures)
+pub returns-then-refused : goal.returns-then-refused
+returns-then-refused g c = λ all yields.
+    let text : Bor (List ℕ) → List ℕ = λ part. part.now in
+    let road : YieldsList g.I.Iterator.next_gives text c.into_iter-part-iterator.result all =
+    YieldsList-at c.into_iter-part-iterator.ensures.into_iter_gives (record { runs = yields }) in
+    let end = YieldsList-end road c.loop-part.yielded _ c.loop-part.yielded_by _ _ c.in-None.is c.next.ensures.steps in
+    let (can, finite, read, zip, kept) = c.loop-part.invariant in (read, rw end.0 at zip)
+
+pub returns : goal.returns
+returns g c = λ all yields.
+    let text : Bor (List ℕ) → List ℕ = λ part. part.now in
+    let road : YieldsList g.I.Iterator.next_gives text c.into_iter-part-iterator.result all =
+    YieldsList-at c.into_iter-part-iterator.ensures.into_iter_gives (record { runs = yields }) in
+    let end = YieldsList-end road c.loop-part.yielded _ c.loop-part.yielded_by _ _ c.in-None.is c.next.ensures.steps in
+    let (can, finite, read, zip, kept) = c.loop-part.invariant in rw (kept c.if-refused.false) (rw end.0 at zip)
