@@ -5,7 +5,7 @@ use Rattle.std.specs.{Option.option_copied, Io.KnownBytes.Appends, Io.KnownBytes
 use Rattle.relay_command.specs.declared.command.Command.{Command}
 use Rattle.relay_command.specs.declared.command.Command.TheVariants.{Words, Draw, Read, Plan, Ticket, Ledger, Print, Give, GiveLast, Take, Left, Audit, Scan, Deliver, Forget, Export, Import, Held, Copy, World}
 use Rattle.relay_streams.specs.{Streams.TakesPart, Streams.AppendsPart, Streams.OutputView, Streams.write_fault_name, declared.fault.WriteFault.TheVariants.Write}
-use Rattle.relay_shared.specs.{Command.StreamsView, Command.TellsRefusal, declared.command.TheConstants.DOCUMENT_BYTES}
+use Rattle.relay_shared.specs.{Command.FileView, Command.StreamsView, Command.TellsRefusal, declared.command.TheConstants.DOCUMENT_BYTES}
 use Rattle.relay_desk_commands.specs.{declared.import.TheConstants.IMPORT_BYTES, Desks.OnDesk, Desks.EndsDeliver, Desks.EndsExport, Desks.EndsForget, Desks.EndsImport, Desks.EndsScan, Desks.EndsCopy, Desks.EndsHeld, Desks.DeskFiles}
 use Rattle.relay_printer_commands.specs.{declared.audit.TheConstants.TICKETS_BYTES, Printers.EndsLeft, Printers.OnLedger, Printers.EndsLedger, Printers.EndsAudit, Printers.EndsGive, Printers.EndsGiveLast, Printers.EndsTake, Printers.ledger_at, Printers.EndsPlan, Printers.EndsPrint, Printers.EndsTicket}
 use Rattle.relay_world_command.specs.{declared.world.TheConstants.INPUT_BYTES, World.EndsWorld}
@@ -32,38 +32,38 @@ OnFile Ends old status new = Ends (ledger_at old.files.joint old.streams) status
     × (new.files.set ≡ old.files.set)
 
 -- What a command does over the store at the path that it names and the set beside it, and, of `scan`, `read`, `audit` and
--- `import`, over the files that it is given, by their bytes; `A` is what it allocates in.
-abbrev pub Does : Type 0 → Command → List (Option (List ℕ)) → OnDesk → ℕ → OnDesk → Type 0
-Does A (Words side scheme) images old status new =
+-- `import`, over the files to be read; `A` is what it allocates in.
+abbrev pub Does : Type 0 → Command → List FileView → OnDesk → ℕ → OnDesk → Type 0
+Does A (Words side scheme) inputs old status new =
     OnStreams (EndsWords (record { side = side; scheme = scheme })) old status new
     × ReadsPart DOCUMENT_BYTES old.streams new.streams
-Does A (Draw side scheme plain) images old status new =
+Does A (Draw side scheme plain) inputs old status new =
     OnStreams (EndsDraw (record { side = side; scheme = scheme }) plain) old status new
     × ReadsPart DOCUMENT_BYTES old.streams new.streams
-Does A Read images old status new = OnStreams (EndsRead images) old status new
-Does A (Plan scheme) images old status new =
+Does A Read inputs old status new = OnStreams (EndsRead inputs) old status new
+Does A (Plan scheme) inputs old status new =
     OnStreams (EndsPlan scheme) old status new × ReadsPart DOCUMENT_BYTES old.streams new.streams
-Does A (Ticket ticket) images old status new = OnStreams (EndsTicket ticket.now) old status new
-Does A World images old status new = OnStreams (EndsWorld A) old status new × (new.streams.errors ≡ old.streams.errors)
+Does A (Ticket ticket) inputs old status new = OnStreams (EndsTicket ticket.now) old status new
+Does A World inputs old status new = OnStreams (EndsWorld A) old status new × (new.streams.errors ≡ old.streams.errors)
     × ReadsPart INPUT_BYTES old.streams new.streams
-Does A (Ledger file number first last) images old status new =
+Does A (Ledger file number first last) inputs old status new =
     OnFile (EndsLedger number (record { first = first; last = last })) old status new
-Does A (Print file number labels scheme) images old status new =
+Does A (Print file number labels scheme) inputs old status new =
     OnFile (EndsPrint number labels scheme) old status new × ReadsPart DOCUMENT_BYTES old.streams new.streams
-Does A (Give file number to first last) images old status new =
+Does A (Give file number to first last) inputs old status new =
     OnFile (EndsGive number to (record { first = first; last = last })) old status new
-Does A (GiveLast file number to count) images old status new = OnFile (EndsGiveLast number to count) old status new
-Does A (Take file number ticket) images old status new = OnFile (EndsTake number ticket.now) old status new
-Does A (Left file) images old status new = OnFile EndsLeft old status new
-Does A Audit images old status new = OnStreams (EndsAudit images) old status new × ReadsPart TICKETS_BYTES old.streams new.streams
-Does A (Scan file capacity) images old status new = EndsScan A capacity images old status new
-Does A (Deliver file id) images old status new = EndsDeliver id.now old status new
-Does A (Forget file id) images old status new = EndsForget id.now old status new
-Does A (Export file id) images old status new = EndsExport id.now old status new
-Does A (Import file capacity) images old status new =
-    EndsImport capacity images old status new × ReadsPart IMPORT_BYTES old.streams new.streams
-Does A (Held file id) images old status new = EndsHeld (option_copied id) old status new
-Does A (Copy file id page side scheme) images old status new =
+Does A (GiveLast file number to count) inputs old status new = OnFile (EndsGiveLast number to count) old status new
+Does A (Take file number ticket) inputs old status new = OnFile (EndsTake number ticket.now) old status new
+Does A (Left file) inputs old status new = OnFile EndsLeft old status new
+Does A Audit inputs old status new = OnStreams (EndsAudit inputs) old status new × ReadsPart TICKETS_BYTES old.streams new.streams
+Does A (Scan file capacity) inputs old status new = EndsScan A capacity inputs old status new
+Does A (Deliver file id) inputs old status new = EndsDeliver id.now old status new
+Does A (Forget file id) inputs old status new = EndsForget id.now old status new
+Does A (Export file id) inputs old status new = EndsExport id.now old status new
+Does A (Import file capacity) inputs old status new =
+    EndsImport capacity inputs old status new × ReadsPart IMPORT_BYTES old.streams new.streams
+Does A (Held file id) inputs old status new = EndsHeld (option_copied id) old status new
+Does A (Copy file id page side scheme) inputs old status new =
     EndsCopy (record { id = id; page = page; side = side; scheme = scheme }) old status new
 
 -- the path that a command names
@@ -145,11 +145,11 @@ pub data PutsOut (wrote : Option (List ℕ)) (told : OutputView) (ended status :
 
 -- What a command does between the standard streams, with these files before and after. The status is 0 only if that of
 -- the command is, and all that it has written is out.
-pub record DoesBetween (A : Type 0) (command : Command) (images : List (Option (List ℕ))) (before : DeskFiles)
+pub record DoesBetween (A : Type 0) (command : Command) (inputs : List FileView) (before : DeskFiles)
     (old : StandardView) (status : ℕ) (after : DeskFiles) (new : StandardView) : Type 0 where
   pub ended : ℕ
   pub wrote : StreamsView
-  pub does : Does A command images (record { files = before; streams = streams_over old }) ended
+  pub does : Does A command inputs (record { files = before; streams = streams_over old }) ended
       (record { files = after; streams = wrote })
   pub out : PutsOut wrote.output.contents wrote.errors ended status new.output new.errors
 
@@ -170,12 +170,12 @@ IsAt None before old after new = new ≡ old
 IsAt (Some path) before old after new = (before ≡ old path) × (new path ≡ after) × KeepsOthers path old new
 
 -- What a command does with the files at the path that it names. Then something may be noted on the standard error.
-pub record DoesAt (A : Type 0) (command : Command) (images : List (Option (List ℕ))) (old : SystemView) (status : ℕ)
+pub record DoesAt (A : Type 0) (command : Command) (inputs : List FileView) (old : SystemView) (status : ℕ)
     (new : SystemView) : Type 0 where
   pub before : DeskFiles
   pub after : DeskFiles
   pub done : StandardView
-  pub between : DoesBetween A command images before old.standard status after done
+  pub between : DoesBetween A command inputs before old.standard status after done
   pub is_at : IsAt (named_path command) before old.places after new.places
   pub noted : Notes done new.standard
 
@@ -208,20 +208,20 @@ pub record DoesAndSaves (A : Type 0) (command : Command) (path : List ℕ) (old 
   pub output : done.standard.output ≡ old.standard.output
   pub saves : ((ended ≢ 0) × (status ≡ ended) × (new ≡ done)) ⊎ ((ended ≡ 0) × SavesOutput path bytes done status new)
 
--- a line that names a path, or files of images
+-- a line that names a path, or files to be read
 abbrev pub NamesFiles : CommandLine → Type 0
 NamesFiles line = IsSome (named_path line.command) ⊎ (named_images line ≢ [])
 
--- What a line does: its command, with the files of images that it names; or its command, whose output is saved as the
+-- What a line does: its command, with the files to be read that it names; or its command, whose output is saved as the
 -- file that it names; or nothing, since memory is refused for the paths of its files, which is told.
-pub data DoesFor (A : Type 0) (images : List ℕ → Option (List ℕ)) (line : CommandLine) (old : SystemView) (status : ℕ)
+pub data DoesFor (A : Type 0) (inputs : List ℕ → FileView) (line : CommandLine) (old : SystemView) (status : ℕ)
     (new : SystemView) : Type 0 where
-  does_here : saved_path line ≡ None → DoesAt A line.command (map images (named_images line)) old status new →
-      DoesFor A images line old status new
+  does_here : saved_path line ≡ None → DoesAt A line.command (map inputs (named_images line)) old status new →
+      DoesFor A inputs line old status new
   does_and_saves : (path : List ℕ) → saved_path line ≡ Some path → DoesAndSaves A line.command path old status new →
-      DoesFor A images line old status new
+      DoesFor A inputs line old status new
   lacks_memory : NamesFiles line → new.places ≡ old.places → PutsRefusal (refuses_on_errors line.command) (codes "Memory")
-      old.standard status new.standard → DoesFor A images line old status new
+      old.standard status new.standard → DoesFor A inputs line old status new
 
 -- this was done; or nothing was, since memory was refused, as it may be under this condition
 abbrev pub OrNothing : {E : Type 0} → (SystemView → ℕ → SystemView → Type 0) → Type 0 → SystemView → Result ℕ E → SystemView → Type 0
@@ -245,10 +245,10 @@ Informs (Line text given) old status new =
 Informs Memory old status new = PutsRefusal true (codes "Memory") old status new
 
 -- What a line does whose first word after the program's name is this one: what was found on it is done; or it is not
--- taken. `images` are the files of images, by their names.
-pub data Runs (A : Type 0) (images : List ℕ → Option (List ℕ)) (name : Option (List ℕ)) (old : SystemView) (status : ℕ)
+-- taken. `inputs` are the files to be read, by their names.
+pub data Runs (A : Type 0) (inputs : List ℕ → FileView) (name : Option (List ℕ)) (old : SystemView) (status : ℕ)
     (new : SystemView) : Type 0 where
-  does : (line : CommandLine) → IsNamed name line.command → IsFound line → DoesFor A images line old status new →
-      Runs A images name old status new
+  does : (line : CommandLine) → IsNamed name line.command → IsFound line → DoesFor A inputs line old status new →
+      Runs A inputs name old status new
   shows : (fault : LineFault) → HasStatus fault → Informs fault old.standard status new.standard → new.places
-      ≡ old.places → Runs A images name old status new
+      ≡ old.places → Runs A inputs name old status new

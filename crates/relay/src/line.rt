@@ -27,19 +27,19 @@ fn save_fault_name(fault: StoreFault) -> &'static str
     }
 }
 
-// The files of images of these names.
-fn images_of<P: Places>(
+// The files to be read of these names.
+fn inputs_of<P: Places>(
     alloc: Global,
     places: &P,
     names: &[&str],
-) -> Result<Vec<P::Images>, AllocError>
-    ensures given { IfOk result (λ given. map P.Images.remaining given.items
-        ≡ map (P.images places.now) (map (λ name. name.now) names.now)) }
+) -> Result<Vec<P::Input>, AllocError>
+    ensures given { IfOk result (λ given. map P.Input.known given.items
+        ≡ map (P.known places.now) (map (λ name. name.now) names.now)) }
     ensures refused { OnErr result (map (λ name. name.now) names.now ≢ []) }
 {
     let mut files = Vec::new(alloc);
     for name in names {
-        files.push(places.images(*name)?)?;
+        files.push(places.input(*name)?)?;
     }
     Ok(files)
 }
@@ -110,15 +110,15 @@ impl<I: Read + Drop, O: Write + Drop, E: Write + Drop> StandardStreams<I, O, E> 
 #[rattlefmt::skip] // a pattern a line
 impl<I: Read + Drop, O: Write + Drop, E: Write + Drop, P: Places> System<I, O, E, P> {
     // Does a command that writes to the output, unless memory is refused for the paths that it names.
-    fn do_here<F: NamedFile>(self, alloc: Global, images: &[F], command: Command) -> (Result<u8, AllocError>, Self)
-        ensures { OrNothing (DoesAt Global command.entry (map F.remaining images.now))
+    fn do_here<F: NamedFile>(self, alloc: Global, inputs: &[F], command: Command) -> (Result<u8, AllocError>, Self)
+        ensures { OrNothing (DoesAt Global command.entry (map F.known inputs.now))
             (IsSome (named_path command.entry)) (system_at self.standard (P.state self.places)) result.0
             (system_at result.1.standard (P.state result.1.places)) }
     {
         let System { standard, mut places } = self;
         let Some(named) = named_by(command) else {
             let (file, folder) = (MemStore::new(alloc), MemSet::new(alloc));
-            let done = do_between(alloc, file, folder, images, standard, command);
+            let done = do_between(alloc, file, folder, inputs, standard, command);
             let Done { status, standard, has_no_image, .. } = done;
             let standard = standard.noted(alloc, note_of_input(alloc, has_no_image));
             return (Ok(status), System { standard, places });
@@ -126,7 +126,7 @@ impl<I: Read + Drop, O: Write + Drop, E: Write + Drop, P: Places> System<I, O, E
         let Ok((file, folder)) = places.open(named) else {
             return (Err(AllocError), System { standard, places });
         };
-        let done = do_between(alloc, file, folder, images, standard, command);
+        let done = do_between(alloc, file, folder, inputs, standard, command);
         let Done { status, store, set, standard, has_no_image } = done;
         let note = places.close(named, store, set, status);
         let note = note.or(note_of_input(alloc, has_no_image));
@@ -161,8 +161,8 @@ impl<I: Read + Drop, O: Write + Drop, E: Write + Drop, P: Places> System<I, O, E
         let StandardStreams(input, own, errors) = standard;
         let output = Vec::new(alloc);
         let standard = StandardStreams(input, output, errors);
-        let images: [P::Images; 0] = [];
-        let (ended, system) = System { standard, places }.do_here(alloc, &images, command);
+        let inputs: [P::Input; 0] = [];
+        let (ended, system) = System { standard, places }.do_here(alloc, &inputs, command);
         let System { standard, places } = system;
         let StandardStreams(input, bytes, errors) = standard;
         let standard = StandardStreams(input, own, errors);
@@ -179,22 +179,22 @@ impl<I: Read + Drop, O: Write + Drop, E: Write + Drop, P: Places> System<I, O, E
 
     // Does the command of a line with the other files of the line.
     fn do_with(self, alloc: Global, line: &CommandLine<'_>) -> (Result<u8, AllocError>, Self)
-        ensures { OrNothing (DoesFor Global (P.images self.places) line.now)
+        ensures { OrNothing (DoesFor Global (P.known self.places) line.now)
             (NamesFiles line.now) (system_at self.standard (P.state self.places)) result.0
             (system_at result.1.standard (P.state result.1.places)) }
     {
         if let Some(path) = line.saved_as {
             return self.do_saved(alloc, path, line.command);
         }
-        match images_of(alloc, &self.places, line.images.as_slice()) {
-            Ok(images) => self.do_here(alloc, images.as_slice(), line.command),
+        match inputs_of(alloc, &self.places, line.images.as_slice()) {
+            Ok(inputs) => self.do_here(alloc, inputs.as_slice(), line.command),
             Err(AllocError) => (Err(AllocError), self),
         }
     }
 
     // Does what a line says, and gives the exit status.
     fn do_line(self, alloc: Global, line: &CommandLine<'_>) -> (u8, Self)
-        ensures { DoesFor Global (P.images self.places) line.now
+        ensures { DoesFor Global (P.known self.places) line.now
             (system_at self.standard (P.state self.places)) result.0
             (system_at result.1.standard (P.state result.1.places)) }
     {
@@ -212,7 +212,7 @@ impl<I: Read + Drop, O: Write + Drop, E: Write + Drop, P: Places> System<I, O, E
     /// Does what the words of a line say, the first of which is the program's name, and gives the exit status: that of
     /// the command, or 2 where the line was refused, or 0 where help was asked for.
     pub fn run_line<S: AsStr>(self, alloc: Global, words: &[S]) -> (u8, Self)
-        ensures { Runs Global (P.images self.places) (option_map S.text (slice_get words.now 1))
+        ensures { Runs Global (P.known self.places) (option_map S.text (slice_get words.now 1))
             (system_at self.standard (P.state self.places)) result.0
             (system_at result.1.standard (P.state result.1.places)) }
     {

@@ -111,23 +111,23 @@ pub(crate) struct Done<S: Store, T: StoreSet, I: Read, O: Write, E: Write> {
     pub(crate) has_no_image: bool,
 }
 
-/// Does a command over a store, a set and files of images, and lets out what it has written. It stays a function of its
+/// Does a command over a store, a set and files to be read, and lets out what it has written. It stays a function of its
 /// own, so that the frames of its instances don't add up on the stack.
 #[inline(never)]
 #[rattlefmt::skip] // a pattern a line
 pub(crate) fn do_between<
     A: Allocator + Copy, S: Store, T: StoreSet, F: NamedFile, I: Read + Drop, O: Write + Drop, E: Write + Drop,
 >(
-    alloc: A, store: S, set: T, images: &[F], standard: StandardStreams<I, O, E>, command: Command,
+    alloc: A, store: S, set: T, inputs: &[F], standard: StandardStreams<I, O, E>, command: Command,
 ) -> Done<S, T, I, O, E>
-    ensures { DoesBetween A command.entry (map F.remaining images.now) (files_of (S.state store) (T.state set)) standard
+    ensures { DoesBetween A command.entry (map F.known inputs.now) (files_of (S.state store) (T.state set)) standard
         result.status (files_of (S.state result.store) (T.state result.set)) result.standard }
 {
     let StandardStreams(input, output, errors) = standard;
     let output = LineBuffer::new(alloc, output, least_of(command));
     let errors = LineBuffer::new(alloc, errors, 0);
     let mut streams = Streams::new(Watched::new(input), output, errors);
-    let ended = do_command(alloc, store, set, images, &mut streams, command);
+    let ended = do_command(alloc, store, set, inputs, &mut streams, command);
     let EndedDesk { status, store, set } = ended;
     let Streams { input, output, errors } = streams;
     let says = says_failure(command, output.has_failed(), status);

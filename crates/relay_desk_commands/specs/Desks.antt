@@ -14,7 +14,7 @@ use Rattle.relay_streams.specs.Streams.{input_fault_name, OutputView, ReadsFirst
 use Rattle.relay_streams.specs.declared.fault.InputFault.{InputFault}
 use Rattle.relay_desk_commands.specs.declared.documents.Given.{Given, TheVariants.Document, TheVariants.File}
 use Rattle.relay_desk_commands.specs.declared.{import.TheConstants.IMPORT_BYTES, copy.CopyOptions.CopyOptions}
-use Rattle.relay_shared.specs.Command.{HasInputFault, refusal_name, OnlyOutput, RefusesOnErrors, RefusesOnOutput, StreamsView, TellsAnswer, TellsBytes, TellsRefusal, ImageCommand, Said, TellsFiles, TellsInputs, progress_at, refusal_of, Tells, EndsNote, NotesImage}
+use Rattle.relay_shared.specs.Command.{FileView, GivesNothing, HasInputFault, refusal_name, OnlyOutput, RefusesOnErrors, RefusesOnOutput, StreamsView, TellsAnswer, TellsBytes, TellsRefusal, ImageCommand, Said, TellsFiles, TellsInputs, progress_at, refusal_of, Tells, EndsNote, NotesImage}
 use Rattle.dm_finder_frame.specs.Frame.{GridView}
 use Rattle.dm_pbm_io.specs.{FaultNames.shape_fault_name, Image.Picture, Image.HasShape, Image.IsGridInside, Image.p4}
 use Rattle.dm_pbm_io.specs.declared.fault.ShapeFault.{ShapeFault, TheVariants.Shape, TheVariants.Memory}
@@ -177,30 +177,31 @@ EndsForget text = EndsOnId RefusesOnOutput text (λ id. EndsAtDesk RefusesOnOutp
 abbrev pub import_line : Imported → List ℕ
 import_line reply = imported_line reply.id reply.n reply.added (kind_name reply.kind)
 
--- What `import` does with a file, by its bytes: it was not read, and was refused; or these are its first bytes, one more
--- than the greatest file has, or all if they are fewer, and the desk has answered.
-pub data ImportsFile (file : Option (List ℕ)) : DeskView × OutputView → ℕ → DeskView × OutputView → Type 0 where
-  file_not_read : {desk : DeskView} {old new : OutputView} {status : ℕ} (fault : InputFault)
+-- What `import` does with a file: it was not read, and was refused; or these are its first bytes, one more than the
+-- greatest file has, or all if they are fewer, and the desk has answered.
+pub data ImportsFile (file : FileView) : DeskView × OutputView → ℕ → DeskView × OutputView → Type 0 where
+  file_not_read : {desk : DeskView} {old new : OutputView} {status : ℕ} (fault : InputFault) → GivesNothing file fault
       → TellsRefusal (input_fault_name fault) old status new → ImportsFile file (desk, old) status (desk, new)
   file_read : {desk after : DeskView} {old new : OutputView} {status : ℕ} (bytes : List ℕ)
-      (reply : Result Imported ImportFault) → IfSome file (λ all. bytes ≡ take IMPORT_BYTES all)
+      (reply : Result Imported ImportFault) → IfSome file.remaining (λ all. bytes ≡ take IMPORT_BYTES all)
       → ImportsBytes bytes desk reply after → TellsAnswer import_line import_fault_name reply old status new
       → ImportsFile file (desk, old) status (after, new)
 
 -- How `import` ends over its input: that could not be read; or these bytes of it were read, the desk was opened, and has
--- answered. Nothing went to the standard error. Over files: the desk was opened, and they were taken in, until the output
--- or a save has failed. What was held stays held, and is in order with the set of the desk.
-pub data EndsImport (capacity : ℕ) : List (Option (List ℕ)) → OnDesk → ℕ → OnDesk → Type 0 where
-  not_read : {old new : OnDesk} {status : ℕ} (fault : InputFault)
+-- answered. Nothing went to the standard error. Over files: memory was refused for their bytes; or the desk was opened, and
+-- they were taken in, until the output or a save has failed. What was held stays held, and is in order with the set of the
+-- desk.
+pub data EndsImport (capacity : ℕ) : List FileView → OnDesk → ℕ → OnDesk → Type 0 where
+  not_read : {old new : OnDesk} {status : ℕ} {files : List FileView} (fault : InputFault)
       → HasInputFault old.streams.input new.streams.input fault → new.files ≡ old.files
       → TellsRefusal (input_fault_name fault) old.streams.output status new.streams.output
-      → new.streams.errors ≡ old.streams.errors → EndsImport capacity [] old status new
+      → new.streams.errors ≡ old.streams.errors → EndsImport capacity files old status new
   read : {old new : OnDesk} {status : ℕ} (bytes : List ℕ)
       → ReadsFirst old.streams.input new.streams.input IMPORT_BYTES bytes
       → EndsAtDesk (λ name before told after. TellsRefusal name before.output told after.output) capacity
       (AnswersCall import_line import_fault_name (ImportsBytes bytes)) old status new
       → new.streams.errors ≡ old.streams.errors → EndsImport capacity [] old status new
-  read_files : {old new : OnDesk} {status : ℕ} {file : Option (List ℕ)} {later : List (Option (List ℕ))}
+  read_files : {old new : OnDesk} {status : ℕ} {file : FileView} {later : List FileView}
       → EndsAtDesk RefusesOnOutput capacity (λ desk old status new. (after : DeskView)
       × TellsFiles ImportsFile (λ at. at.1.has_failed || at.0.is_failed) (file ∷ later) (desk, old.output) status
       (after, new.streams.output) × OnlyOutput old new.streams × KeepsPages desk.held after.held × DeskIsInOrder after
@@ -283,14 +284,14 @@ scan_images A = record {
 -- A desk that was opened before anything was read has scanned all files, or the whole input where there is none. Or the
 -- output has refused a line, or a save has failed, and the images up to that were scanned. Either way each page that was
 -- held is held with the same bytes, and what the desk holds is in order with its set.
-abbrev pub ScansAll : Type 0 → List (Option (List ℕ)) → DeskView → StreamsView → ℕ → OnDesk → Type 0
+abbrev pub ScansAll : Type 0 → List FileView → DeskView → StreamsView → ℕ → OnDesk → Type 0
 ScansAll A images desk old status new = (after : DeskView) × TellsInputs (scan_images A) images
     (progress_at (record { desk = desk; errors = old.errors }) old.input old.output) status
     (progress_at (record { desk = after; errors = new.streams.errors }) new.streams.input new.streams.output)
     × KeepsPages desk.held after.held × DeskIsInOrder after × (new.files.set ≡ after.saved)
 
 -- how `scan` ends; if there is no desk, nothing was read
-abbrev pub EndsScan : Type 0 → ℕ → List (Option (List ℕ)) → OnDesk → ℕ → OnDesk → Type 0
+abbrev pub EndsScan : Type 0 → ℕ → List FileView → OnDesk → ℕ → OnDesk → Type 0
 EndsScan A capacity images = EndsAtDesk RefusesOnOutput capacity (ScansAll A images)
 
 -- ---- held

@@ -1,6 +1,6 @@
 //! `relay import`: pages from another desk.
 
-ghost use Rattle.std.specs.Prelude.{◌≡◌, false, map};
+ghost use Rattle.std.specs.Prelude.{◌≡◌, [], false, length, map};
 ghost use Rattle.dm_assembly_desk.specs.{Desk.import_fault_name, Documents.KeepsPages};
 ghost use Rattle.relay_shared.specs.Command.{TellsAnswer};
 ghost use Rattle.relay_streams.specs.Streams.{TakesPart};
@@ -9,7 +9,9 @@ ghost use Rattle.relay_desk_commands.specs.Desks.{EndsImport, ImportsFile, desk_
 use crate::desk_opening::{OpenDesk, open_desk};
 use dm_assembly_desk::{Desk, ImportFault, Imported};
 use dm_store::{Store, StoreSet};
-use relay_shared::{EndedDesk, NamedFile, Streams, greater, put_imported, refuse, status_after};
+use relay_shared::{
+    EndedDesk, NamedFile, Refusal, Streams, greater, put_imported, refuse, status_after,
+};
 use relay_streams::{Input, Output};
 use std::alloc::Allocator;
 use std::io::{Read, Write};
@@ -28,13 +30,14 @@ fn tell<W: Write>(output: &mut Output<W>, answer: Result<Imported, ImportFault>)
     }
 }
 
-// Takes in a file, and writes the line of the answer.
+// Takes in a file, whose bytes are read into this room, and writes the line of the answer.
 #[rattlefmt::skip] // a signature a line
 fn import_file<A: Allocator + Copy, T: StoreSet, F: NamedFile, W: Write>(
-    alloc: A, desk: &mut Desk<T, A>, file: &F, output: &mut Output<W>,
+    desk: &mut Desk<T, A>, file: &F, room: &mut [u8], output: &mut Output<W>,
 ) -> u8
-    requires { desk.old.is_failed ≡ false }
-    ensures does { ImportsFile (F.remaining file.now) (desk.old, output.old) result (desk.new, output.new) }
+    requires running { desk.old.is_failed ≡ false }
+    requires room { length room.old ≡ IMPORT_BYTES }
+    ensures does { ImportsFile (F.known file.now) (desk.old, output.old) result (desk.new, output.new) }
     ensures kept { KeepsPages desk.old.held desk.new.held }
 {
     let reader = match file.open() {
@@ -42,12 +45,33 @@ fn import_file<A: Allocator + Copy, T: StoreSet, F: NamedFile, W: Write>(
         Err(fault) => return refuse(output, fault.name()),
     };
     let mut input = Input::new(reader);
-    let (status, refused) = match input.read_up_to(alloc, IMPORT_BYTES) {
-        Ok(bytes) => tell(output, desk.import(&bytes)),
+    let (status, refused) = match input.fill(room) {
+        Ok(count) => tell(output, desk.import(&room[..count])),
         Err(fault) => (refuse(output, fault.name()), Some(fault.name())),
     };
     file.end(input.into_reader(), refused);
     status
+}
+
+// Takes in a file from the input, which is read before the desk is opened.
+#[rattlefmt::skip] // a signature a line
+fn import_input<A: Allocator + Copy, S: Store, T: StoreSet, R: Read, W: Write, E: Write>(
+    alloc: A, store: S, set: T, streams: &mut Streams<R, W, E>, capacity: u16,
+) -> EndedDesk<S, T>
+    ensures part { TakesPart streams.old.input.remaining streams.new.input.remaining IMPORT_BYTES }
+    ensures ends { EndsImport capacity [] (desk_at (S.state store) (T.state set) streams.old)
+        result.status (desk_at (S.state result.store) (T.state result.set) streams.new) }
+{
+    let bytes = match streams.input.read_up_to(alloc, IMPORT_BYTES) {
+        Ok(bytes) => bytes,
+        Err(fault) => return EndedDesk { status: refuse(&mut streams.output, fault.name()), store, set },
+    };
+    let output = &mut streams.output;
+    let OpenDesk { store, mut desk } = match open_desk(alloc, store, set, output, capacity) {
+        Ok(opened) => opened,
+        Err(ended) => return ended,
+    };
+    EndedDesk { status: tell(output, desk.import(&bytes)).0, store, set: desk.close() }
 }
 
 /// Reads files that `export` has written, at most 41,643 bytes of each, or one from the input where none is named. It
@@ -60,27 +84,23 @@ pub fn import_command<A: Allocator + Copy, S: Store, T: StoreSet, F: NamedFile, 
     alloc: A, store: S, set: T, files: &[F], streams: &mut Streams<R, W, E>, capacity: u16,
 ) -> EndedDesk<S, T>
     ensures part { TakesPart streams.old.input.remaining streams.new.input.remaining IMPORT_BYTES }
-    ensures ends { EndsImport capacity (map F.remaining files.now) (desk_at (S.state store) (T.state set) streams.old)
+    ensures ends { EndsImport capacity (map F.known files.now) (desk_at (S.state store) (T.state set) streams.old)
         result.status (desk_at (S.state result.store) (T.state result.set) streams.new) }
 {
-    let mut bytes = None;
     if files.is_empty() {
-        match streams.input.read_up_to(alloc, IMPORT_BYTES) {
-            Ok(read) => bytes = Some(read),
-            Err(fault) => return EndedDesk { status: refuse(&mut streams.output, fault.name()), store, set },
-        }
+        return import_input(alloc, store, set, streams, capacity);
     }
     let output = &mut streams.output;
+    let Ok(mut room) = vec![in alloc; 0u8; IMPORT_BYTES] else {
+        return EndedDesk { status: refuse(output, Refusal::Memory.name()), store, set };
+    };
     let OpenDesk { store, mut desk } = match open_desk(alloc, store, set, output, capacity) {
         Ok(opened) => opened,
         Err(ended) => return ended,
     };
-    if let Some(bytes) = bytes {
-        return EndedDesk { status: tell(output, desk.import(&bytes)).0, store, set: desk.close() };
-    }
     let mut status = 0;
     for file in files {
-        status = greater(status, import_file(alloc, &mut desk, file, output));
+        status = greater(status, import_file(&mut desk, file, &mut room, output));
         if output.has_failed() | desk.has_failed() {
             return EndedDesk { status, store, set: desk.close() };
         }

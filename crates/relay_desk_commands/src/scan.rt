@@ -183,7 +183,7 @@ pub fn scan_command<
     streams: &mut Streams<R, W, E>,
     capacity: u16,
 ) -> EndedDesk<S, T>
-    ensures { EndsScan A capacity (map F.remaining images.now) (desk_at (S.state store) (T.state set) streams.old)
+    ensures { EndsScan A capacity (map F.known images.now) (desk_at (S.state store) (T.state set) streams.old)
         result.status (desk_at (S.state result.store) (T.state result.set) streams.new) }
 {
     let opened = match open_unsettled(alloc, store, set, &mut streams.output, capacity) {

@@ -15,6 +15,7 @@ use Rattle.relay_desk_runs.specs.Answered.{bytes_of_file, files_imported, if_imp
 use Rattle.relay_desk_runs.proofs.Saving.{MayBeAdded, ShowsPrinted, adding, forgetting}
 use Rattle.relay_desk_runs.proofs.Scanning.{each_file_keeps}
 use Rattle.relay_desk_runs.proofs.Opened.{as_they_were, at_desk_keeps, is_opened, on_id_keeps, still_clean, unopened}
+use Rattle.relay_shared.specs.Command.{FileView}
 
 pub same_pair : {E : Type 0} (a b : ℕ × Pages) → ◌≡◌ {A = Result (ℕ × Pages) E} (Ok a) (Ok b) → a ≡ b
 same_pair a b is = cc
@@ -50,14 +51,14 @@ module _ (labels : List Label) (printed : ArePrinted labels) (bytes : List ℕ) 
 pub each_import_keeps : EachImportKeeps
 each_import_keeps labels capacity images old status new printed clean how near = by_input how near
   where
-    one : (file : Option (List ℕ)) (old : DeskView × OutputView) (status : ℕ) (new : DeskView × OutputView)
+    one : (file : FileView) (old : DeskView × OutputView) (status : ℕ) (new : DeskView × OutputView)
         (does : ImportsFile file old status new) → ShowsPrinted labels old.0 →
         AllByRecursion (IsPrintedFile labels) (bytes_of_file file old status new does) → ShowsPrinted labels new.0
-    one file old status new (file_not_read fault told) clean near = clean
+    one file old status new (file_not_read fault may told) clean near = clean
     one file old status new (file_read {desk} {after} bytes reply first imports told) clean near =
         imported labels printed bytes desk after reply clean near imports
 
-    by_input : {files : List (Option (List ℕ))} (ends : EndsImport capacity files old status new) →
+    by_input : {files : List FileView} (ends : EndsImport capacity files old status new) →
         AllByRecursion (IsPrintedFile labels) (files_imported ends) → HasPrinted labels new
     by_input (not_read fault has same told leaves) near =
         still_clean labels old new clean (as_they_were old.files new.files same)

@@ -6,7 +6,7 @@ use Rattle.dm_assembly_desk.specs.Desk.{Moves, early, at_key, at_last}
 use Rattle.dm_assembly_desk.specs.declared.limits.TheConstants.{MOST_CAPACITY}
 use Rattle.dm_assembly_desk.proofs.Reopening.{one_held}
 use Rattle.dm_event_history.specs.{Relay.Label, Headline.HaveLeft}
-use Rattle.relay_shared.specs.Command.{StreamsView}
+use Rattle.relay_shared.specs.Command.{FileView, StreamsView}
 use Rattle.relay_desk_commands.specs.Desks.{EndsCopy, EndsCopyOf, EndsHeld, DeskFiles, EndsAtDesk, EndsImport, EndsOnId, HasNoDesk, OnDesk, OpensDesk}
 use Rattle.relay_desk_commands.specs.Desks.{EndsCopyOf.no_side, EndsCopyOf.of_side, EndsOnId.no_id, EndsOnId.of_id}
 use Rattle.relay_desk_commands.specs.declared.copy.CopyOptions.{CopyOptions}
@@ -110,7 +110,7 @@ pub on_id_joint : {Refuses : List ℕ → StreamsView → ℕ → StreamsView �
 on_id_joint text old status new each (no_id isnt same refuses) = ap (λ (f : DeskFiles). f.joint) same
 on_id_joint text old status new each (of_id id text_is rest) = each id rest
 
-pub import_joint : (capacity : ℕ) {files : List (Option (List ℕ))} (old : OnDesk) (status : ℕ) (new : OnDesk) →
+pub import_joint : (capacity : ℕ) {files : List FileView} (old : OnDesk) (status : ℕ) (new : OnDesk) →
     HasNoDocuments old.files.joint → EndsImport capacity files old status new → new.files.joint ≡ old.files.joint
 import_joint capacity old status new none (not_read fault has same told leaves) = ap (λ (f : DeskFiles). f.joint) same
 import_joint capacity old status new none (read bytes reads rest leaves) =

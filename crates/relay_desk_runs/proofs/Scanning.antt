@@ -13,7 +13,7 @@ use Rattle.dm_assembly_desk.specs.declared.fault.ScanFault.TheVariants as scan_f
 use Rattle.dm_event_history.specs.{Relay.Label, Headline.ArePrinted, Headline.IsCleanExport}
 use Rattle.dm_event_history.proofs.Stays.{lone_clean, lone_export}
 use Rattle.relay_streams.specs.Streams.{InputView}
-use Rattle.relay_shared.specs.Command.{AnswersImages, AtImage, ImageComes, EndsImages, Progress, Said, TellsFile, TellsFiles, TellsImages, TellsInputs}
+use Rattle.relay_shared.specs.Command.{AnswersImages, AtImage, FileView, ImageComes, EndsImages, Progress, Said, TellsFile, TellsFiles, TellsImages, TellsInputs}
 use Rattle.relay_shared.specs.Command.ImageComes.{image, unread, too_many}
 use Rattle.relay_shared.specs.Command.AnswersImages.{none, another}
 use Rattle.relay_shared.specs.Command.EndsImages.{no_image, last_line}
@@ -38,11 +38,11 @@ last_part P [] ys all = all
 last_part P (x ∷ xs) ys all = last_part P xs ys all.1
 
 -- what one file keeps, so do all
-pub each_file_keeps : {S X : Type 0} {Tells : Option (List ℕ) → S → ℕ → S → Type 0} {has_stopped : S → Bool}
-    (of_one : (file : Option (List ℕ)) (old : S) (status : ℕ) (new : S) → Tells file old status new → List X)
-    (P : S → Type 0) (Q : X → Type 0) → ((file : Option (List ℕ)) (old : S) (status : ℕ) (new : S)
+pub each_file_keeps : {S X : Type 0} {Tells : FileView → S → ℕ → S → Type 0} {has_stopped : S → Bool}
+    (of_one : (file : FileView) (old : S) (status : ℕ) (new : S) → Tells file old status new → List X)
+    (P : S → Type 0) (Q : X → Type 0) → ((file : FileView) (old : S) (status : ℕ) (new : S)
     (tells : Tells file old status new) → P old → AllByRecursion Q (of_one file old status new tells) → P new) →
-    {files : List (Option (List ℕ))} {old new : S} {status : ℕ} (tells : TellsFiles Tells has_stopped files old status new) →
+    {files : List FileView} {old new : S} {status : ℕ} (tells : TellsFiles Tells has_stopped files old status new) →
     P old → AllByRecursion Q (of_each_file of_one tells) → P new
 each_file_keeps of_one P Q keeps no_file so all = so
 each_file_keeps of_one P Q keeps (last_file tells is_last) so all = keeps _ _ _ _ tells so all
@@ -141,14 +141,14 @@ module _ (A : Type 0) (labels : List Label) (printed : ArePrinted labels) where
       come takes.comes (before answers clean (first_part _ (grids_before answers) (grids_of_bytes takes.comes) near))
       (last_part _ (grids_before answers) (grids_of_bytes takes.comes) near)
 
-  file : (bytes : Option (List ℕ)) (old : AtImage (scan_images A)) (status : ℕ) (new : AtImage (scan_images A))
-      (tells : TellsFile (scan_images A) bytes old status new) → ShowsPrinted labels old.state.desk →
-      Near (grids_of_file bytes old status new tells) → ShowsPrinted labels new.state.desk
+  file : (file : FileView) (old : AtImage (scan_images A)) (status : ℕ) (new : AtImage (scan_images A))
+      (tells : TellsFile (scan_images A) file old status new) → ShowsPrinted labels old.state.desk →
+      Near (grids_of_file file old status new tells) → ShowsPrinted labels new.state.desk
   file bytes old status new (was_opened rest tells) clean near = images tells clean near
-  file bytes old status new (not_opened fault same told) clean near =
+  file bytes old status new (not_opened fault may same told) clean near =
       subst (λ (at : AtDesk). ShowsPrinted labels at.desk) (sym same) clean
 
-  inputs : {all : List (Option (List ℕ))} {start new : Progress (scan_images A)} {status : ℕ}
+  inputs : {all : List FileView} {start new : Progress (scan_images A)} {status : ℕ}
       (tells : TellsInputs (scan_images A) all start status new) → ShowsPrinted labels start.state.desk →
       Near (grids_of_inputs tells) → ShowsPrinted labels new.state.desk
   inputs (of_input tells) clean near = images tells clean near

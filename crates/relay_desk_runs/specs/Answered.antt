@@ -9,7 +9,7 @@ use Rattle.dm_assembly_desk.specs.Documents.{DeskView, Documents, HoldsFiles, Is
 use Rattle.dm_assembly_desk.specs.declared.fault.{ScanFault.ScanFault, ImportFault.ImportFault}
 use Rattle.dm_assembly_desk.specs.{declared.reply.Imported.Imported, Desk.HoldsJointFile}
 use Rattle.relay_streams.specs.Streams.{InputView, OutputView, AppendsPart}
-use Rattle.relay_shared.specs.Command.{AnswersImages, AtImage, ImageComes, EndsImages, Progress, Said, TellsFile, TellsFiles, TellsImages, TellsInputs}
+use Rattle.relay_shared.specs.Command.{AnswersImages, AtImage, FileView, ImageComes, EndsImages, Progress, Said, TellsFile, TellsFiles, TellsImages, TellsInputs}
 use Rattle.relay_shared.specs.Command.ImageComes.{image, unread, too_many}
 use Rattle.relay_shared.specs.Command.AnswersImages.{none, another}
 use Rattle.relay_shared.specs.Command.EndsImages.{no_image, last_line}
@@ -33,9 +33,9 @@ use Rattle.dm_assembly_desk.specs.declared.fault.ImportFault.TheVariants as impo
 use Rattle.std.specs.FinMap as finite
 
 -- what came of files, one after another
-abbrev pub of_each_file : {S X : Type 0} {Tells : Option (List ℕ) → S → ℕ → S → Type 0} {has_stopped : S → Bool}
-    (of_one : (file : Option (List ℕ)) (old : S) (status : ℕ) (new : S) → Tells file old status new → List X)
-    {files : List (Option (List ℕ))} {old new : S} {status : ℕ} → TellsFiles Tells has_stopped files old status new → List X
+abbrev pub of_each_file : {S X : Type 0} {Tells : FileView → S → ℕ → S → Type 0} {has_stopped : S → Bool}
+    (of_one : (file : FileView) (old : S) (status : ℕ) (new : S) → Tells file old status new → List X)
+    {files : List FileView} {old new : S} {status : ℕ} → TellsFiles Tells has_stopped files old status new → List X
 of_each_file of_one no_file = []
 of_each_file of_one (last_file tells is_last) = of_one _ _ _ _ tells
 of_each_file of_one (next_file tells goes_on others) = of_one _ _ _ _ tells ++ of_each_file of_one others
@@ -74,17 +74,17 @@ abbrev pub grids_of_images : {A : Type 0} {start new : Progress (scan_images A)}
 grids_of_images (ended said answers last reads appends is) = grids_before answers ++ grids_at_end last
 grids_of_images (stopped said answers takes failed part is) = grids_before answers ++ grids_of_bytes takes.comes
 
-abbrev pub grids_of_file : {A : Type 0} (bytes : Option (List ℕ)) (old : AtImage (scan_images A)) (status : ℕ)
-    (new : AtImage (scan_images A)) → TellsFile (scan_images A) bytes old status new → List GridView
-grids_of_file bytes old status new (was_opened rest tells) = grids_of_images tells
-grids_of_file bytes old status new (not_opened fault same told) = []
+abbrev pub grids_of_file : {A : Type 0} (file : FileView) (old : AtImage (scan_images A)) (status : ℕ)
+    (new : AtImage (scan_images A)) → TellsFile (scan_images A) file old status new → List GridView
+grids_of_file file old status new (was_opened rest tells) = grids_of_images tells
+grids_of_file file old status new (not_opened fault may same told) = []
 
-abbrev pub grids_of_inputs : {A : Type 0} {files : List (Option (List ℕ))} {start new : Progress (scan_images A)}
+abbrev pub grids_of_inputs : {A : Type 0} {files : List FileView} {start new : Progress (scan_images A)}
     {status : ℕ} → TellsInputs (scan_images A) files start status new → List GridView
 grids_of_inputs (of_input tells) = grids_of_images tells
 grids_of_inputs (of_files same tells) = of_each_file grids_of_file tells
 
-abbrev pub grids_scanned : {A : Type 0} {capacity : ℕ} {images : List (Option (List ℕ))} {old new : OnDesk} {status : ℕ} →
+abbrev pub grids_scanned : {A : Type 0} {capacity : ℕ} {images : List FileView} {old new : OnDesk} {status : ℕ} →
     EndsScan A capacity images old status new → List GridView
 grids_scanned (no_desk name has refuses) = []
 grids_scanned (opened desk opens rest) = grids_of_inputs rest.1
@@ -96,12 +96,12 @@ if_imported (Ok reply) bytes = bytes ∷ []
 if_imported (Err imports.Save) bytes = bytes ∷ []
 if_imported (Err fault) bytes = []
 
-abbrev pub bytes_of_file : (file : Option (List ℕ)) (old : DeskView × OutputView) (status : ℕ)
+abbrev pub bytes_of_file : (file : FileView) (old : DeskView × OutputView) (status : ℕ)
     (new : DeskView × OutputView) → ImportsFile file old status new → List (List ℕ)
-bytes_of_file file old status new (file_not_read fault told) = []
+bytes_of_file file old status new (file_not_read fault may told) = []
 bytes_of_file file old status new (file_read bytes reply first imports told) = if_imported reply bytes
 
-abbrev pub files_imported : {capacity : ℕ} {files : List (Option (List ℕ))} {old new : OnDesk} {status : ℕ} →
+abbrev pub files_imported : {capacity : ℕ} {files : List FileView} {old new : OnDesk} {status : ℕ} →
     EndsImport capacity files old status new → List (List ℕ)
 files_imported (not_read fault has same told leaves) = []
 files_imported (read bytes reads (no_desk name has refuses) leaves) = []
@@ -186,12 +186,12 @@ pub data GivesPrinted (labels : List Label) (text : List ℕ) (old : OnDesk) (st
 -- ---- laws
 
 abbrev pub EachScanKeeps : Type 0 → Type 0
-EachScanKeeps A = (labels : List Label) (capacity : ℕ) (images : List (Option (List ℕ))) (old : OnDesk) (status : ℕ)
+EachScanKeeps A = (labels : List Label) (capacity : ℕ) (images : List FileView) (old : OnDesk) (status : ℕ)
     (new : OnDesk) → ArePrinted labels → HasPrinted labels old → (ends : EndsScan A capacity images old status new) →
     AllByRecursion (IsNearPrinted labels) (grids_scanned ends) → HasPrinted labels new
 
 abbrev pub EachImportKeeps : Type 0
-EachImportKeeps = (labels : List Label) (capacity : ℕ) (files : List (Option (List ℕ))) (old : OnDesk) (status : ℕ)
+EachImportKeeps = (labels : List Label) (capacity : ℕ) (files : List FileView) (old : OnDesk) (status : ℕ)
     (new : OnDesk) → ArePrinted labels → HasPrinted labels old → (ends : EndsImport capacity files old status new) →
     AllByRecursion (IsPrintedFile labels) (files_imported ends) → HasPrinted labels new
 

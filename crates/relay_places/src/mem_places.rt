@@ -1,6 +1,6 @@
-//! Ledgers and desks in memory, and files of images.
+//! Ledgers and desks in memory, and files to be read.
 
-ghost use Rattle.std.specs.Prelude.{◌≡◌, ◌∷◌, option_map, string_bytes};
+ghost use Rattle.std.specs.Prelude.{◌≡◌, ◌∷◌, false, option_map, string_bytes};
 ghost use Rattle.relay_places.specs.Places.{KeepsOthers, files_of, kept_at};
 
 use crate::place::{Access, Named};
@@ -16,7 +16,7 @@ pub struct MemPlace {
     pub files: (MemStore, MemSet),
 }
 
-/// What is at each path: of several places at one the first. The files of images have places of their own, and memory
+/// What is at each path: of several places at one the first. The files to be read have places of their own, and memory
 /// is refused for one that isn't there.
 #[derive(Drop)]
 pub struct MemPlaces<'a> {
@@ -24,7 +24,7 @@ pub struct MemPlaces<'a> {
     /// The one that was opened last.
     pub opened: MemPlace,
     pub kept: Vec<MemPlace>,
-    pub images: &'a [MemPlace],
+    pub inputs: &'a [MemPlace],
 }
 
 // Takes what is at a path, and leaves nothing there.
@@ -59,11 +59,14 @@ impl<'a> Places for MemPlaces<'a> {
 
     type Folder = MemSet;
 
-    type Images = &'a [u8];
+    type Input = &'a [u8];
 
     ghost state = { λ places. kept_at (places.opened ∷ places.kept.items) };
 
-    ghost images = { λ places name. (kept_at places.images.now name).joint.content };
+    ghost known = { λ places name. record {
+      remaining = (kept_at places.inputs.now name).joint.content;
+      may_refuse = λ _. false;
+    } };
 
     ghost is_open = { λ places path. string_bytes places.opened.path ≡ path };
 
@@ -83,8 +86,8 @@ impl<'a> Places for MemPlaces<'a> {
         None
     }
 
-    fn images(&self, name: &str) -> Result<&'a [u8], AllocError> {
-        content(self.images, name).ok_or(AllocError)
+    fn input(&self, name: &str) -> Result<&'a [u8], AllocError> {
+        content(self.inputs, name).ok_or(AllocError)
     }
 
     fn save_new(&mut self, path: &str, bytes: &[u8]) -> (Result<(), StoreFault>, Option<String>) {

@@ -1,6 +1,7 @@
 //! What is at the paths that a line names.
 
-ghost use Rattle.std.specs.Prelude.{◌≡◌, ℕ, List, Option, IfOk, OnErr, OnOk};
+ghost use Rattle.std.specs.Prelude.{◌≡◌, ℕ, List, IfOk, OnErr, OnOk};
+ghost use Rattle.relay_shared.specs.Command.{FileView};
 ghost use Rattle.relay_places.specs.Places.{PlacesView, KeepsOthers, SavesNew, files_of};
 
 use crate::place::Named;
@@ -8,7 +9,7 @@ use dm_store::{Store, StoreFault, StoreSet};
 use relay_shared::NamedFile;
 use std::alloc::AllocError;
 
-/// What is at the paths of a system: at each a ledger or a desk; and files of images.
+/// What is at the paths of a system: at each a ledger or a desk; and files to be read.
 pub trait Places: Drop {
     /// A ledger, or the joint file of a desk.
     type File: Store;
@@ -16,14 +17,14 @@ pub trait Places: Drop {
     /// The folder of a desk's files.
     type Folder: StoreSet;
 
-    /// A file of images.
-    type Images: NamedFile + Drop;
+    /// A file to be read.
+    type Input: NamedFile + Drop;
 
     /// What is there.
     ghost state: { Self → PlacesView };
 
-    /// The bytes of the files of images, by their names, where they are known.
-    ghost images: { Self → List ℕ → Option (List ℕ) };
+    /// What is known of the files to be read, by their names.
+    ghost known: { Self → List ℕ → FileView };
 
     /// Whether the files at a path are given out.
     ghost is_open: { Self → List ℕ → Type 0 };
@@ -49,12 +50,12 @@ pub trait Places: Drop {
             ≡ files_of (Self.File.state file) (Self.Folder.state folder) }
         ensures others { KeepsOthers named.entry.file.now (state self.old) (state self.new) };
 
-    /// The file of images of a name.
+    /// The file to be read of a name.
     ///
     /// # Errors
     /// Memory was refused.
-    fn images(&self, name: &str) -> Result<Self::Images, AllocError>
-        ensures { IfOk result (λ given. Self.Images.remaining given ≡ images self.now name.now) };
+    fn input(&self, name: &str) -> Result<Self::Input, AllocError>
+        ensures { IfOk result (λ given. Self.Input.known given ≡ known self.now name.now) };
 
     /// Saves the bytes as a new file, as stores are saved: whenever the machine stops, the whole file is there or none.
     /// If it is not saved, it may give what is to be said of it on the standard error.

@@ -1,6 +1,6 @@
 //! The files that a line names to be read, and the standard input.
 
-ghost use Rattle.std.specs.Prelude.{None};
+ghost use Rattle.std.specs.Prelude.{None, true};
 
 use crate::notes::note;
 use crate::watched::{NO_IMAGE, Watched};
@@ -36,7 +36,7 @@ impl<I: Read + Drop> Read for Source<I> {
 impl NamedFile for RealFile<'_> {
     type Reader = Watched<BufReader<Source<<HostRuntime as Input>::Reader>>>;
 
-    ghost remaining = { λ _. None };
+    ghost known = { λ _. record { remaining = None; may_refuse = λ _. true } };
 
     fn open(&self) -> Result<Self::Reader, InputFault> {
         let source = if self.name.as_str() == "-" {

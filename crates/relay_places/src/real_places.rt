@@ -1,6 +1,6 @@
 //! The system's own files.
 
-ghost use Rattle.std.specs.Prelude.{None};
+ghost use Rattle.std.specs.Prelude.{None, true};
 ghost use Rattle.relay_places.specs.Places.{unclaimed_places};
 
 use crate::locked::{CommandFiles, Locked, Reason};
@@ -102,11 +102,11 @@ impl<'a> Places for RealPlaces<'a> {
 
     type Folder = FileSet<Gated<'a>>;
 
-    type Images = RealFile<'a>;
+    type Input = RealFile<'a>;
 
     ghost state = { λ _. unclaimed_places };
 
-    ghost images = { λ _ _. None };
+    ghost known = { λ _ _. record { remaining = None; may_refuse = λ _. true } };
 
     ghost is_open = { λ _ _. Unit {0} };
 
@@ -131,7 +131,7 @@ impl<'a> Places for RealPlaces<'a> {
         }
     }
 
-    fn images(&self, name: &str) -> Result<Self::Images, AllocError> {
+    fn input(&self, name: &str) -> Result<Self::Input, AllocError> {
         let (rt, name) = (self.rt, String::from_str(self.rt.alloc(), name)?);
         Ok(RealFile { rt, name })
     }

@@ -7,19 +7,19 @@ use Rattle.std.proofs.lemmas.Option.{slice_get-get_or, slice_get-map}
 use Rattle.dm_print_ledger.specs.{Ledger.are_ranges, Verdicts.SilenceIsExact}
 use Rattle.relay_printer_commands.specs.Printers.{AreAllSound, EvidenceView, Gathers, IsSoundPair, ShowsFile, ShowsLine, are_same, audit_lines, breach_line, breach_lines, evidence_name, fault_line}
 use Rattle.relay_shared.proofs.Telling.{told, told_else}
-use Rattle.relay_shared.specs.Command.{PutsText, Tells}
+use Rattle.relay_shared.specs.Command.{FileView, PutsText, Tells}
 use Rattle.relay_streams.specs.{Streams.OutputView, declared.fault.WriteFault.WriteFault}
 use Rattle.relay_printer_commands.specs.Printers.{Gathers.file, Gathers.line, IsSoundPair.same, IsSoundPair.beside}
 
 -- one more file, and one more line
 
-pub file_gathered : {F : Type 0} (bytes : F → Option (List ℕ)) (files : List F) (lines : List (List ℕ)) (i : ℕ) (d : F)
-    (before : List EvidenceView) (one : EvidenceView) → i < length files → Gathers (map bytes files) lines i 0 before →
-    ShowsFile (i + 1) (bytes (get_or files i d)) one → Gathers (map bytes files) lines (i + 1) 0 (before ++ one ∷ [])
-file_gathered bytes files lines i d before one there gathered shows = file (bytes (get_or files i d)) gathered
-    (slice_get-map bytes files i ∙ ap (option_map bytes) (slice_get-get_or files i d there)) shows
+pub file_gathered : {F : Type 0} (known : F → FileView) (files : List F) (lines : List (List ℕ)) (i : ℕ) (d : F)
+    (before : List EvidenceView) (one : EvidenceView) → i < length files → Gathers (map known files) lines i 0 before →
+    ShowsFile (i + 1) (known (get_or files i d)) one → Gathers (map known files) lines (i + 1) 0 (before ++ one ∷ [])
+file_gathered known files lines i d before one there gathered shows = file (known (get_or files i d)) gathered
+    (slice_get-map known files i ∙ ap (option_map known) (slice_get-get_or files i d there)) shows
 
-pub line_gathered : {L : Type 0} (text : L → List ℕ) (files : List (Option (List ℕ))) (lines : List L) (n i : ℕ) (d : L)
+pub line_gathered : {L : Type 0} (text : L → List ℕ) (files : List FileView) (lines : List L) (n i : ℕ) (d : L)
     (before : List EvidenceView) (one : EvidenceView) → i < length lines → Gathers files (map text lines) n i before →
     ShowsLine before (i + 1) (text (get_or lines i d)) one → Gathers files (map text lines) n (i + 1) (before ++ one ∷ [])
 line_gathered text files lines n i d before one there gathered shows = line (text (get_or lines i d)) gathered

@@ -8,7 +8,7 @@ use Rattle.dm_print_ledger.specs.declared.{giver.Giver.Giver, range.Range.Range,
 use Rattle.relay_shared.specs.{Lines.id_text, declared.command.Refusal.Refusal}
 use Rattle.relay_printer_commands.specs.declared.lines.PlannedSide.{PlannedSide}
 use Rattle.dm_gf256.specs.Field.{IsSoundBlock}
-use Rattle.relay_shared.specs.Command.{refusal_name, RefusesOnOutput, StreamsView, TellsOnOutput, OnlyOutput, TellsAnswer, HasInputFault, ReadsDocument, ReadsNothing, RefusesOnErrors, TellsRefusal, Tells, PutsText}
+use Rattle.relay_shared.specs.Command.{FileView, GivesNothing, refusal_name, RefusesOnOutput, StreamsView, TellsOnOutput, OnlyOutput, TellsAnswer, HasInputFault, ReadsDocument, ReadsNothing, RefusesOnErrors, TellsRefusal, Tells, PutsText}
 use Rattle.relay_shared.specs.declared.command.Refusal.TheVariants.{Ticket, Memory, Output, Side, TooMany}
 use Rattle.dm_store.specs.Saved.{Saved}
 use Rattle.dm_print_ledger.specs.Verdicts.{Creates, create_fault_name, open_fault_name, give_fault_name, take_fault_name, PrinterOpens, GivesTicket, TakesTicket, LoadsLedger, show_verdict, print_fault_name, Prints, HasLabels, AreBeside, AreLastFree, IsLongest, are_of_one, is_behind, is_of, lacks_ticket, share_numbers, share_ticket, shown_of_none, shown_of_ticket}
@@ -333,12 +333,13 @@ shows_none is_ledger place fault =
     record { is_ledger = is_ledger; place = place; fault = fault; ticket = None; shown = shown_of_none }
 
 -- a file shows what its bytes say of a ledger, if these are its first bytes; or it is refused
-pub data ShowsFile (place : ℕ) (file : Option (List ℕ)) : EvidenceView → Type 0 where
-  read : (bytes : List ℕ) (shown : ShownView) → IfSome file (λ all. bytes ≡ take LEDGER_BYTES all)
+pub data ShowsFile (place : ℕ) (file : FileView) : EvidenceView → Type 0 where
+  read : (bytes : List ℕ) (shown : ShownView) → IfSome file.remaining (λ all. bytes ≡ take LEDGER_BYTES all)
       → read_ledger bytes ≡ Ok shown → ShowsFile place file (record (shows_none true place None) { shown = shown })
-  refused : (bytes : List ℕ) (fault : OpenFault) → IfSome file (λ all. bytes ≡ take LEDGER_BYTES all)
+  refused : (bytes : List ℕ) (fault : OpenFault) → IfSome file.remaining (λ all. bytes ≡ take LEDGER_BYTES all)
       → read_ledger bytes ≡ Err fault → ShowsFile place file (shows_none true place (Some (open_fault_name fault)))
-  not_read : (fault : InputFault) → ShowsFile place file (shows_none true place (Some (input_fault_name fault)))
+  not_read : (fault : InputFault) → GivesNothing file fault
+      → ShowsFile place file (shows_none true place (Some (input_fault_name fault)))
 
 -- a line shows its ticket, which is open if the ledger of its receiver is before it, and has not taken it
 pub data ShowsLine (before : List EvidenceView) (place : ℕ) (line : List ℕ) : EvidenceView → Type 0 where
@@ -351,9 +352,9 @@ pub data ShowsLine (before : List EvidenceView) (place : ℕ) (line : List ℕ) 
   refused : ¬ HasTicket line → ShowsLine before place line (shows_none false place (Some (refusal_name Ticket)))
 
 -- what the first files show, and then the first lines
-pub data Gathers (files : List (Option (List ℕ))) (lines : List (List ℕ)) : ℕ → ℕ → List EvidenceView → Type 0 where
+pub data Gathers (files : List FileView) (lines : List (List ℕ)) : ℕ → ℕ → List EvidenceView → Type 0 where
   begun : Gathers files lines 0 0 []
-  file : {n : ℕ} {before : List EvidenceView} {one : EvidenceView} (file : Option (List ℕ)) → Gathers files lines n 0 before
+  file : {n : ℕ} {before : List EvidenceView} {one : EvidenceView} (file : FileView) → Gathers files lines n 0 before
       → slice_get files n ≡ Some file → ShowsFile (n + 1) file one → Gathers files lines (n + 1) 0 (before ++ one ∷ [])
   line : {n k : ℕ} {before : List EvidenceView} {one : EvidenceView} (line : List ℕ) → Gathers files lines n k before
       → slice_get lines k ≡ Some line → ShowsLine before (k + 1) line one
@@ -364,7 +365,7 @@ abbrev pub line_texts : List (Bor (List ℕ)) → List (List ℕ)
 line_texts lines = map (λ line. line.now) lines
 
 -- what all files show, and all lines of these bytes
-abbrev pub GathersAll : List (Option (List ℕ)) → List ℕ → List EvidenceView → Type 0
+abbrev pub GathersAll : List FileView → List ℕ → List EvidenceView → Type 0
 GathersAll files bytes evidence = let lines = slice_split (λ byte. byte == 10) bytes in
     Gathers files lines (length files) (length lines) evidence
 
@@ -412,7 +413,7 @@ audit_lines (one ∷ later) = fault_line one ++ (flat_map (breach_lines one) lat
 
 -- How `audit` ends: the tickets could not be read, or are too many; memory was refused; or the lines were written, and the
 -- status is 0 if there is none.
-pub data EndsAudit (files : List (Option (List ℕ))) (old : StreamsView) (status : ℕ) (new : StreamsView) : Type 0 where
+pub data EndsAudit (files : List FileView) (old : StreamsView) (status : ℕ) (new : StreamsView) : Type 0 where
   not_read : (fault : InputFault) (rest : InputView) → HasInputFault old.input rest fault
       → RefusesOnOutput (input_fault_name fault) (record old { input = rest }) status new → EndsAudit files old status new
   too_many : (bytes : List ℕ) (rest : InputView) → ReadsFirst old.input rest TICKETS_BYTES bytes

@@ -3,6 +3,7 @@
 ghost use Rattle.std.specs.Prelude.{◌≡◌, ◌==◌, ◌++◌, ℕ, List, Option, IfOk, OnOk, length, map, option_map, string_bytes};
 ghost use Rattle.std.specs.List.{flat_map, list_any, slice_split};
 ghost use Rattle.dm_print_ledger.specs.Verdicts.{lacks_ticket};
+ghost use Rattle.relay_shared.specs.Command.{FileView};
 ghost use Rattle.relay_streams.specs.Streams.{TakesPart};
 ghost use Rattle.relay_printer_commands.specs.Printers.{EndsAudit, EvidenceView, Gathers, GathersAll, ShowsFile, ShowsLine, are_same, audit_lines, breach_line, breach_lines, evidence_name, fault_line, is_again, is_receiver as test_of_receiver, shows_none, line_texts};
 
@@ -55,19 +56,20 @@ impl Evidence {
         }
     }
 
-    // What a file shows.
-    fn of_file<A: Allocator, F: NamedFile>(alloc: A, file: &F, place: usize) -> Evidence
-        ensures { ShowsFile place (F.remaining file.now) result }
+    // What a file shows, which is read into this room.
+    fn of_file<F: NamedFile>(file: &F, room: &mut [u8], place: usize) -> Evidence
+        requires { length room.old ≡ LEDGER_BYTES }
+        ensures { ShowsFile place (F.known file.now) result }
     {
         let reader = match file.open() {
             Ok(reader) => reader,
             Err(fault) => return Evidence::none(true, place, Some(fault.name())),
         };
-        let bytes = match Input::new(reader).read_up_to(alloc, LEDGER_BYTES) {
-            Ok(bytes) => bytes,
+        let count = match Input::new(reader).fill(room) {
+            Ok(count) => count,
             Err(fault) => return Evidence::none(true, place, Some(fault.name())),
         };
-        match Shown::read(&bytes) {
+        match Shown::read(&room[..count]) {
             Ok(shown) => Evidence {
                 is_ledger: true,
                 place,
@@ -165,11 +167,12 @@ fn gather_files<A: Allocator + Copy, F: NamedFile>(
     files: &[F],
 ) -> Result<Vec<Evidence, A>, AllocError>
     ensures { IfOk result (λ evidence. (lines : List (List ℕ))
-        → Gathers (map F.remaining files.now) lines (length (map F.remaining files.now)) 0 evidence.items) }
+        → Gathers (map F.known files.now) lines (length (map F.known files.now)) 0 evidence.items) }
 {
+    let mut room = vec![in alloc; 0u8; LEDGER_BYTES]?;
     let mut evidence = Vec::new(alloc);
     for (i, file) in files.iter().enumerate() {
-        evidence.push(Evidence::of_file(alloc, file, i + 1))?;
+        evidence.push(Evidence::of_file(file, &mut room, i + 1))?;
     }
     Ok(evidence)
 }
@@ -186,7 +189,7 @@ fn gather_lines<A: Allocator + Copy>(
     evidence: &mut Vec<Evidence, A>,
     lines: &[&[u8]],
 ) -> Result<(), AllocError>
-    ensures { (files : List (Option (List ℕ))) (n : ℕ) → Gathers files (line_texts lines.now) n 0 evidence.old.items
+    ensures { (files : List FileView) (n : ℕ) → Gathers files (line_texts lines.now) n 0 evidence.old.items
         → OnOk result (Gathers files (line_texts lines.now) n (length (line_texts lines.now)) evidence.new.items) }
 {
     for (i, line) in lines.iter().enumerate() {
@@ -270,7 +273,7 @@ fn audit<A: Allocator + Copy, F: NamedFile>(
     bytes: &[u8],
 ) -> Result<Vec<u8, A>, AllocError>
     ensures { IfOk result (λ text. (evidence : List EvidenceView)
-        × GathersAll (map F.remaining files.now) bytes.now evidence × (text.items ≡ audit_lines evidence)) }
+        × GathersAll (map F.known files.now) bytes.now evidence × (text.items ≡ audit_lines evidence)) }
 {
     let lines = lines_in(alloc, bytes)?;
     let mut evidence = gather_files(alloc, files)?;
@@ -288,7 +291,7 @@ pub fn audit_command<A: Allocator + Copy, F: NamedFile, R: Read, W: Write, E: Wr
     streams: &mut Streams<R, W, E>,
 ) -> u8
     ensures part { TakesPart streams.old.input.remaining streams.new.input.remaining TICKETS_BYTES }
-    ensures ends { EndsAudit (map F.remaining files.now) streams.old result streams.new }
+    ensures ends { EndsAudit (map F.known files.now) streams.old result streams.new }
 {
     let bytes = match streams.input.read_up_to(alloc, TICKETS_BYTES) {
         Ok(bytes) => bytes,

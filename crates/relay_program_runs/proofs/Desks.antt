@@ -26,6 +26,7 @@ use Rattle.relay_program_runs.specs.Law.{At, DeliversPrinted, Halts, IsBlank, Le
 use Rattle.relay_program_runs.specs.Passed.{Passed, passed_by, text_of}
 use Rattle.relay_program_runs.proofs.{Effects.no_documents, Lists.all_so, Lists.before_or_now}
 use Rattle.relay_program_runs.proofs.Printers.{OneMore, Stands, begun, holds, nothing_ran}
+use Rattle.relay_shared.specs.Command.{FileView}
 
 -- ---- more labels
 
@@ -113,25 +114,25 @@ record Clean (labels : List Label) (command : Command) (before : OnDesk) (status
   delivered : IfSome (text_of command) (λ text. GivesPrinted labels text before status after)
 
 module _ (A : Type 0) (labels : List Label) (printed : ArePrinted labels) (one : AreOfOneDocument labels)
-    (images : List (Option (List ℕ))) (before after : OnDesk) (status : ℕ) (clean : HasPrinted labels before) where
+    (inputs : List FileView) (before after : OnDesk) (status : ℕ) (clean : HasPrinted labels before) where
   same_set : after.files.set ≡ before.files.set → HoldsPrinted labels after.files.set
   same_set same = subst (HoldsPrinted labels) (sym same) clean.set
 
   same_files : after.files ≡ before.files → HoldsPrinted labels after.files.set
   same_files same = same_set (ap (λ (f : DeskFiles). f.set) same)
 
-  effect : (command : Command) (does : Does A command images before status after) →
-      AllByRecursion (IsNearPrinted labels) (passed_by A command images before status after does).scanned →
-      AllByRecursion (IsPrintedFile labels) (passed_by A command images before status after does).imported →
-      Clean labels command before status after (passed_by A command images before status after does)
+  effect : (command : Command) (does : Does A command inputs before status after) →
+      AllByRecursion (IsNearPrinted labels) (passed_by A command inputs before status after does).scanned →
+      AllByRecursion (IsPrintedFile labels) (passed_by A command inputs before status after does).imported →
+      Clean labels command before status after (passed_by A command inputs before status after does)
   effect (Scan file capacity) does near sent = record {
-    set = (each_scan_keeps A labels capacity images before status after printed clean does near).set;
+    set = (each_scan_keeps A labels capacity inputs before status after printed clean does near).set;
     exported = tt;
     copied = tt;
     delivered = tt;
   }
   effect (Import file capacity) does near sent = record {
-    set = (each_import_keeps labels capacity images before status after printed clean does.0 sent).set;
+    set = (each_import_keeps labels capacity inputs before status after printed clean does.0 sent).set;
     exported = tt;
     copied = tt;
     delivered = tt;
@@ -180,27 +181,27 @@ module _ (A : Type 0) (labels : List Label) (printed : ArePrinted labels) (one :
   effect World does near sent = record { set = same_files does.0.1; exported = tt; copied = tt; delivered = tt }
 
 -- the status that it exited with, or would have
-abbrev status_at : {A : Type 0} {command : Command} {images : List (Option (List ℕ))} {before after : OnDesk} →
-    Halts A command images before after → ℕ
+abbrev status_at : {A : Type 0} {command : Command} {inputs : List FileView} {before after : OnDesk} →
+    Halts A command inputs before after → ℕ
 status_at (exited status does) = status
 status_at (cut_short status does) = status
 
-if_exited : {A : Type 0} {command : Command} {images : List (Option (List ℕ))} {before after : OnDesk}
-    (ends : Halts A command images before after) (P : ℕ → Type 0) → P (status_at ends) → IfSome (status_of ends) P
+if_exited : {A : Type 0} {command : Command} {inputs : List FileView} {before after : OnDesk}
+    (ends : Halts A command inputs before after) (P : ℕ → Type 0) → P (status_at ends) → IfSome (status_of ends) P
 if_exited (exited status does) P so = so
 if_exited (cut_short status does) P so = tt
 
 clean_at : (A : Type 0) (labels : List Label) (printed : ArePrinted labels) (one : AreOfOneDocument labels)
-    (command : Command) {images : List (Option (List ℕ))} (before after : OnDesk)
-    (ends : Halts A command images before after)
+    (command : Command) {inputs : List FileView} (before after : OnDesk)
+    (ends : Halts A command inputs before after)
     (clean : HasPrinted labels before) →
     AllByRecursion (IsNearPrinted labels) (passed_at ends).scanned →
     AllByRecursion (IsPrintedFile labels) (passed_at ends).imported →
     Clean labels command before (status_at ends) after (passed_at ends)
-clean_at A labels printed one command {images} before after (exited status does) clean near sent =
-    effect A labels printed one images before after status clean command does near sent
-clean_at A labels printed one command {images} before after (cut_short status does) clean near sent =
-    effect A labels printed one images before after status clean command does near sent
+clean_at A labels printed one command {inputs} before after (exited status does) clean near sent =
+    effect A labels printed one inputs before after status clean command does near sent
+clean_at A labels printed one command {inputs} before after (cut_short status does) clean near sent =
+    effect A labels printed one inputs before after status clean command does near sent
 
 -- ---- what is so once commands ran
 

@@ -21,6 +21,7 @@ use Rattle.relay_desk_runs.specs.Answered.{HasNoDocuments}
 use Rattle.relay_desk_runs.proofs.Opened.{at_desk_joint, copy_joint, held_same, import_joint, on_id_joint}
 use Rattle.relay.specs.Program.{Does}
 use Rattle.relay_program_runs.specs.Passed.{Made, Passed, made_by, made_where, passed_by}
+use Rattle.relay_shared.specs.Command.{FileView}
 
 -- the store is honest, and holds nothing, or what the printer of this number stores
 abbrev pub HoldsSo : Relay → Saved → Option ℕ → Type 0
@@ -80,16 +81,16 @@ made_here (Some other) b bytes one none some = cc (none)
 abbrev pub Taken : Relay → Option TicketView → Type 0
 Taken relay taken = IfSome taken (λ ticket. (it : ℕ) × (slice_get relay.tickets it ≡ Some ticket))
 
-module _ (A : Type 0) (relay : Relay) (images : List (Option (List ℕ))) (before after : OnDesk) (status : ℕ) where
+module _ (A : Type 0) (relay : Relay) (inputs : List FileView) (before after : OnDesk) (status : ℕ) where
   abbrev Is : Option ℕ → Command → Passed → Type 0
   Is o command p = Effect A relay o command before after p
 
   same_joint : after.files ≡ before.files → after.files.joint ≡ before.files.joint
   same_joint same = ap (λ (f : DeskFiles). f.joint) same
 
-  pub effect : (command : Command) (does : Does A command images before status after) (o : Option ℕ) →
-      HoldsSo relay before.files.joint o → Taken relay (passed_by A command images before status after does).taken →
-      Is o command (passed_by A command images before status after does)
+  pub effect : (command : Command) (does : Does A command inputs before status after) (o : Option ℕ) →
+      HoldsSo relay before.files.joint o → Taken relay (passed_by A command inputs before status after does).taken →
+      Is o command (passed_by A command inputs before status after does)
   effect (Ledger file number first last) does None (honest, none) left =
       let range : Range = record { first = first; last = last } in
       let m = is_made number range (ledger_at before.files.joint before.streams)
@@ -159,9 +160,9 @@ module _ (A : Type 0) (relay : Relay) (images : List (Option (List ℕ))) (befor
 
 -- ---- what a print let out
 
-module _ (A : Type 0) (images : List (Option (List ℕ))) (before after : OnDesk) (status : ℕ) where
-  pub out_of : (command : Command) (does : Does A command images before status after) (job : JobView) →
-      (passed_by A command images before status after does).printed ≡ Some job →
+module _ (A : Type 0) (inputs : List FileView) (before after : OnDesk) (status : ℕ) where
+  pub out_of : (command : Command) (does : Does A command inputs before status after) (job : JobView) →
+      (passed_by A command inputs before status after does).printed ≡ Some job →
       AppendsPart before.streams.output.contents after.streams.output.contents (images_of job.labels)
   out_of (Print file number labels scheme) does job is =
       print_out (ledger_at before.files.joint before.streams) (ledger_at after.files.joint after.streams) status does.0.0

@@ -10,6 +10,7 @@ use Rattle.relay_program_runs.specs.Law.{At, MeetsPremises, IsBlank, IsNew, Ran,
 use Rattle.relay_program_runs.specs.Lines.{Follow, LineRan, LinesAsk, NoLinePrintsAnIdAgain, WhatLinesDeliverWasPrinted, all_commands, commands_in, if_named, ran_at, saved_as}
 use Rattle.relay_program_runs.proofs.{Lists.all_so, Walk.no_id_is_printed_twice, Walk.what_is_delivered_was_printed}
 use Rattle.relay_program_runs.proofs.Steps.{Pairs, at_same, found, pairs_so, there}
+use Rattle.relay_shared.specs.Command.{FileView}
 
 -- ---- paths, each once
 
@@ -187,13 +188,13 @@ module _ (A : Type 0) where
       over,
     )
 
-    over_line : (images : List ℕ → Option (List ℕ)) (name : Option (List ℕ)) (old new : SystemView) (status : ℕ)
-        (line : program.Runs A images name old status new) (rans : List (Ran A)) → AllIn paths rans →
+    over_line : (inputs : List ℕ → FileView) (name : Option (List ℕ)) (old new : SystemView) (status : ℕ)
+        (line : program.Runs A inputs name old status new) (rans : List (Ran A)) → AllIn paths rans →
         IfSome (saved_as line) (IsNone paths) → RunsOver new.places rans →
         RunsOver old.places (commands_in line ++ rans)
-    over_line images name old new status (does line named met (does_here none at)) rans all saved over =
+    over_line inputs name old new status (does line named met (does_here none at)) rans all saved over =
         over_at (named_path line.command) (ran_at at) old.places new.places refl at.is_at rans over
-    over_line images name old new status (does line named met (does_and_saves path is to)) rans all saved over =
+    over_line inputs name old new status (does line named met (does_and_saves path is to)) rans all saved over =
         over_at (named_path line.command) (ran_at to.does) old.places to.done.places refl to.does.is_at rans (elim to.saves [
           | inl kept ↦ subst (λ (s : SystemView). RunsOver s.places rans) kept.2 over
           | inr (zero_is, saves) ↦ elim saves.saves [
@@ -203,9 +204,9 @@ module _ (A : Type 0) where
                 over
           ]
         ])
-    over_line images name old new status (does line named met (lacks_memory names same told)) rans all saved over =
+    over_line inputs name old new status (does line named met (lacks_memory names same told)) rans all saved over =
         subst (λ (p : PlacesView). RunsOver p rans) same over
-    over_line images name old new status (shows fault ends shown same) rans all saved over =
+    over_line inputs name old new status (shows fault ends shown same) rans all saved over =
         subst (λ (p : PlacesView). RunsOver p rans) same over
 
     over_lines : (lines : List (LineRan A)) (places : PlacesView) → AllIn paths (all_commands lines) →
@@ -215,7 +216,7 @@ module _ (A : Type 0) where
     over_lines (line ∷ later) places all saved (same, follow) =
         let rest = all_later _ (commands_in line.runs) (all_commands later) all in
         subst (λ (p : PlacesView). RunsOver p (all_commands (line ∷ later))) same
-        (over_line line.images line.name line.before line.after line.status line.runs (all_commands later)
+        (over_line line.inputs line.name line.before line.after line.status line.runs (all_commands later)
         rest saved.0 (over_lines later line.after.places rest saved.1 follow))
 
   asks : (lines : List (LineRan A)) (ask : LinesAsk lines) →

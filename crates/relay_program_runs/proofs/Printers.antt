@@ -24,6 +24,7 @@ use Rattle.relay_program_runs.specs.Law.{At, Halts, IsBlank, IsFirstOfItsId, IsO
 use Rattle.relay_program_runs.specs.Passed.{Made, made_by}
 use Rattle.relay_program_runs.proofs.Effects.{Effect, HoldsSo, Taken, effect, follows, idle, makes, out_of, unmade}
 use Rattle.relay_program_runs.proofs.Lists.{at_length, before_or_now, made_more, one_before, one_now}
+use Rattle.relay_shared.specs.Command.{FileView}
 
 -- ---- what is so once commands ran
 
@@ -489,22 +490,22 @@ module _ (A : Type 0) (ranges : List Range) (earlier : List (Ran A)) (site : Lis
 
 -- ---- whatever the command
 
-effect_at : (A : Type 0) (relay : Relay) (command : Command) {images : List (Option (List ℕ))} (before after : OnDesk)
-    (ends : Halts A command images before after) (o : Option ℕ) → HoldsSo relay before.files.joint o →
+effect_at : (A : Type 0) (relay : Relay) (command : Command) {inputs : List FileView} (before after : OnDesk)
+    (ends : Halts A command inputs before after) (o : Option ℕ) → HoldsSo relay before.files.joint o →
     Taken relay (passed_at ends).taken →
     Effect A relay o command before after (passed_at ends)
-effect_at A relay command {images} before after (exited status does) o holds left =
-    effect A relay images before after status command does o holds left
-effect_at A relay command {images} before after (cut_short status does) o holds left =
-    effect A relay images before after status command does o holds left
+effect_at A relay command {inputs} before after (exited status does) o holds left =
+    effect A relay inputs before after status command does o holds left
+effect_at A relay command {inputs} before after (cut_short status does) o holds left =
+    effect A relay inputs before after status command does o holds left
 
-out_at : (A : Type 0) (command : Command) {images : List (Option (List ℕ))} (before after : OnDesk)
-    (ends : Halts A command images before after) (job : JobView) → (passed_at ends).printed ≡ Some job →
+out_at : (A : Type 0) (command : Command) {inputs : List FileView} (before after : OnDesk)
+    (ends : Halts A command inputs before after) (job : JobView) → (passed_at ends).printed ≡ Some job →
     AppendsPart before.streams.output.contents after.streams.output.contents (images_of job.labels)
-out_at A command {images} before after (exited status does) job is =
-    out_of A images before after status command does job is
-out_at A command {images} before after (cut_short status does) job is =
-    out_of A images before after status command does job is
+out_at A command {inputs} before after (exited status does) job is =
+    out_of A inputs before after status command does job is
+out_at A command {inputs} before after (cut_short status does) job is =
+    out_of A inputs before after status command does job is
 
 -- what is so once it ran: more labels may have left
 pub record OneMore (A : Type 0) (ranges : List Range) (earlier : List (Ran A)) (relay : Relay) (ran : Ran A)

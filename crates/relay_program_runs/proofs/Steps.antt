@@ -94,10 +94,10 @@ pub record Step (A : Type 0) : Type 0 where
 
 module _ {A : Type 0} {command : Command} {x y : DeskFiles} {input output : List ℕ} {status : ℕ} where
   abbrev pub ran : IsDone A command x input status y output → Ran A
-  ran d = record { command = command; images = []; before = given x input; after = d.after; ends = exited status d.does }
+  ran d = record { command = command; inputs = []; before = given x input; after = d.after; ends = exited status d.does }
 
   abbrev pub cut : IsDone A command x input status y output → Ran A
-  cut d = record { command = command; images = []; before = given x input; after = d.after; ends = cut_short status d.does }
+  cut d = record { command = command; inputs = []; before = given x input; after = d.after; ends = cut_short status d.does }
 
   abbrev pub exits : {path : List ℕ} → ℕ → IsDone A command x input status y output → path_of command ≡ path → Step A
   exits {path} place d named =

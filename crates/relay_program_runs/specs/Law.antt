@@ -16,7 +16,7 @@ use Rattle.dm_print_ledger.specs.Ledger.{JobView}
 use Rattle.dm_event_history.specs.Headline.{IsApart}
 use Rattle.relay_command.specs.declared.command.Command.{Command}
 use Rattle.relay_streams.specs.Streams.{AppendsPart, InputView, OutputView}
-use Rattle.relay_shared.specs.Command.{ReadsDocument}
+use Rattle.relay_shared.specs.Command.{FileView, ReadsDocument}
 use Rattle.relay_printer_commands.specs.Printers.{images_of}
 use Rattle.relay_desk_commands.specs.Desks.{DeskFiles, IsTextOfId, OnDesk}
 use Rattle.relay.specs.Program.{Does, path_of}
@@ -27,32 +27,32 @@ use Rattle.relay_program_runs.specs.Passed.{Made, Passed, made_by, passed_by, te
 -- A command exited with this status. Or the machine cut it short: then it left what it may leave if from some point on each
 -- call and each write fails, so what its clause allows, and nobody saw the status of that. If a save failed and the machine
 -- stopped before the file was read again, the command counts as cut short, since the stop may have undone the save.
-pub data Halts (A : Type 0) (command : Command) (images : List (Option (List ℕ))) (before after : OnDesk) : Type 0 where
-  exited : (status : ℕ) → Does A command images before status after → Halts A command images before after
-  cut_short : (status : ℕ) → Does A command images before status after → Halts A command images before after
+pub data Halts (A : Type 0) (command : Command) (inputs : List FileView) (before after : OnDesk) : Type 0 where
+  exited : (status : ℕ) → Does A command inputs before status after → Halts A command inputs before after
+  cut_short : (status : ℕ) → Does A command inputs before status after → Halts A command inputs before after
 
 -- A command with its options; the bytes of each file that it was given to read, where they are known; what it found and
 -- what it left: the store at its path, the set beside it, and its streams; and how it ended, with the clause of `do_command`
 -- that says so. `A` is what it allocates in.
 pub record Ran (A : Type 0) : Type 0 where
   pub command : Command
-  pub images : List (Option (List ℕ))
+  pub inputs : List FileView
   pub before : OnDesk
   pub after : OnDesk
-  pub ends : Halts A command images before after
+  pub ends : Halts A command inputs before after
 
-abbrev pub status_of : {A : Type 0} {command : Command} {images : List (Option (List ℕ))} {before after : OnDesk} →
-    Halts A command images before after → Option ℕ
+abbrev pub status_of : {A : Type 0} {command : Command} {inputs : List FileView} {before after : OnDesk} →
+    Halts A command inputs before after → Option ℕ
 status_of (exited status does) = Some status
 status_of (cut_short status does) = None
 
 -- what it let out and took in
-abbrev pub passed_at : {A : Type 0} {command : Command} {images : List (Option (List ℕ))} {before after : OnDesk} →
-    Halts A command images before after → Passed
-passed_at {A} {command} {images} {before} {after} (exited status does) =
-    passed_by A command images before status after does
-passed_at {A} {command} {images} {before} {after} (cut_short status does) =
-    passed_by A command images before status after does
+abbrev pub passed_at : {A : Type 0} {command : Command} {inputs : List FileView} {before after : OnDesk} →
+    Halts A command inputs before after → Passed
+passed_at {A} {command} {inputs} {before} {after} (exited status does) =
+    passed_by A command inputs before status after does
+passed_at {A} {command} {inputs} {before} {after} (cut_short status does) =
+    passed_by A command inputs before status after does
 
 abbrev pub passed : {A : Type 0} → Ran A → Passed
 passed ran = passed_at ran.ends

@@ -6,27 +6,28 @@ use Rattle.relay.specs.Places.{PlacesView}
 use Rattle.relay.specs.Program.{named_path, path_of, DoesAt, SystemView, does, does_and_saves, does_here, streams_over}
 use Rattle.relay.specs.Program as program
 use Rattle.relay_program_runs.specs.Law.{AreApart, DeliversPrinted, Each, IsBlank, IsFirstOfItsId, Ran, TakesGiven, TakesPrinted, all_made, exited}
+use Rattle.relay_shared.specs.Command.{FileView}
 
--- A line that ran: the bytes of the files to read, by their names, where they are known; its first word; the system before
--- and after it; and its status, which nobody saw if the machine cut it short. Then it left what it may leave if, from some
--- point on, each call and each write fails.
+-- A line that ran: what is known of the files to be read, by their names; its first word; the system before and after it;
+-- and its status, which nobody saw if the machine cut it short. Then it left what it may leave if, from some point on, each
+-- call and each write fails.
 pub record LineRan (A : Type 0) : Type 0 where
-  pub images : List ℕ → Option (List ℕ)
+  pub inputs : List ℕ → FileView
   pub name : Option (List ℕ)
   pub before : SystemView
   pub status : ℕ
   pub after : SystemView
-  pub runs : program.Runs A images name before status after
+  pub runs : program.Runs A inputs name before status after
 
 -- ---- the commands of lines
 
 module _ {A : Type 0} where
   -- the command that was done, with what it found at its path, and what it left there
-  abbrev pub ran_at : {command : Command} {images : List (Option (List ℕ))} {old new : SystemView} {status : ℕ} →
-      DoesAt A command images old status new → Ran A
-  ran_at {command} {images} {old} at = record {
+  abbrev pub ran_at : {command : Command} {inputs : List FileView} {old new : SystemView} {status : ℕ} →
+      DoesAt A command inputs old status new → Ran A
+  ran_at {command} {inputs} {old} at = record {
     command = command;
-    images = images;
+    inputs = inputs;
     before = record { files = at.before; streams = streams_over old.standard };
     after = record { files = at.after; streams = at.between.wrote };
     ends = exited at.between.ended at.between.does;
@@ -37,8 +38,8 @@ module _ {A : Type 0} where
   if_named None ran = []
   if_named (Some path) ran = ran ∷ []
 
-  abbrev pub commands_in : {images : List ℕ → Option (List ℕ)} {name : Option (List ℕ)} {old new : SystemView} {status : ℕ} →
-      program.Runs A images name old status new → List (Ran A)
+  abbrev pub commands_in : {inputs : List ℕ → FileView} {name : Option (List ℕ)} {old new : SystemView} {status : ℕ} →
+      program.Runs A inputs name old status new → List (Ran A)
   commands_in (does line named met (does_here none at)) = if_named (named_path line.command) (ran_at at)
   commands_in (does line named met (does_and_saves path is to)) = if_named (named_path line.command) (ran_at to.does)
   commands_in other = []
@@ -48,8 +49,8 @@ module _ {A : Type 0} where
   all_commands (line ∷ later) = commands_in line.runs ++ all_commands later
 
   -- the path of the file that the output of a line was to be saved as
-  abbrev pub saved_as : {images : List ℕ → Option (List ℕ)} {name : Option (List ℕ)} {old new : SystemView} {status : ℕ} →
-      program.Runs A images name old status new → Option (List ℕ)
+  abbrev pub saved_as : {inputs : List ℕ → FileView} {name : Option (List ℕ)} {old new : SystemView} {status : ℕ} →
+      program.Runs A inputs name old status new → Option (List ℕ)
   saved_as (does line named met (does_and_saves path is to)) = Some path
   saved_as other = None
 
@@ -85,6 +86,6 @@ WhatLinesDeliverWasPrinted A = (among : List ℕ → Bool) (lines : List (LineRa
 
 -- Where a line that does its command here exits with 0, the command has ended so, and all of its output is out.
 abbrev pub AllIsOut : Type 0 → Type 0
-AllIsOut A = (command : Command) (images : List (Option (List ℕ))) (old new : SystemView) →
-    (at : DoesAt A command images old 0 new) →
+AllIsOut A = (command : Command) (inputs : List FileView) (old new : SystemView) →
+    (at : DoesAt A command inputs old 0 new) →
     (at.between.ended ≡ 0) × Keeps at.between.wrote.output.contents new.standard.output

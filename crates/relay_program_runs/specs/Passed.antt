@@ -8,6 +8,7 @@ use Rattle.relay_desk_commands.specs.Desks.{OnDesk}
 use Rattle.relay_runs.specs.Runs.{job_ended, ticket_given, ticket_given_last, ticket_taken}
 use Rattle.relay_desk_runs.specs.Answered.{file_exported, files_imported, grids_scanned, label_copied}
 use Rattle.relay.specs.Program.{Does}
+use Rattle.relay_shared.specs.Command.{FileView}
 
 -- the text of the ID that `deliver` is to give
 abbrev pub text_of : Command → Option (List ℕ)
@@ -33,17 +34,17 @@ nothing =
     record { printed = None; given = None; copied = None; exported = None; taken = None; scanned = []; imported = [] }
 
 -- by the clause of the command
-abbrev pub passed_by : (A : Type 0) (command : Command) (images : List (Option (List ℕ))) (before : OnDesk) (status : ℕ)
-    (after : OnDesk) → Does A command images before status after → Passed
-passed_by A (Print file number labels scheme) images before status after does = record nothing { printed = job_ended does.0.0 }
-passed_by A (Give file number to first last) images before status after does = record nothing { given = ticket_given does.0 }
-passed_by A (GiveLast file number to count) images before status after does = record nothing { given = ticket_given_last does.0 }
-passed_by A (Take file number ticket) images before status after does = record nothing { taken = ticket_taken does.0 }
-passed_by A (Scan file capacity) images before status after does = record nothing { scanned = grids_scanned does }
-passed_by A (Export file id) images before status after does = record nothing { exported = file_exported does }
-passed_by A (Import file capacity) images before status after does = record nothing { imported = files_imported does.0 }
-passed_by A (Copy file id page side scheme) images before status after does = record nothing { copied = label_copied does }
-passed_by A other images before status after does = nothing
+abbrev pub passed_by : (A : Type 0) (command : Command) (inputs : List FileView) (before : OnDesk) (status : ℕ)
+    (after : OnDesk) → Does A command inputs before status after → Passed
+passed_by A (Print file number labels scheme) inputs before status after does = record nothing { printed = job_ended does.0.0 }
+passed_by A (Give file number to first last) inputs before status after does = record nothing { given = ticket_given does.0 }
+passed_by A (GiveLast file number to count) inputs before status after does = record nothing { given = ticket_given_last does.0 }
+passed_by A (Take file number ticket) inputs before status after does = record nothing { taken = ticket_taken does.0 }
+passed_by A (Scan file capacity) inputs before status after does = record nothing { scanned = grids_scanned does }
+passed_by A (Export file id) inputs before status after does = record nothing { exported = file_exported does }
+passed_by A (Import file capacity) inputs before status after does = record nothing { imported = files_imported does.0 }
+passed_by A (Copy file id page side scheme) inputs before status after does = record nothing { copied = label_copied does }
+passed_by A other inputs before status after does = nothing
 
 -- ---- ledgers
 

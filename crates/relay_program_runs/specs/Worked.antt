@@ -34,7 +34,7 @@ streams_of_input input = record {
 abbrev pub given : DeskFiles → List ℕ → OnDesk
 given files input = record { files = files; streams = streams_of_input input }
 
--- The command was done so, over this input and no file of images, left these files, and wrote these bytes.
+-- The command was done so, over this input and no file to be read, left these files, and wrote these bytes.
 pub record IsDone (A : Type 0) (command : Command) (files : DeskFiles) (input : List ℕ) (status : ℕ)
     (files_after : DeskFiles) (output : List ℕ) : Type 0 where
   pub after : OnDesk

@@ -22,7 +22,7 @@ const LINES: [(&str, &[u8]); 6] = [
 fn a_document_goes_from_a_ledger_to_a_desk(rt: HostRuntime) -> Result<(), Fail> {
     let alloc = rt.alloc();
     let opened = MemPlace { path: String::new(alloc), files: (MemStore::new(alloc), MemSet::new(alloc)) };
-    let mut places = MemPlaces { alloc, opened, kept: Vec::new(alloc), images: &[] };
+    let mut places = MemPlaces { alloc, opened, kept: Vec::new(alloc), inputs: &[] };
     let mut written = Vec::new(alloc);
     for (line, wanted) in LINES {
         let words: Vec<&str> = line.split(' ').collect(alloc)?;

@@ -58,8 +58,8 @@ fn done_within<A: Allocator + Copy, S: Store + Drop, T: StoreSet + Drop>(
         room,
     };
     let mut streams = Streams::new(input, output, Vec::new(alloc));
-    let no_images: &[&[u8]] = &[];
-    let ended = do_command(alloc, store, set, no_images, &mut streams, command);
+    let no_inputs: &[&[u8]] = &[];
+    let ended = do_command(alloc, store, set, no_inputs, &mut streams, command);
     After {
         store: ended.store,
         set: ended.set,

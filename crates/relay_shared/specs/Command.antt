@@ -1,6 +1,6 @@
 -- The document that a command reads; how it says what has happened, by a line and by its exit status, and what is out
 -- if its output fails; and which of its streams it changes.
-use Rattle.std.specs.Prelude.{◌≡◌, ℕ, true, List, ◌⊎◌, Result, Ok, Err, OnErr, OnOk, codes, ◌+◌, ◌<◌, ◌≤◌, Bool, false, ◌||◌, if◌then◌else◌, [], ◌∷◌, Option, max, MatchResult, ◌*◌, ◌-◌, ◌/◌, ◌%◌, ◌==◌, ◌++◌, map, slice_index_or, None, Some}
+use Rattle.std.specs.Prelude.{◌≡◌, ℕ, true, IsTrue, List, ◌⊎◌, Result, Ok, Err, OnErr, OnOk, codes, ◌+◌, ◌<◌, ◌≤◌, Bool, false, ◌||◌, if◌then◌else◌, [], ◌∷◌, Option, max, MatchResult, ◌*◌, ◌-◌, ◌/◌, ◌%◌, ◌==◌, ◌++◌, map, slice_index_or, None, Some}
 use Rattle.relay_streams.specs.Streams.{InputView, ReadsFirst, AppendsPart, OutputView, refused_line, write_fault_name, input_fault_name}
 use Rattle.relay_streams.specs.declared.fault.{InputFault.InputFault, WriteFault.WriteFault}
 use Rattle.relay_shared.specs.declared.{command.TheConstants.DOCUMENT_BYTES, command.Refusal.Refusal, cure.Cure.Cure}
@@ -219,40 +219,47 @@ pub data TellsImages (c : ImageCommand) (start : Progress c) (status : ℕ) (new
       → TakesImage c count old said last new → new.output.has_failed ≡ true
       → AppendsPart old.output.contents new.output.contents said.line → status ≡ 1 → TellsImages c start status new
 
--- ---- the images of files
+-- ---- files that are given by their names
+
+-- what is known of a file: the bytes that it gives, and by which faults its opening may be refused
+pub record FileView : Type 0 where
+  pub remaining : Option (List ℕ)
+  pub may_refuse : InputFault → Bool
+
+-- why a file gave no bytes: its opening was refused, or a read has failed
+abbrev pub GivesNothing : FileView → InputFault → Type 0
+GivesNothing file fault = IsTrue (file.may_refuse fault) ⊎ (fault ≡ input_faults.Read)
 
 abbrev pub at_image : {c : ImageCommand} → c.State → OutputView → AtImage c
 at_image now output = record { state = now; output = output }
 
--- How a command ends over a file of images, by the bytes that it gives: as over an input of them; or it was not opened,
--- and is refused.
-pub data TellsFile (c : ImageCommand) (bytes : Option (List ℕ)) (old : AtImage c) (status : ℕ) (new : AtImage c)
-    : Type 0 where
+-- How a command ends over a file of images: as over an input of its bytes; or it was not opened, and is refused.
+pub data TellsFile (c : ImageCommand) (file : FileView) (old : AtImage c) (status : ℕ) (new : AtImage c) : Type 0 where
   opened : (rest : InputView)
-      → TellsImages c (progress_at old.state (record { remaining = bytes; has_failed = false }) old.output) status
-      (progress_at new.state rest new.output) → TellsFile c bytes old status new
-  not_opened : (fault : InputFault) → new.state ≡ old.state
-      → TellsRefusal (input_fault_name fault) old.output status new.output → TellsFile c bytes old status new
+      → TellsImages c (progress_at old.state (record { remaining = file.remaining; has_failed = false }) old.output) status
+      (progress_at new.state rest new.output) → TellsFile c file old status new
+  not_opened : (fault : InputFault) → IsTrue (file.may_refuse fault) → new.state ≡ old.state
+      → TellsRefusal (input_fault_name fault) old.output status new.output → TellsFile c file old status new
 
 -- the output has failed or the command has ended, so that nothing is read any more
 abbrev pub has_stopped : (c : ImageCommand) → AtImage c → Bool
 has_stopped c at = at.output.has_failed || c.has_ended at.state
 
 -- so over files, one after another, until it has stopped; the status is the greatest
-pub data TellsFiles {S : Type 0} (Tells : Option (List ℕ) → S → ℕ → S → Type 0) (has_stopped : S → Bool)
-    : List (Option (List ℕ)) → S → ℕ → S → Type 0 where
+pub data TellsFiles {S : Type 0} (Tells : FileView → S → ℕ → S → Type 0) (has_stopped : S → Bool)
+    : List FileView → S → ℕ → S → Type 0 where
   no_file : {now : S} → TellsFiles Tells has_stopped [] now 0 now
-  last_file : {file : Option (List ℕ)} {later : List (Option (List ℕ))} {old new : S} {status : ℕ}
+  last_file : {file : FileView} {later : List FileView} {old new : S} {status : ℕ}
       → Tells file old status new → has_stopped new ≡ true → TellsFiles Tells has_stopped (file ∷ later) old status new
-  next_file : {file : Option (List ℕ)} {later : List (Option (List ℕ))} {old now new : S} {status others : ℕ}
+  next_file : {file : FileView} {later : List FileView} {old now new : S} {status others : ℕ}
       → Tells file old status now → has_stopped now ≡ false → TellsFiles Tells has_stopped later now others new
       → TellsFiles Tells has_stopped (file ∷ later) old (max status others) new
 
 -- How a command over images ends: over the files that it is given, and it reads nothing else; or over its input, if it is
 -- given none.
-pub data TellsInputs (c : ImageCommand) : List (Option (List ℕ)) → Progress c → ℕ → Progress c → Type 0 where
+pub data TellsInputs (c : ImageCommand) : List FileView → Progress c → ℕ → Progress c → Type 0 where
   of_input : {start new : Progress c} {status : ℕ} → TellsImages c start status new → TellsInputs c [] start status new
-  of_files : {file : Option (List ℕ)} {later : List (Option (List ℕ))} {start new : Progress c} {status : ℕ}
+  of_files : {file : FileView} {later : List FileView} {start new : Progress c} {status : ℕ}
       → new.input ≡ start.input
       → TellsFiles (TellsFile c) (has_stopped c) (file ∷ later) (at_image start.state start.output) status
       (at_image new.state new.output)

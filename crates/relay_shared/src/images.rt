@@ -1,9 +1,9 @@
 //! Images that follow one another on the input of a command, or in files that it is given, and the loops that answer to
 //! each by a line.
 
-ghost use Rattle.std.specs.Prelude.{◌≡◌, ℕ, List, map, max, true, false, ◌<◌, MatchResult, IfOk, Option, Some};
+ghost use Rattle.std.specs.Prelude.{◌≡◌, ℕ, List, map, max, true, false, ◌<◌, MatchResult, IfOk, IfErr, IsTrue, Some};
 ghost use Rattle.std.specs.Io.KnownBytes.{Consumes, IsAtEnd, Keeps};
-ghost use Rattle.relay_shared.specs.Command.{IsAnother, Progress, TellsFile, TellsFiles, TellsImages, TellsInputs, at_image, has_stopped, progress_at, AnswersPicture, ImageCommand};
+ghost use Rattle.relay_shared.specs.Command.{FileView, IsAnother, Progress, TellsFile, TellsFiles, TellsImages, TellsInputs, at_image, has_stopped, progress_at, AnswersPicture, ImageCommand};
 ghost use Rattle.relay_shared.specs.declared.images.TheConstants.{MOST_IMAGES};
 ghost use Rattle.relay_shared.specs.inner.Steps.{StopsStep, TakesStep};
 ghost use Rattle.dm_pbm_io.specs.Image.{picture};
@@ -160,25 +160,26 @@ fn each_image<A: Allocator + Copy, C: OnImages<A>, R: Read, W: Write, E: Write>(
 pub trait NamedFile {
     type Reader: Read + Drop;
 
-    /// The bytes that it gives, if they are known.
-    ghost remaining: { Self → Option (List ℕ) };
+    /// What is known of it.
+    ghost known: { Self → FileView };
 
     /// Opens it.
     ///
     /// # Errors
     /// `Read` where it can't be opened; `Memory` where the allocator refuses.
     fn open(&self) -> Result<Self::Reader, InputFault>
-        ensures { IfOk result (λ reader. Self.Reader.remaining reader ≡ remaining self.now) };
+        ensures opened { IfOk result (λ reader. Self.Reader.remaining reader ≡ (known self.now).remaining) }
+        ensures refused { IfErr result (λ fault. IsTrue ((known self.now).may_refuse fault)) };
 
-    /// Called after the last line of a file that was opened, with its reader, and what is to be noted of it where a
-    /// line names a refusal and the output took them all.
+    /// Called after the last line of a file that was opened, with its reader, and what is to be noted of it, if a line
+    /// names a refusal.
     fn end(&self, reader: Self::Reader, refused: Option<&str>);
 }
 
 impl<'a> NamedFile for &'a [u8] {
     type Reader = &'a [u8];
 
-    ghost remaining = { λ bytes. Some bytes.now };
+    ghost known = { λ bytes. record { remaining = Some bytes.now; may_refuse = λ _. false } };
 
     fn open(&self) -> Result<&'a [u8], InputFault> {
         Ok(*self)
@@ -196,7 +197,7 @@ fn each_of_file<A: Allocator + Copy, C: OnImages<A>, F: NamedFile, W: Write, E: 
     errors: &mut Output<E>,
 ) -> u8
     requires { C.command.has_ended (C.state command.old errors.old) ≡ false }
-    ensures told { TellsFile C.command (F.remaining file.now) (at_image (C.state command.old errors.old) output.old)
+    ensures told { TellsFile C.command (F.known file.now) (at_image (C.state command.old errors.old) output.old)
         result (at_image (C.state command.new errors.new) output.new) }
     ensures kept { C.keeps command.old errors.old command.new errors.new }
 {
@@ -239,7 +240,7 @@ fn each_file<A: Allocator + Copy, C: OnImages<A>, F: NamedFile, W: Write, E: Wri
     errors: &mut Output<E>,
 ) -> u8
     requires { C.command.has_ended (C.state command.old errors.old) ≡ false }
-    ensures told { TellsFiles (TellsFile C.command) (has_stopped C.command) (map F.remaining files.now)
+    ensures told { TellsFiles (TellsFile C.command) (has_stopped C.command) (map F.known files.now)
         (at_image (C.state command.old errors.old) output.old) result
         (at_image (C.state command.new errors.new) output.new) }
     ensures kept { C.keeps command.old errors.old command.new errors.new }
@@ -265,7 +266,7 @@ pub fn each_input<A: Allocator + Copy, C: OnImages<A>, F: NamedFile, R: Read, W:
     errors: &mut Output<E>,
 ) -> u8
     requires { C.command.has_ended (C.state command.old errors.old) ≡ false }
-    ensures told { TellsInputs C.command (map F.remaining files.now)
+    ensures told { TellsInputs C.command (map F.known files.now)
         (progress_at (C.state command.old errors.old) input.old output.old) result
         (progress_at (C.state command.new errors.new) input.new output.new) }
     ensures kept { C.keeps command.old errors.old command.new errors.new }

@@ -2,7 +2,7 @@
 use Rattle.std.specs.Prelude.{◌≡◌, ◌⊎◌, ℕ, ◌||◌, if◌then◌else◌, Bool, false, true, List, Option, max}
 use Rattle.std.proofs.Common.{arith, inl, inr, refl}
 use Rattle.relay_streams.specs.Streams.{OutputView, input_fault_name}
-use Rattle.relay_shared.specs.Command.{TellsRefusal, AtImage, ImageCommand, Progress, TellsFile, TellsFiles, TellsImages, TellsInputs, has_stopped}
+use Rattle.relay_shared.specs.Command.{FileView, TellsRefusal, AtImage, ImageCommand, Progress, TellsFile, TellsFiles, TellsImages, TellsInputs, has_stopped}
 use Rattle.relay_shared.specs.Command.{TellsImages.ended, TellsImages.stopped, TellsFile.not_opened, TellsFile.opened}
 use Rattle.relay_shared.specs.Command.TellsFiles.{last_file, next_file, no_file}
 use Rattle.relay_shared.specs.Command.TellsInputs.{of_input, of_files as of_named}
@@ -30,20 +30,20 @@ module _ (c : ImageCommand) where
       by_refused (refused || said.refused) status is
   of_images (stopped said answers takes failed part is) = inr is
 
-  of_file : {bytes : Option (List ℕ)} {old new : AtImage c} {status : ℕ} → TellsFile c bytes old status new →
+  of_file : {file : FileView} {old new : AtImage c} {status : ℕ} → TellsFile c file old status new →
       IsStatus status
   of_file (opened rest tells) = of_images tells
-  of_file {old = old} {new = new} {status = status} (not_opened fault same told) =
+  of_file {old = old} {new = new} {status = status} (not_opened fault may same told) =
       refused_status (input_fault_name fault) old.output new.output status told
 
-  of_files : {files : List (Option (List ℕ))} {old new : AtImage c} {status : ℕ} →
+  of_files : {files : List FileView} {old new : AtImage c} {status : ℕ} →
       TellsFiles (TellsFile c) (has_stopped c) files old status new → IsStatus status
   of_files no_file = inl refl
   of_files (last_file tells is_last) = of_file tells
   of_files (next_file {status = one} {others = others} tells goes_on later) =
       greater one others (of_file tells) (of_files later)
 
-  pub of_inputs : {files : List (Option (List ℕ))} {start new : Progress c} {status : ℕ} →
+  pub of_inputs : {files : List FileView} {start new : Progress c} {status : ℕ} →
       TellsInputs c files start status new → IsStatus status
   of_inputs (of_input tells) = of_images tells
   of_inputs (of_named same tells) = of_files tells

@@ -7,7 +7,7 @@ use Rattle.dm_encodation.specs.{declared.fault.EncodeFault.TheVariants.TooLong, 
 use Rattle.dm_pbm_io.specs.FaultNames.{shape_fault_name}
 use Rattle.relay_streams.specs.Streams.{input_fault_name, InputView, OutputView}
 use Rattle.relay_streams.specs.declared.fault.InputFault.TheVariants.{Read}
-use Rattle.relay_shared.specs.Command.{refusal_name, ReadsDocument, RefusesOnErrors, RefusesOnOutput, StreamsView, TellsBytes, TellsOnOutput, ImageCommand, Said, TellsInputs, progress_at, refusal_of, NotesChange}
+use Rattle.relay_shared.specs.Command.{FileView, refusal_name, ReadsDocument, RefusesOnErrors, RefusesOnOutput, StreamsView, TellsBytes, TellsOnOutput, ImageCommand, Said, TellsInputs, progress_at, refusal_of, NotesChange}
 use Rattle.relay_symbol_commands.specs.declared.refusal.{ReadRefusal.ReadRefusal, SymbolRefusal.SymbolRefusal}
 use Rattle.relay_symbol_commands.specs.declared.refusal.ReadRefusal.TheVariants.{Shape, Label, Text, Memory}
 use Rattle.std.specs.{List.flat_map, Fmt.decimal}
@@ -179,6 +179,6 @@ read_images = record {
 
 -- How `read` ends, from its streams to the exit status and the streams: the lines of its files of images were written, by
 -- the bytes of each, or those of its input where it is given none, or the output has failed at one of them.
-abbrev pub EndsRead : List (Option (List ℕ)) → StreamsView → ℕ → StreamsView → Type 0
+abbrev pub EndsRead : List FileView → StreamsView → ℕ → StreamsView → Type 0
 EndsRead images old status new = TellsInputs read_images images (progress_at old.errors old.input old.output) status
     (progress_at new.errors new.input new.output)

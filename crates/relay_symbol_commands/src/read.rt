@@ -186,7 +186,7 @@ pub fn read_command<A: Allocator + Copy, F: NamedFile, R: Read, W: Write, E: Wri
     streams: &mut Streams<R, W, E>,
 ) -> u8
     ensures status { (result ≡ 0) ⊎ (result ≡ 1) }
-    ensures printed { EndsRead (map F.remaining images.now) streams.old result streams.new }
+    ensures printed { EndsRead (map F.known images.now) streams.old result streams.new }
 {
     let mut reading = Reading;
     let (input, output) = (&mut streams.input, &mut streams.output);

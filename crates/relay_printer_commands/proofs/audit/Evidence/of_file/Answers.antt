@@ -1,23 +1,28 @@
-use Rattle.std.proofs.Common.{◌∙◌, sym}
+use Rattle.std.proofs.Common.{◌∙◌, inl, inr, refl, sym, take}
+use Rattle.relay_shared.proofs.Files.{first_of_file, read_named}
+use Rattle.relay_streams.specs.declared.fault.InputFault.TheVariants as input_faults
 use Rattle.relay_printer_commands.specs.Printers.ShowsFile.{not_read, read, refused}
 use Rattle.relay_printer_commands.proofs.audit.Evidence.of_file.Goals as goal
 
 pub returns-in-Err : goal.returns-in-Err
-returns-in-Err g c = rw (c.none.ensures, c.name.ensures) (not_read c.in-Err.fault)
+returns-in-Err g c =
+    rw (c.none.ensures, c.name.ensures) (not_read c.in-Err.fault (inl c.in-Err.ensures.refused))
 
-pub returns-in-Err-read_up_to : goal.returns-in-Err-read_up_to
-returns-in-Err-read_up_to g c =
-    rw (c.none-in-Err-read_up_to.ensures, c.name-in-Err-read_up_to.ensures) (not_read c.in-Err-read_up_to.fault)
+pub returns-in-Err-fill : goal.returns-in-Err-fill
+returns-in-Err-fill g c =
+    rw (c.none-in-Err-fill.ensures, c.name-in-Err-fill.ensures, read_named c.in-Err-fill.fault)
+    (not_read input_faults.Read (inr refl))
 
 pub returns-in-Ok-read : goal.returns-in-Ok-read
 returns-in-Ok-read g c =
-    let first = rw (c.new.ensures.remaining, c.in-Ok.ensures) at c.in-Ok-read_up_to.ensures.read.taken.first in
-    read c.in-Ok-read_up_to.bytes.items c.in-Ok-read.shown first
-    (sym (rw c.deref.ensures.value at c.read.ensures) ∙ c.in-Ok-read.is)
+    let first = first_of_file (c.new.ensures.remaining ∙ c.in-Ok.ensures.opened) (c.fill.auto.buffer ∙ c.requires)
+    c.in-Ok-fill.ensures.filled in
+    read (take c.in-Ok-fill.count c.fill.new.buffer) c.in-Ok-read.shown first (sym c.read.ensures ∙ c.in-Ok-read.is)
 
-pub returns : goal.returns
-returns g c =
-    let first = rw (c.new.ensures.remaining, c.in-Ok.ensures) at c.in-Ok-read_up_to.ensures.read.taken.first in
+pub returns-in-Err-read : goal.returns-in-Err-read
+returns-in-Err-read g c =
+    let first = first_of_file (c.new.ensures.remaining ∙ c.in-Ok.ensures.opened) (c.fill.auto.buffer ∙ c.requires)
+    c.in-Ok-fill.ensures.filled in
     rw (c.none-in-Err-read.ensures, c.name-in-Err-read.ensures)
-    (refused c.in-Ok-read_up_to.bytes.items c.in-Err-read.fault first
-    (sym (rw c.deref.ensures.value at c.read.ensures) ∙ c.in-Err-read.is))
+    (refused (take c.in-Ok-fill.count c.fill.new.buffer) c.in-Err-read.fault first
+    (sym c.read.ensures ∙ c.in-Err-read.is))
