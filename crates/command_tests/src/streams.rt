@@ -1,12 +1,10 @@
 //! Each command over readers and writers that fail, or are interrupted, after each number of bytes.
 
 use crate::calls::{
-    BOTH, CALLS, Call, CallEnd, LABEL, LABELS, OTHER, Whole, alone, alone_whole, is_whole, made,
-    made_over, streams_of,
+    BOTH, CALLS, Call, CallEnd, Whole, alone, alone_whole, is_whole, made, made_over, streams_of,
 };
 use crate::machine::Machine;
-use dm_store::{Kept, MemSet, MemStore};
-use relay_desk_commands::{held_command, import_command};
+use dm_store::Kept;
 use relay_shared::Streams;
 use std::alloc::Global;
 use std::test::Fail;
@@ -82,60 +80,6 @@ fn writers_are_interrupted_or_fail(rt: HostRuntime) -> Result<(), Fail> {
     Ok(())
 }
 
-// Whether a print whose line is cut has written no label, and saved the whole.
-fn is_cut(alloc: Global, call: Call, passes: usize, whole: &Whole) -> Result<bool, Fail> {
-    let errors = Faulty::failing_once(Vec::new(alloc), passes);
-    let streams = Streams::new(call.input(), Vec::new(alloc), errors);
-    let ended = alone(alloc, alloc, streams, call)?;
-    let has_line = whole.errors.get(..passes) == Some(ended.errors.taken());
-    let is_saved = ended.files == whole.files;
-    Ok(ended.status == 1 && ended.writer.is_empty() && has_line && is_saved)
-}
-
-// Where the line of a print can't be written no label goes out, nothing follows what is out of the line, and the
-// ID stays used.
-#[test]
-fn prints_no_label_without_its_line(rt: HostRuntime) -> Result<(), Fail> {
-    for call in [Call::Print, Call::PrintAuto] {
-        let whole = alone_whole(rt.alloc(), call)?;
-        for passes in 0..whole.errors.len() {
-            assert!(rt; is_cut(rt.alloc(), call, passes, &whole)?, "{passes}");
-        }
-    }
-    Ok(())
-}
-
-// A scan of both labels over an empty disk, whose input fails.
-fn scanned(
-    alloc: Global,
-    passes: usize,
-) -> Result<CallEnd<Faulty<&'static [u8]>, Vec<u8>, Vec<u8>>, Fail> {
-    let machine = Machine::whole(alloc, MemDisk::new(alloc))?;
-    let streams = streams_of(alloc, Faulty::failing(LABELS, passes));
-    made_over(alloc, alloc, machine, streams, Call::Scan(LABELS))
-}
-
-// A scan whose input fails within the second image has saved the page of the first, and its last line names the fault.
-#[test]
-fn a_scan_ends_at_a_failed_read(rt: HostRuntime) -> Result<(), Fail> {
-    let alloc = rt.alloc();
-    let first = made(
-        alloc,
-        Machine::whole(alloc, MemDisk::new(alloc))?,
-        Call::Scan(LABEL),
-    )?;
-    for passes in LABEL.len()..LABELS.len() {
-        let ended = scanned(alloc, passes)?;
-        let lines = ended.writer.as_slice();
-        let is_cut = lines == b"0101 1/2 new\nrefused Read\n".as_slice();
-        assert!(rt;
-            is_cut && ended.status == 1 && ended.files == first.files,
-            "{passes}"
-        );
-    }
-    Ok(())
-}
-
 // A text that is no ID is refused before any file is looked at: of a disk that does one call this is left.
 #[test]
 fn no_id_is_refused_before_any_file(rt: HostRuntime) -> Result<(), Fail> {
@@ -163,22 +107,5 @@ fn an_unread_import_is_refused_before_any_file(rt: HostRuntime) -> Result<(), Fa
         let is_refused = ended.is_refused(call, b"refused Read\n");
         assert!(rt; is_refused && !ended.has_stopped, "{passes}");
     }
-    Ok(())
-}
-
-// What is said of a file, of one that is damaged, and of the first again; and then of what is held.
-const IMPORTED: &[u8] =
-    b"0103 2 added 0001 new\nrefused Damaged\n0103 2 added 0000 again\n0103 2 lacks 2\n";
-
-#[test]
-fn a_refused_file_ends_no_import(rt: HostRuntime) -> Result<(), Fail> {
-    let alloc = rt.alloc();
-    let (store, set) = (MemStore::new(alloc), MemSet::new(alloc));
-    let mut streams = streams_of(alloc, BOTH);
-    let files = [OTHER, b"DMPG\x02".as_slice(), OTHER];
-    let ended = import_command(alloc, store, set, &files, &mut streams, 1);
-    let held = held_command(ended.store, ended.set, &mut streams, None);
-    let lines = streams.output.into_writer();
-    assert!(rt; (ended.status, held.status) == (1, 0) && lines.as_slice() == IMPORTED);
     Ok(())
 }

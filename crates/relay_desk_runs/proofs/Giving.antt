@@ -18,9 +18,7 @@ use Rattle.relay_streams.specs.declared.fault.WriteFault.TheVariants.{Write}
 use Rattle.relay_streams.proofs.Parts.{part_whole}
 use Rattle.relay_shared.specs.Command.{RefusesOnErrors, StreamsView, TellsBytes, TellsRefusal, refusal_name}
 use Rattle.relay_shared.specs.declared.command.Refusal.TheVariants as refusals
-use Rattle.relay_desk_commands.specs.Desks.{EndsCopy, EndsCopyOf, GivesCopy, IsPageHeld, ByName, EndsDeliver, EndsExport, IsTextOfId, OnDesk}
-use Rattle.relay_desk_commands.specs.Desks.{EndsCopyOf.no_side, EndsCopyOf.of_side, EndsOnId.no_id, EndsOnId.of_id}
-use Rattle.relay_desk_commands.specs.Desks.EndsAtDesk.{no_desk, opened}
+use Rattle.relay_desk_commands.specs.Desks.{EndsCopy, EndsCopyOf, GivesCopy, IsPageHeld, ByName, EndsDeliver, EndsExport, IsTextOfId, OnDesk, EndsCopyOf.no_side, EndsCopyOf.of_side, EndsOnId.no_id, EndsOnId.of_id, EndsAtDesk.no_desk, EndsAtDesk.opened}
 use Rattle.relay_desk_runs.specs.Answered.{file_exported, if_copied, label_copied, EachCopyIsPrinted, EachDeliverIsPrinted, EachExportIsPrinted, GivesPrinted, HoldsPrinted, HasPrinted, IsOfLabel, IsPrintedFile, document, nothing}
 use Rattle.relay_desk_runs.proofs.OneDesk.{asked}
 use Rattle.relay_desk_runs.proofs.Opened.{IsOpened, as_they_were, at_desk_keeps, is_opened, on_id_keeps, still_clean}

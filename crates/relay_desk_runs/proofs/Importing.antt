@@ -8,8 +8,7 @@ use Rattle.dm_assembly_desk.specs.declared.adding.AddFault.TheVariants as adds
 use Rattle.dm_assembly_desk.specs.declared.{limits.TheConstants.MOST_CAPACITY, reply.Imported.Imported}
 use Rattle.dm_assembly_desk.proofs.AnyFile.{one_spelled}
 use Rattle.dm_event_history.specs.{Relay.Label, Headline.ArePrinted, Headline.IsCleanExport}
-use Rattle.relay_desk_commands.specs.Desks.{EndsImport, EndsAtDesk.no_desk, EndsAtDesk.opened, ImportsFile}
-use Rattle.relay_desk_commands.specs.Desks.{EndsImport.not_read, EndsImport.read, EndsImport.read_files, ImportsFile.file_not_read, ImportsFile.file_read}
+use Rattle.relay_desk_commands.specs.Desks.{EndsImport, EndsAtDesk.no_desk, EndsAtDesk.opened, ImportsFile, EndsImport.not_read, EndsImport.read, EndsImport.read_files, ImportsFile.file_not_read, ImportsFile.file_read}
 use Rattle.relay_streams.specs.Streams.{OutputView}
 use Rattle.relay_desk_runs.specs.Answered.{bytes_of_file, files_imported, if_imported, EachForgetKeeps, EachImportKeeps, HasNoDocuments, HoldsPrinted, HasPrinted, IsPrintedFile}
 use Rattle.relay_desk_runs.proofs.Saving.{MayBeAdded, ShowsPrinted, adding, forgetting}

@@ -13,17 +13,9 @@ use Rattle.dm_assembly_desk.specs.declared.fault.ScanFault.TheVariants as scan_f
 use Rattle.dm_event_history.specs.{Relay.Label, Headline.ArePrinted, Headline.IsCleanExport}
 use Rattle.dm_event_history.proofs.Stays.{lone_clean, lone_export}
 use Rattle.relay_streams.specs.Streams.{InputView}
-use Rattle.relay_shared.specs.Command.{AnswersImages, AtImage, FileView, ImageComes, EndsImages, Progress, Said, TellsFile, TellsFiles, TellsImages, TellsInputs}
-use Rattle.relay_shared.specs.Command.ImageComes.{image, unread, too_many}
-use Rattle.relay_shared.specs.Command.AnswersImages.{none, another}
-use Rattle.relay_shared.specs.Command.EndsImages.{no_image, last_line}
-use Rattle.relay_shared.specs.Command.TellsImages.{ended, stopped}
+use Rattle.relay_shared.specs.Command.{AnswersImages, AtImage, FileView, ImageComes, EndsImages, Progress, Said, TellsFile, TellsFiles, TellsImages, TellsInputs, ImageComes.image, ImageComes.unread, ImageComes.too_many, AnswersImages.none, AnswersImages.another, EndsImages.no_image, EndsImages.last_line, TellsImages.ended, TellsImages.stopped, TellsFiles.last_file, TellsFiles.next_file, TellsFiles.no_file, TellsInputs.of_files, TellsInputs.of_input}
 use Rattle.relay_shared.specs.Command.TellsFile.{not_opened, opened as was_opened}
-use Rattle.relay_shared.specs.Command.TellsFiles.{last_file, next_file, no_file}
-use Rattle.relay_shared.specs.Command.TellsInputs.{of_files, of_input}
-use Rattle.relay_desk_commands.specs.Desks.{AtDesk, EndsScan, ScansPicture, scan_images}
-use Rattle.relay_desk_commands.specs.Desks.ScansPicture.{accepted, refused, unsettled, no_grid}
-use Rattle.relay_desk_commands.specs.Desks.EndsAtDesk.{no_desk, opened}
+use Rattle.relay_desk_commands.specs.Desks.{AtDesk, EndsScan, ScansPicture, scan_images, ScansPicture.accepted, ScansPicture.refused, ScansPicture.unsettled, ScansPicture.no_grid, EndsAtDesk.no_desk, EndsAtDesk.opened}
 use Rattle.relay_desk_runs.specs.Answered.{grids_at_end, grids_before, grids_of_bytes, grids_of_file, grids_of_images, grids_of_inputs, grids_of_picture, grids_scanned, if_saved, of_each_file, EachScanKeeps, HasNoDocuments, HoldsPrinted, HasPrinted, IsNearPrinted, IsOfLabel}
 use Rattle.relay_desk_runs.proofs.Saving.{MayBeAdded, ShowsPrinted, adding}
 use Rattle.relay_desk_runs.proofs.Opened.{is_opened, still_clean, unopened}

@@ -9,19 +9,10 @@ use Rattle.dm_assembly_desk.specs.Documents.{DeskView, Documents, HoldsFiles, Is
 use Rattle.dm_assembly_desk.specs.declared.fault.{ScanFault.ScanFault, ImportFault.ImportFault}
 use Rattle.dm_assembly_desk.specs.{declared.reply.Imported.Imported, Desk.HoldsJointFile}
 use Rattle.relay_streams.specs.Streams.{InputView, OutputView, AppendsPart}
-use Rattle.relay_shared.specs.Command.{AnswersImages, AtImage, FileView, ImageComes, EndsImages, Progress, Said, TellsFile, TellsFiles, TellsImages, TellsInputs}
-use Rattle.relay_shared.specs.Command.ImageComes.{image, unread, too_many}
-use Rattle.relay_shared.specs.Command.AnswersImages.{none, another}
-use Rattle.relay_shared.specs.Command.EndsImages.{no_image, last_line}
-use Rattle.relay_shared.specs.Command.TellsImages.{ended, stopped}
+use Rattle.relay_shared.specs.Command.{AnswersImages, AtImage, FileView, ImageComes, EndsImages, Progress, Said, TellsFile, TellsFiles, TellsImages, TellsInputs, ImageComes.image, ImageComes.unread, ImageComes.too_many, AnswersImages.none, AnswersImages.another, EndsImages.no_image, EndsImages.last_line, TellsImages.ended, TellsImages.stopped, TellsFiles.last_file, TellsFiles.next_file, TellsFiles.no_file, TellsInputs.of_files, TellsInputs.of_input}
 use Rattle.relay_shared.specs.Command.TellsFile.{not_opened, opened as was_opened}
-use Rattle.relay_shared.specs.Command.TellsFiles.{last_file, next_file, no_file}
-use Rattle.relay_shared.specs.Command.TellsInputs.{of_files, of_input}
-use Rattle.relay_desk_commands.specs.Desks.{EndsCopy, GivesCopy, AtDesk, EndsExport, EndsImport, EndsScan, OnDesk, ScansPicture, scan_images, EndsDeliver, EndsForget, IsTextOfId}
-use Rattle.relay_desk_commands.specs.Desks.{EndsCopyOf.no_side, EndsCopyOf.of_side, EndsOnId.no_id, EndsOnId.of_id}
+use Rattle.relay_desk_commands.specs.Desks.{EndsCopy, GivesCopy, AtDesk, EndsExport, EndsImport, EndsScan, OnDesk, ScansPicture, scan_images, EndsDeliver, EndsForget, IsTextOfId, EndsCopyOf.no_side, EndsCopyOf.of_side, EndsOnId.no_id, EndsOnId.of_id, ScansPicture.accepted, ScansPicture.refused, ScansPicture.unsettled, ScansPicture.no_grid, EndsAtDesk.no_desk, EndsAtDesk.opened, EndsImport.not_read, EndsImport.read, EndsImport.read_files, ImportsFile, ImportsFile.file_not_read, ImportsFile.file_read}
 use Rattle.relay_desk_commands.specs.declared.copy.CopyOptions.{CopyOptions}
-use Rattle.relay_desk_commands.specs.Desks.ScansPicture.{accepted, refused, unsettled, no_grid}
-use Rattle.relay_desk_commands.specs.Desks.{EndsAtDesk.no_desk, EndsAtDesk.opened, EndsImport.not_read, EndsImport.read, EndsImport.read_files, ImportsFile, ImportsFile.file_not_read, ImportsFile.file_read}
 use Rattle.std.specs.{List.AllByRecursion, Result.result_ok, Io.KnownBytes.Appends}
 use Rattle.dm_symbol.specs.Correction.{IsNear}
 use Rattle.dm_append_label.specs.Labels.{Carries, PageView}

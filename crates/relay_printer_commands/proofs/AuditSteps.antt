@@ -5,11 +5,10 @@ use Rattle.std.specs.{Fmt.decimal, List.AllByRecursion, List.flat_map, Option.op
 use Rattle.std.proofs.lemmas.Bool.{cases_Bool, cond-false, cond-true, eq-eqb, ne_eqb}
 use Rattle.std.proofs.lemmas.Option.{slice_get-get_or, slice_get-map}
 use Rattle.dm_print_ledger.specs.{Ledger.are_ranges, Verdicts.SilenceIsExact}
-use Rattle.relay_printer_commands.specs.Printers.{AreAllSound, EvidenceView, Gathers, IsSoundPair, ShowsFile, ShowsLine, are_same, audit_lines, breach_line, breach_lines, evidence_name, fault_line}
+use Rattle.relay_printer_commands.specs.Printers.{AreAllSound, EvidenceView, Gathers, IsSoundPair, ShowsFile, ShowsLine, are_same, audit_lines, breach_line, breach_lines, evidence_name, fault_line, Gathers.file, Gathers.line, IsSoundPair.same, IsSoundPair.beside}
 use Rattle.relay_shared.proofs.Telling.{told, told_else}
 use Rattle.relay_shared.specs.Command.{FileView, PutsText, Tells}
 use Rattle.relay_streams.specs.{Streams.OutputView, declared.fault.WriteFault.WriteFault}
-use Rattle.relay_printer_commands.specs.Printers.{Gathers.file, Gathers.line, IsSoundPair.same, IsSoundPair.beside}
 
 -- one more file, and one more line
 

@@ -12,15 +12,9 @@ use Rattle.dm_pbm_io.proofs.{Rows.length-packed, TakenBack.taken_back}
 use Rattle.dm_assembly_desk.specs.declared.fault.ScanFault.{ScanFault}
 use Rattle.dm_assembly_desk.specs.declared.fault.ScanFault.TheVariants as scan_fault
 use Rattle.relay_streams.specs.Streams.{InputView}
-use Rattle.relay_shared.specs.Command.{AnswersImages, ImageComes, EndsImages, Progress, Said, TakesImage, TellsImages, TellsInputs}
-use Rattle.relay_shared.specs.Command.{ImageComes.image, ImageComes.unread, ImageComes.too_many, TellsInputs.of_input}
-use Rattle.relay_shared.specs.Command.AnswersImages.{none, another}
-use Rattle.relay_shared.specs.Command.EndsImages.{no_image, last_line}
-use Rattle.relay_shared.specs.Command.TellsImages.{ended, stopped}
+use Rattle.relay_shared.specs.Command.{AnswersImages, ImageComes, EndsImages, Progress, Said, TakesImage, TellsImages, TellsInputs, ImageComes.image, ImageComes.unread, ImageComes.too_many, TellsInputs.of_input, AnswersImages.none, AnswersImages.another, EndsImages.no_image, EndsImages.last_line, TellsImages.ended, TellsImages.stopped}
 use Rattle.relay_printer_commands.specs.Printers.{images_of}
-use Rattle.relay_desk_commands.specs.Desks.{AtDesk, EndsScan, OnDesk, ScansPicture, scan_images}
-use Rattle.relay_desk_commands.specs.Desks.ScansPicture.{accepted, refused, unsettled, no_grid}
-use Rattle.relay_desk_commands.specs.Desks.EndsAtDesk.{no_desk, opened}
+use Rattle.relay_desk_commands.specs.Desks.{AtDesk, EndsScan, OnDesk, ScansPicture, scan_images, ScansPicture.accepted, ScansPicture.refused, ScansPicture.unsettled, ScansPicture.no_grid, EndsAtDesk.no_desk, EndsAtDesk.opened}
 use Rattle.relay_desk_runs.specs.Answered.{grids_at_end, grids_before, grids_of_bytes, grids_of_images, grids_of_inputs, grids_of_picture, grids_scanned, if_saved}
 
 -- ---- the image of one label

@@ -24,17 +24,14 @@ use Rattle.dm_event_history.specs.Relay.{Running}
 use Rattle.relay_command.specs.declared.command.Command.TheVariants.{Copy, Export, Give, Ledger, Print, Take}
 use Rattle.relay_command.specs.declared.command.Labels.TheVariants.{OfSide}
 use Rattle.relay_shared.specs.Command.{StreamsView}
-use Rattle.relay_printer_commands.specs.Printers.{IsTextOf, EndsPrint, PrintsLabels, images_of, EndsGive, EndsLedger, EndsTake, OnLedger, ledger_at}
+use Rattle.relay_printer_commands.specs.Printers.{IsTextOf, EndsPrint, PrintsLabels, images_of, EndsGive, EndsLedger, EndsTake, OnLedger, ledger_at, PrintsLabels.no_line, PrintsLabels.all, PrintsLabels.lost}
 use Rattle.relay_printer_commands.specs.Printers.EndsPrint.{no_side, not_read, too_long, read as was_read}
 use Rattle.relay_printer_commands.specs.Printers.PrintsDocument.{opened as print_opened, not_opened as print_not_opened}
-use Rattle.relay_printer_commands.specs.Printers.PrintsLabels.{no_line, all, lost}
 use Rattle.relay_printer_commands.specs.Printers.EndsGive.{opened as give_opened, not_opened as give_not_opened}
 use Rattle.relay_printer_commands.specs.Printers.EndsLedger.{created, refused as not_created}
 use Rattle.relay_printer_commands.specs.Printers.EndsTake.{no_ticket, not_opened as take_not_opened, opened as take_opened}
-use Rattle.relay_desk_commands.specs.Desks.{DeskFiles, EndsExport, EndsImport, OnDesk, EndsCopy}
-use Rattle.relay_desk_commands.specs.Desks.{EndsAtDesk.no_desk, EndsAtDesk.opened, EndsOnId.no_id, EndsOnId.of_id}
+use Rattle.relay_desk_commands.specs.Desks.{DeskFiles, EndsExport, EndsImport, OnDesk, EndsCopy, EndsAtDesk.no_desk, EndsAtDesk.opened, EndsOnId.no_id, EndsOnId.of_id, EndsImport.not_read, EndsImport.read}
 use Rattle.relay_desk_commands.specs.Desks.EndsCopyOf.{no_side as no_size, of_side as of_size}
-use Rattle.relay_desk_commands.specs.Desks.EndsImport.{not_read, read}
 use Rattle.relay_runs.proofs.{Files.opened as open_as, TicketTexts.text_once}
 use Rattle.relay_runs.specs.Runs.{job_ended, ticket_given, ticket_taken, KeepsLedger}
 use Rattle.relay_desk_runs.specs.Answered.{file_exported, files_imported, if_imported, label_copied}

@@ -7,9 +7,7 @@ use Rattle.relay_streams.specs.Streams.{Fills, InputView, OutputView, input_faul
 use Rattle.relay_streams.specs.declared.fault.ReadFault.{ReadFault}
 use Rattle.relay_streams.specs.declared.fault.ReadFault.TheVariants as reads
 use Rattle.relay_streams.specs.declared.fault.InputFault.TheVariants as inputs
-use Rattle.relay_shared.specs.Command.{FileView, ImageCommand, Progress, TellsFile, TellsFiles, TellsImages, TellsInputs, at_image, has_stopped, progress_at}
-use Rattle.relay_shared.specs.Command.{TellsFile.opened, TellsFiles.last_file, TellsFiles.next_file, TellsFiles.no_file}
-use Rattle.relay_shared.specs.Command.TellsInputs.{of_files}
+use Rattle.relay_shared.specs.Command.{FileView, ImageCommand, Progress, TellsFile, TellsFiles, TellsImages, TellsInputs, at_image, has_stopped, progress_at, TellsFile.opened, TellsFiles.last_file, TellsFiles.next_file, TellsFiles.no_file, TellsInputs.of_files}
 
 same_input : (input : InputView) (bytes : Option (List ℕ)) → input.remaining ≡ bytes → input.has_failed ≡ false →
     input ≡ record { remaining = bytes; has_failed = false }

@@ -4,10 +4,7 @@ use Rattle.std.specs.Io.KnownBytes.{Appends, Consumes, IsAtEnd, Keeps}
 use Rattle.std.proofs.Common.{inl, inr, ⊎_elim, refl, sym, subst, ◌∙◌}
 use Rattle.std.proofs.{KnownBytes.Appends-nil, lemmas.Bool.or_parts, lemmas.Bool.or_right}
 use Rattle.relay_streams.specs.Streams.{InputView, OutputView}
-use Rattle.relay_shared.specs.Command.{AnswersImages, ImageComes, ImageCommand, IsOfFailedRead, Progress, Said, TakesImage, TellsImages, progress_at, refusal_of, TellsRefusal}
-use Rattle.relay_shared.specs.Command.{AnswersImages.another, ImageComes.image, ImageComes.unread, ImageComes.too_many}
-use Rattle.relay_shared.specs.Command.EndsImages.{no_image, last_line}
-use Rattle.relay_shared.specs.Command.TellsImages.{ended, stopped}
+use Rattle.relay_shared.specs.Command.{AnswersImages, ImageComes, ImageCommand, IsOfFailedRead, Progress, Said, TakesImage, TellsImages, progress_at, refusal_of, TellsRefusal, AnswersImages.another, ImageComes.image, ImageComes.unread, ImageComes.too_many, EndsImages.no_image, EndsImages.last_line, TellsImages.ended, TellsImages.stopped}
 use Rattle.relay_shared.specs.declared.images.{TheConstants.MOST_IMAGES, Answered.Answered}
 use Rattle.relay_shared.specs.inner.Steps.{StopsStep, TakesStep}
 

@@ -1,6 +1,6 @@
 //! `relay read`: what the symbols in images carry.
 
-ghost use Rattle.std.specs.Prelude.{◌≡◌, ◌++◌, map, string_bytes, IfOk, OnOk, false, MatchResult, ◌⊎◌};
+ghost use Rattle.std.specs.Prelude.{◌≡◌, ◌++◌, map, string_bytes, IfOk, OnOk, false, MatchResult};
 ghost use Rattle.relay_shared.specs.Command.{NotesChange};
 ghost use Rattle.relay_shared.specs.Lines.{hexadecimal};
 ghost use Rattle.relay_symbol_commands.specs.Symbols.{label_line, line_tail, HasLine, HasNoHead, HasPictureLine, RefusesGrid, RefusesPicture, EndsRead, is_image_refusal, read_images, read_refusal_name};
@@ -185,8 +185,7 @@ pub fn read_command<A: Allocator + Copy, F: NamedFile, R: Read, W: Write, E: Wri
     images: &[F],
     streams: &mut Streams<R, W, E>,
 ) -> u8
-    ensures status { (result ≡ 0) ⊎ (result ≡ 1) }
-    ensures printed { EndsRead (map F.known images.now) streams.old result streams.new }
+    ensures { EndsRead (map F.known images.now) streams.old result streams.new }
 {
     let mut reading = Reading;
     let (input, output) = (&mut streams.input, &mut streams.output);

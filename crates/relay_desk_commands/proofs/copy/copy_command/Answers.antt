@@ -1,8 +1,7 @@
 use Rattle.std.proofs.Common.{Ok, Err, refl}
 use Rattle.dm_pbm_io.specs.Image.{picture, written}
 use Rattle.relay_shared.proofs.{Writing.puts, Telling.told_bytes}
-use Rattle.relay_desk_commands.specs.Desks.{EndsCopyOf.no_side, EndsCopyOf.of_side, EndsOnId.no_id, EndsOnId.of_id}
-use Rattle.relay_desk_commands.specs.Desks.EndsAtDesk.{no_desk, opened}
+use Rattle.relay_desk_commands.specs.Desks.{EndsCopyOf.no_side, EndsCopyOf.of_side, EndsOnId.no_id, EndsOnId.of_id, EndsAtDesk.no_desk, EndsAtDesk.opened}
 use Rattle.relay_desk_commands.proofs.copy.copy_command.Goals.{in-Ok-copy_of, in-Err-copy_of}
 use Rattle.relay_desk_commands.proofs.copy.copy_command.Goals as goal
 

@@ -1,7 +1,6 @@
 use Rattle.std.proofs.Common.{◌∙◌, Err, ap, refl, sym}
 use Rattle.std.proofs.lemmas.Bool.{false≢true}
-use Rattle.relay_printer_commands.specs.Printers.EndsPrint.{no_side, not_read, too_long, read}
-use Rattle.relay_printer_commands.specs.Printers.PrintsDocument.{not_opened, opened}
+use Rattle.relay_printer_commands.specs.Printers.{EndsPrint.no_side, EndsPrint.not_read, EndsPrint.too_long, EndsPrint.read, PrintsDocument.not_opened, PrintsDocument.opened}
 use Rattle.relay_printer_commands.proofs.print.print_command.Goals as goal
 
 pub returns-then-not-has_side-clause-ends : goal.returns-then-not-has_side-clause-ends

@@ -1,7 +1,12 @@
-use Rattle.std.proofs.{Common.inl, Common.inr, Common.arith, Common.◌≡◌, Common.◌≤◌, Common.ap, Common.Err, lemmas.Bool.cases_lt}
-use Rattle.dm_size.specs.Sizes.{data_words}
-use Rattle.dm_encodation.specs.Written.{need_of}
+use Rattle.std.proofs.{Common.inl, Common.inr, Common.arith, Common.ℕ, Common.◌<◌, Common.◌≤◌, Common.ap, Common.Err, lemmas.Bool.cases_lt}
 use Rattle.relay_symbol_commands.proofs.document_symbol.read_symbol.Goals as goal
+
+-- it fits where it is not too long
+fits : (room need : ℕ) → (room < need → ⊥) → need ≤ room
+fits room need short = elim (cases_lt room need) [
+  | inl below ↦ absurd (short below)
+  | inr all ↦ all
+]
 
 pub returns-in-Err-Memory-clause-symbol : goal.returns-in-Err-Memory-clause-symbol
 returns-in-Err-Memory-clause-symbol g c = ((_, c.in-Some.ensures.found), inl (c.in-Err-Memory.ensures.unread (ap Err c.in-Err-Memory.field-0-is)))
@@ -16,11 +21,7 @@ returns-in-Err-Memory-encode-clause-symbol g c =
         document,
         c.in-Some.ensures.found,
         c.in-Ok.ensures.taken,
-        elim (cases_lt (data_words c.in-Some.size)
-            (need_of c.args.form.scheme document)) [
-              | inl below ↦ cc (too_long.1 (omega (arith, below)))
-              | inr fits ↦ fits
-            ],
+        fits _ _ (λ below. cc (too_long.1 (omega (arith, below)))),
       ),
     )
 
@@ -33,10 +34,7 @@ returns-in-Ok-complete-clause-symbol g c =
       c.in-Ok.ensures.taken,
       record {
         is_side = c.in-Some.ensures.found;
-        fits = elim (cases_lt (data_words c.in-Some.size) (need_of c.args.form.scheme document)) [
-          | inl below ↦ cc (too_long.1 (omega (arith, below)))
-          | inr fits ↦ fits
-        ];
+        fits = fits _ _ (λ below. cc (too_long.1 (omega (arith, below))));
         completed = rw (c.deref-2.ensures.value, filled) at c.in-Ok-complete.ensures.completed;
       },
     )
@@ -51,10 +49,6 @@ returns-clause-symbol g c =
         document,
         c.in-Some.ensures.found,
         c.in-Ok.ensures.taken,
-        elim (cases_lt (data_words c.in-Some.size)
-            (need_of c.args.form.scheme document)) [
-              | inl below ↦ cc (too_long.1 (omega (arith, below)))
-              | inr fits ↦ fits
-            ],
+        fits _ _ (λ below. cc (too_long.1 (omega (arith, below)))),
       ),
     )

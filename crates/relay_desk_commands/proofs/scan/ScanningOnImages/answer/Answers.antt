@@ -1,8 +1,7 @@
 use Rattle.std.proofs.Common.{◌≡◌, true, true≢false, Ok, Err, ap, refl, sym, ◌∙◌}
 use Rattle.std.proofs.lemmas.Result.{err_from_is_err_and}
-use Rattle.relay_desk_commands.specs.Desks.ScansPicture.{accepted, no_grid, refused, unsettled}
+use Rattle.relay_desk_commands.specs.Desks.{ScansPicture.accepted, ScansPicture.no_grid, ScansPicture.refused, ScansPicture.unsettled, is_of_image, is_of_shape}
 use Rattle.dm_assembly_desk.specs.declared.fault.ScanFault.TheVariants.{Label}
-use Rattle.relay_desk_commands.specs.Desks.{is_of_image, is_of_shape}
 use Rattle.relay_desk_commands.proofs.ScanLaws.{after_scan, either, ends_note, no_save}
 use Rattle.relay_desk_commands.proofs.scan.ScanningOnImages.answer.Goals.{in-Shape, in_default, in-Label-Border, in_default-matches, in_default-matches-4, in-Label-Block, in_default-matches-2, in_default-matches-2-2, in-Save, in_default-matches-3}
 use Rattle.relay_desk_commands.proofs.scan.ScanningOnImages.answer.Goals as goal
