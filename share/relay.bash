@@ -17,7 +17,7 @@ _relay() {
     scan) words='--capacity --file --help' ;;
     deliver) words='--file --help --id --to' ;;
     forget) words='--file --help --id' ;;
-    export) words='--file --help --id --to' ;;
+    export) words='--all --file --help --id --to' ;;
     import) words='--capacity --file --help' ;;
     held) words='--file --help --id' ;;
     copy) words='--file --help --id --page --scheme --side' ;;

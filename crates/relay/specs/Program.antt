@@ -1,9 +1,9 @@
 -- What a command does, from the store and the set of the file that it names, and its streams, to the exit status, the
 -- store, the set and the streams: a line for each command. What a command does not need it leaves as it was.
-use Rattle.std.specs.Prelude.{◌≡◌, ℕ, List, [], Option, Bool, true, false, codes, string_bytes, ◌≢◌, ◌⊎◌, map, unwrap_or, IsSome, None, Some, Result, Ok, Err}
-use Rattle.std.specs.{Option.option_copied, Io.KnownBytes.Appends, Io.KnownBytes.Keeps}
+use Rattle.std.specs.Prelude.{◌≡◌, ◌==◌, ℕ, List, [], ◌∷◌, ◌++◌, Option, Bool, true, false, codes, max, string_bytes, ◌≢◌, ◌⊎◌, map, unwrap_or, IsSome, None, Some, Result, Ok, Err}
+use Rattle.std.specs.{Borrow.Bor, List.before_first, Str.Lines.lines, Option.option_copied, Io.KnownBytes.Appends, Io.KnownBytes.Keeps}
 use Rattle.relay_command.specs.declared.command.Command.{Command}
-use Rattle.relay_command.specs.declared.command.Command.TheVariants.{Words, Draw, Read, Plan, Ticket, Ledger, Print, Give, GiveLast, Take, Left, Audit, Scan, Deliver, Forget, Export, Import, Held, Copy, World}
+use Rattle.relay_command.specs.declared.command.Command.TheVariants.{Words, Draw, Read, Plan, Ticket, Ledger, Print, Give, GiveLast, Take, Left, Audit, Scan, Deliver, Forget, Export, ExportAll, Import, Held, Copy, World}
 use Rattle.relay_streams.specs.{Streams.TakesPart, Streams.AppendsPart, Streams.OutputView, Streams.write_fault_name, declared.fault.WriteFault.TheVariants.Write}
 use Rattle.relay_shared.specs.{Command.FileView, Command.StreamsView, Command.TellsRefusal, declared.command.TheConstants.DOCUMENT_BYTES}
 use Rattle.relay_desk_commands.specs.{declared.import.TheConstants.IMPORT_BYTES, Desks.OnDesk, Desks.EndsDeliver, Desks.EndsExport, Desks.EndsForget, Desks.EndsImport, Desks.EndsScan, Desks.EndsCopy, Desks.EndsHeld, Desks.DeskFiles}
@@ -60,6 +60,7 @@ Does A (Scan file capacity) inputs old status new = EndsScan A capacity inputs o
 Does A (Deliver file id) inputs old status new = EndsDeliver id.now old status new
 Does A (Forget file id) inputs old status new = EndsForget id.now old status new
 Does A (Export file id) inputs old status new = EndsExport id.now old status new
+Does A (ExportAll file folder) inputs old status new = EndsHeld None old status new
 Does A (Import file capacity) inputs old status new =
     EndsImport capacity inputs old status new × ReadsPart IMPORT_BYTES old.streams new.streams
 Does A (Held file id) inputs old status new = EndsHeld (option_copied id) old status new
@@ -78,6 +79,7 @@ named_path (Scan file capacity) = Some file.now
 named_path (Deliver file id) = Some file.now
 named_path (Forget file id) = Some file.now
 named_path (Export file id) = Some file.now
+named_path (ExportAll file folder) = Some file.now
 named_path (Import file capacity) = Some file.now
 named_path (Held file id) = Some file.now
 named_path (Copy file id page side scheme) = Some file.now
@@ -92,6 +94,7 @@ abbrev pub refuses_on_errors : Command → Bool
 refuses_on_errors (Draw side scheme plain) = true
 refuses_on_errors (Print file number labels scheme) = true
 refuses_on_errors (Copy file id page side scheme) = true
+refuses_on_errors (ExportAll file folder) = true
 refuses_on_errors other = saves_output other
 
 -- ---- the standard streams
@@ -126,10 +129,13 @@ PutsRefusal true name old status new =
 PutsRefusal false name old status new =
     TellsOut name old.output status new.output × (new.input ≡ old.input) × (new.errors ≡ old.errors)
 
--- nothing goes to the standard error, or the first bytes of a note, and nothing happens to the other streams
+-- the first bytes of a text go to the standard error, and nothing happens to the other streams
+abbrev pub ShowsOnErrors : List ℕ → StandardView → StandardView → Type 0
+ShowsOnErrors text old new = (new.input ≡ old.input) × (new.output ≡ old.output) × ShowsPart old.errors new.errors text
+
+-- so do those of a note, or nothing happens
 abbrev pub Notes : StandardView → StandardView → Type 0
-Notes old new = (new.input ≡ old.input) × (new.output ≡ old.output)
-    × ((new.errors ≡ old.errors) ⊎ ((note : List ℕ) × ShowsPart old.errors new.errors note))
+Notes old new = (new ≡ old) ⊎ ((note : List ℕ) × ShowsOnErrors note old new)
 
 -- What a command has written is out, and its status is the program's. Or the output has refused a write, and the first
 -- bytes of what the command has written are out: then the standard error is told, with the status 1; or it need not be,
@@ -208,18 +214,36 @@ pub record DoesAndSaves (A : Type 0) (command : Command) (path : List ℕ) (old 
   pub output : done.standard.output ≡ old.standard.output
   pub saves : ((ended ≢ 0) × (status ≡ ended) × (new ≡ done)) ⊎ ((ended ≡ 0) × SavesOutput path bytes done status new)
 
+-- the IDs with which the lines of `held` begin
+unfoldable pub ids_in : List ℕ → List (List ℕ)
+ids_in text = map (λ line. before_first (λ byte. byte == 32) line) (lines text)
+
+-- The documents of these IDs are exported in turn, as files of those names in a folder, or memory is refused for one.
+pub data ExportsEach (A : Type 0) (file folder : List ℕ) : List (List ℕ) → SystemView → ℕ → SystemView → Type 0 where
+  no_id : {now : SystemView} → ExportsEach A file folder [] now 0 now
+  next_id : {later : List (List ℕ)} {old now new : SystemView} {one others : ℕ} (from id : Bor (List ℕ)) → from.now ≡ file →
+      DoesAndSaves A (Export from id) (folder ++ 47 ∷ id.now) old one now ⊎ ((now.places ≡ old.places)
+      × PutsRefusal true (codes "Memory") old.standard one now.standard) → ExportsEach A file folder later now others new →
+      ExportsEach A file folder (id.now ∷ later) old (max one others) new
+
 -- a line that names a path, or files to be read
 abbrev pub NamesFiles : CommandLine → Type 0
 NamesFiles line = IsSome (named_path line.command) ⊎ (named_images line ≢ [])
 
--- What a line does: its command, with the files to be read that it names; or its command, whose output is saved as the
--- file that it names; or nothing, since memory is refused for the paths of its files, which is told.
+-- What a line does: its command, with the files to be read that it names, whose output is saved if it names a file for it;
+-- or it exports all documents of which `held` tells, if that ends with 0; or nothing, since memory is refused, which is told.
 pub data DoesFor (A : Type 0) (inputs : List ℕ → FileView) (line : CommandLine) (old : SystemView) (status : ℕ)
     (new : SystemView) : Type 0 where
-  does_here : saved_path line ≡ None → DoesAt A line.command (map inputs (named_images line)) old status new →
-      DoesFor A inputs line old status new
+  does_here : saved_path line ≡ None → ((file folder : Bor (List ℕ)) → line.command ≢ ExportAll file folder) →
+      DoesAt A line.command (map inputs (named_images line)) old status new → DoesFor A inputs line old status new
   does_and_saves : (path : List ℕ) → saved_path line ≡ Some path → DoesAndSaves A line.command path old status new →
       DoesFor A inputs line old status new
+  exports_all : (file folder : Bor (List ℕ)) (ended : ℕ) (text : List ℕ) (seen : SystemView) →
+      line.command ≡ ExportAll file folder → seen.standard.output ≡ old.standard.output →
+      DoesAt A line.command [] (with_output old (Some [])) ended (with_output seen (Some text)) →
+      ((new.places ≡ seen.places) × (((ended ≢ 0) × (status ≡ ended) × ShowsOnErrors text seen.standard new.standard)
+      ⊎ PutsRefusal true (codes "Memory") seen.standard status new.standard))
+      ⊎ ((ended ≡ 0) × ExportsEach A file.now folder.now (ids_in text) seen status new) → DoesFor A inputs line old status new
   lacks_memory : NamesFiles line → new.places ≡ old.places → PutsRefusal (refuses_on_errors line.command) (codes "Memory")
       old.standard status new.standard → DoesFor A inputs line old status new
 
@@ -239,9 +263,7 @@ Helps text old status new = (new.input ≡ old.input)
 -- What a line that is not taken does, by its fault: a help goes to the output, why it is wrong to the standard error.
 abbrev pub Informs : LineFault → StandardView → ℕ → StandardView → Type 0
 Informs (Line text given) old status new =
-    (Helps (string_bytes text) old status new × (given ≡ 0))
-    ⊎ (ShowsPart old.errors new.errors (string_bytes text) × (status ≡ given) × (new.input ≡ old.input)
-    × (new.output ≡ old.output))
+    (Helps (string_bytes text) old status new × (given ≡ 0)) ⊎ (ShowsOnErrors (string_bytes text) old new × (status ≡ given))
 Informs Memory old status new = PutsRefusal true (codes "Memory") old status new
 
 -- What a line does whose first word after the program's name is this one: what was found on it is done; or it is not

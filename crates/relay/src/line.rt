@@ -1,9 +1,10 @@
 //! What the words of a line say, done on a system.
 
-ghost use Rattle.std.specs.Prelude.{◌≡◌, ◌≢◌, [], true, IfOk, IsSome, OnErr, codes, map, option_map, slice_get};
-ghost use Rattle.relay.specs.Program.{DoesAndSaves, DoesAt, DoesFor, Helps, NamesFiles, Notes, OrNothing, Runs};
-ghost use Rattle.relay.specs.Program.{SavesOutput, Informs, PutsRefusal, named_path, refuses_on_errors, save_fault_name};
-ghost use Rattle.relay.specs.Program.{system_at};
+ghost use Rattle.std.specs.Prelude.{◌≡◌, ◌≢◌, ◌⊎◌, ◌==◌, ◌++◌, [], ◌∷◌, true, IfOk, IfSome, IsSome, OnErr, Some, codes, map};
+ghost use Rattle.std.specs.{Prelude.option_map, Prelude.slice_get, List.before_first};
+ghost use Rattle.relay.specs.Program.{DoesAndSaves, DoesAt, DoesFor, ExportsEach, Helps, NamesFiles, Notes, OrNothing};
+ghost use Rattle.relay.specs.Program.{Runs, SavesOutput, ShowsOnErrors, Informs, PutsRefusal, ids_in, named_path};
+ghost use Rattle.relay.specs.Program.{refuses_on_errors, save_fault_name, system_at, with_output};
 
 use crate::named::{named_by, refuses_on_errors};
 use crate::standard::{Done, StandardStreams, do_between, show, tell};
@@ -12,7 +13,7 @@ use dm_store::{MemSet, MemStore, StoreFault};
 use relay_command::Command;
 use relay_line::{CommandLine, LineFault, command_line};
 use relay_places::{Places, note_of_input};
-use relay_shared::NamedFile;
+use relay_shared::{NamedFile, greater};
 use std::alloc::{AllocError, Global};
 use std::convert::AsStr;
 use std::io::{Read, Write};
@@ -44,17 +45,44 @@ fn inputs_of<P: Places>(
     Ok(files)
 }
 
+// The first word of a line.
+fn first_word(line: &str) -> &str
+    ensures { result.now ≡ before_first (λ byte. byte == 32) line.now }
+{
+    match line.split_once(' ') {
+        Some((word, _)) => word,
+        None => line,
+    }
+}
+
+// The IDs with which the lines of `held` begin, if there is memory for them.
+fn ids_in(alloc: Global, text: &[u8]) -> Option<Vec<&str>>
+    ensures { IfSome result (λ ids. map (λ id. id.now) ids.items ≡ ids_in text.now) }
+{
+    let Ok(text) = str::from_utf8(text) else {
+        return None;
+    };
+    text.lines().map(first_word).collect(alloc).ok()
+}
+
 impl<I: Read + Drop, O: Write + Drop, E: Write + Drop> StandardStreams<I, O, E> {
+    // Puts a text on the standard error.
+    fn show_on_errors(self, alloc: Global, text: &[u8]) -> Self
+        ensures { ShowsOnErrors text.now self result }
+    {
+        let StandardStreams(input, output, errors) = self;
+        let (errors, _) = show(alloc, errors, text);
+        StandardStreams(input, output, errors)
+    }
+
     // Puts a note, if there is one, on the standard error.
     fn noted(self, alloc: Global, note: Option<String>) -> Self
         ensures { Notes self result }
     {
-        let Some(text) = note else {
-            return self;
-        };
-        let StandardStreams(input, output, errors) = self;
-        let (errors, _) = show(alloc, errors, text.as_str());
-        StandardStreams(input, output, errors)
+        match note {
+            Some(text) => self.show_on_errors(alloc, text.as_bytes()),
+            None => self,
+        }
     }
 
     // Writes the line of a refusal to the standard error, and gives the exit status.
@@ -66,24 +94,12 @@ impl<I: Read + Drop, O: Write + Drop, E: Write + Drop> StandardStreams<I, O, E> 
         (status, StandardStreams(input, output, errors))
     }
 
-    // Refuses memory where the refusals of a command go, and gives the exit status.
-    fn refuse_memory(self, alloc: Global, command: Command) -> (u8, Self)
-        ensures { PutsRefusal (refuses_on_errors command.entry) (codes "Memory") self result.0 result.1 }
-    {
-        if refuses_on_errors(command) {
-            return self.refuse_on_errors(alloc, "Memory");
-        }
-        let StandardStreams(input, output, errors) = self;
-        let (status, output) = tell(alloc, output, "Memory");
-        (status, StandardStreams(input, output, errors))
-    }
-
     // Shows the help that a line asks for, and gives the exit status.
     fn show_help(self, alloc: Global, text: &str) -> (u8, Self)
         ensures { Helps text.now self result.0 result.1 }
     {
         let StandardStreams(input, output, errors) = self;
-        let (output, is_all) = show(alloc, output, text);
+        let (output, is_all) = show(alloc, output, text.as_bytes());
         let standard = StandardStreams(input, output, errors);
         if is_all {
             return (0, standard);
@@ -98,9 +114,7 @@ impl<I: Read + Drop, O: Write + Drop, E: Write + Drop> StandardStreams<I, O, E> 
         match fault {
             LineFault::Line { text, status: 0 } => self.show_help(alloc, text.as_str()),
             LineFault::Line { text, status } => {
-                let StandardStreams(input, output, errors) = self;
-                let (errors, _) = show(alloc, errors, text.as_str());
-                (*status, StandardStreams(input, output, errors))
+                (*status, self.show_on_errors(alloc, text.as_bytes()))
             }
             LineFault::Memory => self.refuse_on_errors(alloc, "Memory"),
         }
@@ -134,6 +148,23 @@ impl<I: Read + Drop, O: Write + Drop, E: Write + Drop, P: Places> System<I, O, E
         (Ok(status), System { standard, places })
     }
 
+    // Refuses memory where the refusals of a command go, and gives the exit status.
+    fn refuse_memory(self, alloc: Global, command: Command) -> (u8, Self)
+        ensures told { PutsRefusal (refuses_on_errors command.entry) (codes "Memory")
+            self.standard result.0 result.1.standard }
+        ensures places { P.state result.1.places ≡ P.state self.places }
+    {
+        let System { standard, places } = self;
+        if refuses_on_errors(command) {
+            let (status, standard) = standard.refuse_on_errors(alloc, "Memory");
+            return (status, System { standard, places });
+        }
+        let StandardStreams(input, output, errors) = standard;
+        let (status, output) = tell(alloc, output, "Memory");
+        let standard = StandardStreams(input, output, errors);
+        (status, System { standard, places })
+    }
+
     // Saves what a command has written as a new file, and gives the exit status.
     fn save_output(self, alloc: Global, path: &str, bytes: &[u8]) -> (u8, Self)
         ensures { SavesOutput path.now bytes.now
@@ -151,11 +182,12 @@ impl<I: Read + Drop, O: Write + Drop, E: Write + Drop, P: Places> System<I, O, E
         (status, System { standard, places })
     }
 
-    // Does a command, and saves its output as a new file, if it was done.
-    fn do_saved(self, alloc: Global, path: &str, command: Command) -> (Result<u8, AllocError>, Self)
-        ensures { OrNothing (DoesAndSaves Global command.entry path.now)
-            (IsSome (named_path command.entry)) (system_at self.standard (P.state self.places)) result.0
-            (system_at result.1.standard (P.state result.1.places)) }
+    // Does a command, and keeps what it writes.
+    fn do_kept(self, alloc: Global, command: Command) -> (Result<u8, AllocError>, Vec<u8>, Self)
+        ensures does { OrNothing (DoesAt Global command.entry []) (IsSome (named_path command.entry))
+            (with_output (system_at self.standard (P.state self.places)) (Some [])) result.0
+            (with_output (system_at result.2.standard (P.state result.2.places)) (Some result.1.items)) }
+        ensures output { result.2.standard.output ≡ self.standard.output }
     {
         let System { standard, places } = self;
         let StandardStreams(input, own, errors) = standard;
@@ -166,7 +198,16 @@ impl<I: Read + Drop, O: Write + Drop, E: Write + Drop, P: Places> System<I, O, E
         let System { standard, places } = system;
         let StandardStreams(input, bytes, errors) = standard;
         let standard = StandardStreams(input, own, errors);
-        let system = System { standard, places };
+        (ended, bytes, System { standard, places })
+    }
+
+    // Does a command, and saves its output as a new file, if it was done.
+    fn do_saved(self, alloc: Global, path: &str, command: Command) -> (Result<u8, AllocError>, Self)
+        ensures { OrNothing (DoesAndSaves Global command.entry path.now)
+            (IsSome (named_path command.entry)) (system_at self.standard (P.state self.places)) result.0
+            (system_at result.1.standard (P.state result.1.places)) }
+    {
+        let (ended, bytes, system) = self.do_kept(alloc, command);
         let Ok(status) = ended else {
             return (Err(AllocError), system);
         };
@@ -175,6 +216,38 @@ impl<I: Read + Drop, O: Write + Drop, E: Write + Drop, P: Places> System<I, O, E
         }
         let (status, system) = system.save_output(alloc, path, bytes.as_slice());
         (Ok(status), system)
+    }
+
+    // Exports the document of an ID as the file of that name in a folder, and gives the exit status.
+    fn export_one(self, alloc: Global, file: &str, folder: &str, id: &str) -> (u8, Self)
+        ensures { DoesAndSaves Global (Command.Export file.entry id.entry) (folder.now ++ 47 ∷ id.now)
+            (system_at self.standard (P.state self.places)) result.0
+            (system_at result.1.standard (P.state result.1.places))
+            ⊎ ((P.state result.1.places ≡ P.state self.places)
+            × PutsRefusal true (codes "Memory") self.standard result.0 result.1.standard) }
+    {
+        let command = Command::Export { file, id };
+        let Ok(path) = format!(in alloc; "{folder}/{id}") else {
+            return self.refuse_memory(alloc, command);
+        };
+        match self.do_saved(alloc, path.as_str(), command) {
+            (Ok(status), system) => (status, system),
+            (Err(AllocError), system) => system.refuse_memory(alloc, command),
+        }
+    }
+
+    // Exports the documents of these IDs, one after another, and gives the greatest exit status.
+    fn export_each(self, alloc: Global, file: &str, folder: &str, ids: &[&str]) -> (u8, Self)
+        ensures { ExportsEach Global file.now folder.now (map (λ id. id.now) ids.now)
+            (system_at self.standard (P.state self.places)) result.0
+            (system_at result.1.standard (P.state result.1.places)) }
+    {
+        let (mut status, mut system) = (0, self);
+        for id in ids {
+            let (one, next) = system.export_one(alloc, file, folder, *id);
+            (status, system) = (greater(status, one), next);
+        }
+        (status, system)
     }
 
     // Does the command of a line with the other files of the line.
@@ -186,10 +259,26 @@ impl<I: Read + Drop, O: Write + Drop, E: Write + Drop, P: Places> System<I, O, E
         if let Some(path) = line.saved_as {
             return self.do_saved(alloc, path, line.command);
         }
-        match inputs_of(alloc, &self.places, line.images.as_slice()) {
-            Ok(inputs) => self.do_here(alloc, inputs.as_slice(), line.command),
-            Err(AllocError) => (Err(AllocError), self),
+        let Command::ExportAll { file, folder } = line.command else {
+            return match inputs_of(alloc, &self.places, line.images.as_slice()) {
+                Ok(inputs) => self.do_here(alloc, inputs.as_slice(), line.command),
+                Err(AllocError) => (Err(AllocError), self),
+            };
+        };
+        let (ended, text, system) = self.do_kept(alloc, line.command);
+        let Ok(status) = ended else {
+            return (Err(AllocError), system);
+        };
+        if status != 0 {
+            let System { standard, places } = system;
+            let standard = standard.show_on_errors(alloc, text.as_slice());
+            return (Ok(status), System { standard, places });
         }
+        let (status, system) = match ids_in(alloc, text.as_slice()) {
+            Some(ids) => system.export_each(alloc, file, folder, ids.as_slice()),
+            None => system.refuse_memory(alloc, Command::ExportAll { file, folder }),
+        };
+        (Ok(status), system)
     }
 
     // Does what a line says, and gives the exit status.
@@ -201,11 +290,7 @@ impl<I: Read + Drop, O: Write + Drop, E: Write + Drop, P: Places> System<I, O, E
         let (ended, system) = self.do_with(alloc, line);
         match ended {
             Ok(status) => (status, system),
-            Err(AllocError) => {
-                let System { standard, places } = system;
-                let (status, standard) = standard.refuse_memory(alloc, line.command);
-                (status, System { standard, places })
-            }
+            Err(AllocError) => system.refuse_memory(alloc, line.command),
         }
     }
 

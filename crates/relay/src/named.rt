@@ -35,7 +35,7 @@ pub(crate) fn named_by<'a>(command: Command<'a>) -> Option<Named<'a>>
         Command::Deliver { file, .. } | Command::Export { file, .. } | Command::Copy { file, .. } => {
             (file, true, Access::Reads)
         }
-        Command::Held { file, .. } => (file, true, Access::Looks),
+        Command::ExportAll { file, .. } | Command::Held { file, .. } => (file, true, Access::Looks),
     };
     Some(Named { file, is_desk, access })
 }
@@ -51,6 +51,7 @@ pub(crate) fn refuses_on_errors(command: Command) -> bool
             | Command::Print { .. }
             | Command::Deliver { .. }
             | Command::Export { .. }
+            | Command::ExportAll { .. }
             | Command::Copy { .. }
     )
 }

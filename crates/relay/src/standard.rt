@@ -51,11 +51,12 @@ fn least_of(command: Command) -> usize {
 }
 
 // Whether it is said that the output has failed: always of a command that has ended with 0; else where the output has
-// failed before, but for a command that has said so itself, and for one that answers to each image.
+// failed before, but for one that answers to each image, and for one that has said so itself, as `--all` does not.
 fn says_failure(command: Command, has_failed: bool, status: u8) -> bool
     ensures { status ≡ 0 → result ≡ true }
 {
-    status == 0 || has_failed && !refuses_on_errors(command) && !answers_each_image(command)
+    let says_so = refuses_on_errors(command) && !matches!(command, Command::ExportAll { .. });
+    status == 0 || has_failed && !says_so && !answers_each_image(command)
 }
 
 /// Tells a stream the line of a refusal, and gives the exit status.
@@ -69,12 +70,12 @@ pub(crate) fn tell<A: Allocator, W: Write + Drop>(alloc: A, writer: W, name: &st
 }
 
 /// Writes a text, and says whether all of it is out.
-pub(crate) fn show<A: Allocator, W: Write + Drop>(alloc: A, writer: W, text: &str) -> (W, bool)
+pub(crate) fn show<A: Allocator, W: Write + Drop>(alloc: A, writer: W, text: &[u8]) -> (W, bool)
     ensures all { result.1 ≡ true → Appends (W.contents writer) (W.contents result.0) text.now }
     ensures part { ShowsPart (W.contents writer) (W.contents result.0) text.now }
 {
     let mut buffer = LineBuffer::new(alloc, writer, 0);
-    let put = put_to(&mut buffer, text.as_bytes());
+    let put = put_to(&mut buffer, text);
     let (writer, is_all) = buffer.end();
     (writer, is_all && put.is_ok())
 }

@@ -47,6 +47,8 @@ pub enum Command<'a> {
     Forget { file: &'a str, id: &'a str },
     /// Gives the pages that are held of a document, for another desk.
     Export { file: &'a str, id: &'a str },
+    /// Gives those of each document that a desk holds, as a file of its own in a folder.
+    ExportAll { file: &'a str, folder: &'a str },
     /// Takes in the pages that another desk has given.
     Import { file: &'a str, capacity: u16 },
     /// Says what the files of a desk hold: of each document, or of the one of an ID.

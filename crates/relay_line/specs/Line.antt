@@ -5,7 +5,7 @@ use Rattle.std.specs.Str.Parse.{digits_value, without_leading_plus}
 use Rattle.clap.specs.Walk.{Row, all_of, first_of, one_of}
 use Rattle.dm_encodation.specs.declared.scheme.Scheme.TheVariants.{Ascii}
 use Rattle.relay_command.specs.{declared.command.Command.Command, declared.command.Labels.Labels, Schemes.scheme_name}
-use Rattle.relay_command.specs.declared.command.Command.TheVariants.{Words, Draw, Read, Plan, Ticket, Ledger, Print, Give, GiveLast, Take, Left, Audit, Scan, Deliver, Forget, Export, Import, Held, Copy, World}
+use Rattle.relay_command.specs.declared.command.Command.TheVariants.{Words, Draw, Read, Plan, Ticket, Ledger, Print, Give, GiveLast, Take, Left, Audit, Scan, Deliver, Forget, Export, ExportAll, Import, Held, Copy, World}
 use Rattle.relay_command.specs.declared.command.Labels.TheVariants.{OfSide, AtMost}
 use Rattle.relay_line.specs.declared.{line.CommandLine.CommandLine, fault.LineFault.LineFault}
 use Rattle.relay_line.specs.declared.fault.LineFault.TheVariants.{Line, Memory}
@@ -28,6 +28,7 @@ command_name (Scan file capacity) = codes "scan"
 command_name (Deliver file id) = codes "deliver"
 command_name (Forget file id) = codes "forget"
 command_name (Export file id) = codes "export"
+command_name (ExportAll file folder) = codes "export"
 command_name (Import file capacity) = codes "import"
 command_name (Held file id) = codes "held"
 command_name (Copy file id page side scheme) = codes "copy"
@@ -91,6 +92,7 @@ module _ (found : List Row) where
   HasValues (Deliver file id) = HasText "file" file.now × HasText "id" id.now
   HasValues (Forget file id) = HasText "file" file.now × HasText "id" id.now
   HasValues (Export file id) = HasText "file" file.now × HasText "id" id.now
+  HasValues (ExportAll file folder) = HasText "file" file.now × HasText "all" folder.now
   HasValues (Import file capacity) = HasText "file" file.now × HasNumber "capacity" capacity
   HasValues (Held file id) = HasText "file" file.now × (first_of (codes "id") found ≡ option_map (λ id. id.now) id)
   HasValues (Copy file id page side scheme) = HasText "file" file.now × HasText "id" id.now × HasSide side

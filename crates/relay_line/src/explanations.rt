@@ -13,7 +13,7 @@ pub static EXPLANATIONS: [&str; 45] = [
     "Capacity\n  From: `scan`, `import`, `world`.\n  The capacity is not 1 to 1,024.\n  \
     What to do: correct `--capacity`, or the script.\n",
     "FileId\n  From: the commands with `--id`.\n  `--id` is not the four hexadecimal digits of an ID.\n  \
-    What to do: copy the ID from the line of a label, as `0102` from `0102 1/2\n  new`.\n\n  \
+    What to do: copy the ID from a label's line: `0102` in `0102 1/2 new`.\n\n  \
     The label's number, its number of labels or its ID is impossible.\n  \
     What to do: set it aside: another program made it, or it was misread.\n",
     "Ticket\n  From: `take`, `ticket`.\n  The text is not a ticket, or its check digits don't fit.\n  \
@@ -21,38 +21,35 @@ pub static EXPLANATIONS: [&str; 45] = [
     "Receiver\n  From: `give`, `take`.\n  A printer would give to itself, or the ticket is for another printer.\n  \
     What to do: check `--number` and `--to`.\n",
     "Read\n  From: all that read input.\n  The input or a named file could not be read.\n  \
-    What to do: check the file, and try again. A `scan` has kept the pages that\n  it reported.\n",
+    What to do: check the file, and try again. A `scan` or `import` has kept the\n  pages that it reported.\n",
     "Memory\n  From: all.\n  Memory was refused.\n  \
-    What to do: free some memory, and run the command again. If `print` had\n  \
-    written its line, the ID stays used.\n",
+    What to do: free some memory, and try again. If `print` had written its\n  line, the ID stays used.\n",
     "Magic\n  The next bytes aren't `P1` or `P4`; often there is a stray line end after a\n  packed image.\n  \
     What to do: give PBM images, one right after another; `relay-find` makes\n  \
     them from pictures, `pngtopnm` and `pamthreshold` from a PNG.\n",
     "Header\n  The PBM header is malformed, or longer than 4,096 bytes.\n  \
-    What to do: make the image again, with a header as `P4`, width and height.\n",
+    What to do: make the image again, with a header of `P4`, width and height.\n",
     "TooLarge\n  The image is wider or higher than 1,024 pixels, or its plain raster has more\n  \
     than 4,194,304 bytes.\n  What to do: give one pixel per module, as `relay-find` does.\n",
     "Pixel\n  A plain image has a byte that is not a pixel.\n  \
-    What to do: make the image again; after `P1`, width and height only 0, 1 and\n  white space may follow.\n",
-    "Cut\n  The input ends inside an image; or a symbol's text ends inside a character,\n  \
-    a pair or a counted run of bytes.\n  \
-    What to do: give the whole image; a symbol with such a text can't be read.\n",
+    What to do: make the image again; after its header only 0, 1 and white space\n  may follow.\n",
+    "Cut\n  The input ends inside an image; or a symbol's text ends inside a character\n  \
+    or a counted run of bytes.\n  What to do: give the whole image; a symbol with such a text can't be read.\n",
     "Shape\n  The image is not square, or its width less two is not a side.\n  \
     What to do: crop and shrink it to one pixel per module with a quiet zone of\n  \
-    one pixel, or let `relay-find` do so.\n",
+    one pixel, or use `relay-find`.\n",
     "Border\n  Over an eighth of the finder patterns' modules are wrong, for example\n  \
-    because the image is turned or inverted.\n  \
-    What to do: give the picture to `relay-find`; or turn the image (`pamflip\n  \
-    -r90`, `-r180`, `-r270`), mirror it (`-lr`) or invert it (`pnminvert`); or\n  \
-    scan the label, or a copy of it, again.\n",
-    "Block\n  A block has more wrong codewords than can be corrected.\n  \
-    What to do: scan the label again. If that fails, `copy` it at a desk that\n  \
-    holds its page, or print the document again.\n",
+    because the image is turned, mirrored or inverted.\n  \
+    What to do: make the changes that the note names (RECIPES.md); or give the\n  \
+    picture to `relay-find`; or scan the label or a copy again.\n",
+    "Block\n  A block has more wrong codewords than can be corrected; the image may be\n  mirrored.\n  \
+    What to do: make the changes that the note names, or scan the label again.\n  \
+    If that fails, `copy` it at a desk that holds its page, or print the\n  document again.\n",
     "NotAppended\n  The symbol that `scan` got is not a label.\n  \
     What to do: set it aside; `read` prints its text.\n",
     "Sequence\n  The label's number, its number of labels or its ID is impossible.\n  \
     What to do: set it aside: another program made it, or it was misread.\n",
-    "Unsupported\n  The symbol uses a feature that this relay does not read (ECI, FNC1, X12 and\n  others).\n  \
+    "Unsupported\n  The symbol uses a feature that `relay` does not read (ECI, FNC1, X12 and\n  others).\n  \
     What to do: read it with another program.\n",
     "Reserved\n  A codeword has no meaning where it stands.\n  \
     What to do: set it aside: another program made it, or it was misread.\n",
@@ -70,7 +67,8 @@ pub static EXPLANATIONS: [&str; 45] = [
     What to do: check `--file`, or make one with `ledger`.\n",
     "Exists\n  From: `ledger`.\n  Something is at this path already.\n  \
     What to do: a ledger is made only once; use another path.\n",
-    "Device\n  From: all.\n  A file could not be used: it can't be read, is not a plain file, has a\n  \
+    "Device\n  From: commands with `--file`.\n  \
+    A file could not be used: it can't be read, is not a plain file, has a\n  \
     second name, is in use by another program, can't be locked, or its folder is\n  missing or can't be synced.\n  \
     What to do: read the line `relay: PATH: WHY`. Correct what it names, or wait\n  \
     for the other program. After `ledger` check with `left`: the ledger may be\n  there.\n",
@@ -89,19 +87,18 @@ pub static EXPLANATIONS: [&str; 45] = [
     What to do: check `--file`. A damaged ledger is lost: replace it\n  (LIMITS.md).\n",
     "Damaged\n  From: `print`, `give`, `take`, `left`.\n  The file is not a ledger, or it is damaged.\n  \
     What to do: check `--file`. A damaged ledger is lost: replace it\n  (LIMITS.md).\n\n  \
-    From: the commands of desks.\n  A file of the desk, or the input of `import`, is not a file of pages, is\n  \
-    damaged, or belongs to another ID.\n  \
-    What to do: read the line `relay: FILE: NAME`. Move that file away, and scan\n  \
-    its labels again. Meanwhile `held` lists the other documents.\n",
+    From: the commands of desks.\n  \
+    A file of the desk, or one for `import`, is not a file of pages, is damaged,\n  or belongs to another ID.\n  \
+    What to do: read the line `relay: FILE: NAME`. Move the desk's file away,\n  \
+    and scan its labels again; meanwhile `held` lists the other documents.\n  Export the one for `import` anew.\n",
     "Version\n  From: the commands of files.\n  The file's version is unknown to this program.\n  \
     What to do: use the program that wrote it.\n",
     "Number\n  From: `print`, `give`, `take`.\n  The ledger is another printer's.\n  \
     What to do: check `--number` and `--file`.\n",
     "NotPages\n  From: the commands of desks.\n  \
-    A file of the desk, or the input of `import`, is not a file of pages, is\n  \
-    damaged, or belongs to another ID.\n  \
-    What to do: read the line `relay: FILE: NAME`. Move that file away, and scan\n  \
-    its labels again. Meanwhile `held` lists the other documents.\n",
+    A file of the desk, or one for `import`, is not a file of pages, is damaged,\n  or belongs to another ID.\n  \
+    What to do: read the line `relay: FILE: NAME`. Move the desk's file away,\n  \
+    and scan its labels again; meanwhile `held` lists the other documents.\n  Export the one for `import` anew.\n",
     "Exhausted\n  From: `print`.\n  No ID is free.\n  What to do: `give` some from another printer.\n",
     "NotFree\n  From: `give`.\n  An ID of the range is not free here; for `--count`, no range of free IDs is\n  \
     that long.\n  What to do: give another range, or as many as the line `relay: the longest\n  \

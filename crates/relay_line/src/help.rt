@@ -3,9 +3,9 @@
 
 use crate::options::Row;
 use crate::options::rows::{
-    ANY_ID, CAPACITY, COPY_SIDE, COUNT, DESK, FIRST, ID, IMAGES, LABELS, LAST, LEAST_SIDE, LEDGER,
-    LEDGERS, NUMBER, OWN_NUMBER, PAGE, PAGES, PLAIN, REFUSAL, SAVED, SCHEME, SIDE, SOME_FIRST,
-    SOME_LAST, TICKET, TO,
+    ALL, ANY_ID, CAPACITY, COPY_SIDE, COUNT, DESK, FIRST, ID, IMAGES, LABELS, LAST, LEAST_SIDE,
+    LEDGER, LEDGERS, NUMBER, OWN_NUMBER, PAGE, PAGES, PLAIN, REFUSAL, SAVED, SCHEME, SIDE,
+    SOME_FIRST, SOME_LAST, TICKET, TO,
 };
 
 /// A command, its options, and what its help says above and below them.
@@ -55,9 +55,8 @@ Example:
         rows: &[LEAST_SIDE, SCHEME, PLAIN],
         more: "\
 The image has one pixel per module, and around the symbol a quiet zone of one
-light pixel, which a scanner needs. Side 10 holds 6 digits or 1 byte, side 132
-holds 2608 digits or 1301 bytes; docs/SYMBOLS.md has the whole table, and
-docs/RECIPES.md says how to print images. A refusal goes to standard error.
+light pixel, which a scanner needs. docs/SYMBOLS.md says how much each side
+holds, docs/RECIPES.md how to print images. A refusal goes to standard error.
 
 Example:
   printf 123456 | relay draw --side 18 > symbol.pbm",
@@ -92,9 +91,9 @@ static OF_PRINTERS: [Page; 4] = [
         usage: "relay ledger --file LEDGER --first N --last N [--number N]",
         rows: &[LEDGER, FIRST, LAST, OWN_NUMBER],
         more: "\
-A ledger is what a printer remembers: which IDs are free. Give no ID to two
-ledgers. Prints `left N`, how many are free. A refusal goes to standard output,
-and a file that holds something is not written over.
+A ledger is what a printer remembers: which IDs are free. No two ledgers may
+share a number or an ID. Prints `left N`, how many are free. A refusal goes to
+standard output, and what is at LEDGER stays as it is.
 
 Example:
   relay ledger --file north.ledger --first 0 --last 9999 --number 1",
@@ -119,12 +118,12 @@ Example:
             [--number N] < DOCUMENT > IMAGES",
         rows: &[LEDGER, SIDE, LABELS, SCHEME, OWN_NUMBER],
         more: "\
-The document is cut into 2 to 16 labels, which carry the least ID that is free.
-It is saved as used, then `printed IIII n left N` goes to standard error (the
-ID, the number of labels, how many IDs are left), and then the labels to
-standard output, as packed PBM images one after another. A label that is lost
-can be drawn again by `copy`, at a desk that holds its page; a document that is
-printed again gets another ID.
+The document is cut into 2 to 16 labels, which carry the least free ID. That ID
+is saved as used, then `printed IIII n left N` goes to standard error (the ID,
+the number of labels, how many IDs are left), and then the labels to standard
+output, as packed PBM images one after another. A label that is lost can be
+drawn again by `copy`, at a desk that holds its page; a document that is printed
+again gets another ID.
 
 A label holds four codewords fewer than a symbol: 28 digits or 12 bytes at side
 18, and 2600 digits or 1297 bytes at side 132. A refusal goes to standard error.
@@ -140,9 +139,9 @@ Example:
         more: "\
 The IDs are saved as gone, and then `ticket HEX` is printed. Only the printer
 that it is for can take it, and only once. A ticket that is lost takes its IDs
-with it. With --count the last N consecutive free IDs go; if there are none,
-`refused NotFree` is printed, and how many the longest range has goes to
-standard error. A refusal goes to standard output.
+with it. With --count the last N consecutive free IDs go. If no range has N, it
+is refused `NotFree`; standard error says how many the longest has. A refusal
+goes to standard output.
 
 Example:
   relay give --file north.ledger --number 1 --to 2 --first 5000 --last 5999",
@@ -208,10 +207,10 @@ Example:
         rows: &[LEDGERS],
         more: "\
 Reads ledgers, and from standard input tickets, one a line, in either form. For
-each two that break what printers rely on it prints a line:
+each pair that breaks what printers rely on, it prints a line:
   number A B        two ledgers are of one printer
-  free A B          an ID is free in both; a ticket's IDs are free on it
-                    until its receiver has taken it
+  free A B          an ID is free in both; a ticket's IDs are free on it until
+                    its receiver, whose ledger must be given, has taken it
   again A B         one serial of a printer was given twice
   behind A B        ledger A is an older state: by B its printer has given more,
                     or, in another ledger of that printer, has taken more
@@ -243,9 +242,9 @@ After `refused Save` nothing more is read; the page may be held. A desk keeps a
 document until it is forgotten. Pages that disagree with those that are held are
 refused, and never joined. An old file of pages at DESK is moved first.
 
-Files that are named are read in turn, up to the end of each. The capacity is
-not remembered: a desk that holds more documents is refused `TooMany`. Give it
-at each `scan` and `import`; other commands take up to 1024.
+A desk that is not there is made. The capacity is not remembered: a desk that
+holds more documents is refused `TooMany`. Give it at each `scan` and `import`;
+other commands take up to 1024.
 
 Example:
   relay scan --file desk < labels.pbm",
@@ -256,10 +255,9 @@ Example:
         usage: "relay deliver --file DESK --id IIII [--to FILE]",
         rows: &[DESK, ID, SAVED],
         more: "\
-Writes the document, which stays at the desk, and nothing else. Where a page is
-missing nothing is written but `refused Incomplete`, on standard error. With
-`--to` the document is on the disk once the command exits with 0; FILE must not
-exist before.
+Writes just the document, which stays at the desk. If a page is missing, only
+`refused Incomplete` is written, to standard error. With `--to` the document is
+on the disk once the command exits with 0; FILE must not exist before.
 
 Example:
   relay deliver --file desk --id 0101 > letter",
@@ -270,7 +268,8 @@ Example:
         usage: "relay forget --file DESK --id IIII",
         rows: &[DESK, ID],
         more: "\
-Prints `forgotten IIII`. A refusal goes to standard output.
+Drops every page of the document that the desk holds; only a scan or an import
+brings them back. Prints `forgotten IIII`. A refusal goes to standard output.
 
 Example:
   relay forget --file desk --id 0101",
@@ -278,15 +277,19 @@ Example:
     Page {
         name: "export",
         about: "Writes the pages of a document for another desk",
-        usage: "relay export --file DESK --id IIII [--to FILE]",
-        rows: &[DESK, ID, SAVED],
+        usage: "relay export --file DESK (--id IIII [--to FILE] | --all DIR)",
+        rows: &[DESK, ANY_ID, SAVED, ALL],
         more: "\
 The pages stay at the desk. `relay import` takes them in at another. A refusal
 goes to standard error. With `--to` the pages are on the disk once the command
-exits with 0; FILE must not exist before.
+exits with 0; FILE must not exist before. With `--all` each document is saved
+so, as DIR/IIII; DIR must be there. One that is refused keeps no other back. If
+`held` finds a file that can't be used, what it prints goes to standard error,
+and no document is saved.
 
-Example:
-  relay export --file desk --id 0101 > 0101.pages",
+Examples:
+  relay export --file desk --id 0101 > 0101.pages
+  relay export --file desk --all folder",
     },
     Page {
         name: "import",
@@ -328,10 +331,10 @@ Example:
         usage: "relay copy --file DESK --id IIII --page M --side SIDE [--scheme SCHEME]\n         > IMAGE",
         rows: &[DESK, ID, PAGE, COPY_SIDE, SCHEME],
         more: "\
-Draws the label of one page that is held, as a packed PBM image: whatever reads
-it gathers the same page of the same document. The side need not be that of the
-label that is lost. An old file of pages at DESK is moved first. A refusal goes
-to standard error.
+Draws the label of one page that is held, as a packed PBM image. A scan of it
+gives the same page of the same document. The side need not be that of the label
+that is lost. An old file of pages at DESK is moved first. A refusal goes to
+standard error.
 
 Example:
   relay copy --file desk --id 0101 --page 2 --side 52 > label.pbm",
@@ -347,9 +350,9 @@ static OTHERS: [Page; 3] = [
         more: "\
 The script names printers, desks, and events: prints, scans, restarts and so on,
 each of which may be stopped where power could fail, or meet a failing save.
-Each event gives a line; the line begins with `! ` where a scanned copy has more
-wrong codewords than can be corrected. docs/RECIPES.md has the form of a
-script. No file is read or written. A refusal goes to standard output.
+Each event gives a line, which begins with `! ` if a scan has more wrong
+codewords than can be corrected. docs/RECIPES.md has the form of a script. No
+file is read or written. A refusal goes to standard output.
 
 Example:
   printf 'range 0 9\\ndesks 1 4\\nprint 0 12 ascii 31323334 -\\n' | relay world",

@@ -7,11 +7,11 @@ use clap::{Arg, ArgAction, ArgGroup, Command};
 use relay_command::SCHEMES;
 use std::alloc::{AllocError, Global};
 
-// How an argument stands on a line: `--NAME VALUE`, where nothing says more; `With` this other argument alone; with
-// this `Default` where it is left out; as a `Flag`, `--NAME`; as at most one `Word`, or any number of `Words`.
+// How an argument stands on a line: `--NAME VALUE`, where nothing says more; `With` this other argument alone; `Not` with
+// it; with this `Default` where it is left out; as a `Flag`, `--NAME`; as at most one `Word`, or any number of `Words`.
 #[derive(Clone, Copy)]
 #[rattlefmt::skip]
-pub enum Kind { Optional, With(&'static str), Required, Default(&'static str), Flag, Word, Words }
+pub enum Kind { Optional, With(&'static str), Not(&'static str), Required, Default(&'static str), Flag, Word, Words }
 
 // What the value of an argument has to be. The parser's own type has more in it, which would stand in each proof.
 #[derive(Clone, Copy)]
@@ -26,7 +26,7 @@ pub struct Row(&'static str, &'static str, Kind, Values, &'static str);
 // The arguments of the commands.
 #[rattlefmt::skip]
 pub mod rows {
-    use super::{Kind::{Default, Flag, Optional, Required, With, Word, Words}, Row};
+    use super::{Kind::{Default, Flag, Optional, Required, With, Not, Word, Words}, Row};
     use super::Values::{self, NotEmpty, Number, Scheme, Text};
 
     const U16: Values = Number(0, 65_535);
@@ -67,6 +67,7 @@ pub mod rows {
     pub const ANY_ID: Row = Row("id", "IIII", Optional, Text, ID_HELP);
     pub const PAGE: Row = Row("page", "M", Required, Number(1, 16), "the page, from 1 to 16");
     pub const SAVED: Row = Row("to", "FILE", Optional, NotEmpty, SAVED_HELP);
+    pub const ALL: Row = Row("all", "DIR", Not("to"), NotEmpty, "save every document in this folder, as the file of its ID");
     pub const IMAGES: Row = Row("images", "IMAGES", Words, Text, IMAGES_HELP);
     pub const PAGES: Row = Row("images", "FILES", Words, Text, "files of pages, in turn; `-` is the standard input");
     pub const REFUSAL: Row = Row("name", "NAME", Word, Text, "the name of a refusal; without one, prints all names");
@@ -97,6 +98,7 @@ fn argument<'a>(alloc: Global, row: &Row) -> Result<Arg<'a>, AllocError> {
         Kind::Words => Ok(argument.num_args(0..)),
         Kind::Default(default) => Ok(argument.long(name).default_value(default)),
         Kind::With(other) => argument.long(name).requires_arg(other),
+        Kind::Not(other) => argument.long(name).conflicts_with(other),
         _ => Ok(argument.long(name).required(matches!(kind, Kind::Required))),
     }
 }
@@ -115,7 +117,7 @@ fn either<'a>(alloc: Global, one: &'a str, other: &'a str) -> Result<ArgGroup<'a
     form.arg(one)?.arg(other)
 }
 
-// A command with its arguments. `print` is by a side or by a number of labels, and `give` of a range or of the last.
+// A command with its arguments. `print`, `give` and `export` need one of two.
 fn subcommand<'a>(alloc: Global, page: &Page) -> Result<Command<'a>, AllocError> {
     let mut command = command(alloc, page);
     for row in page.rows {
@@ -124,6 +126,7 @@ fn subcommand<'a>(alloc: Global, page: &Page) -> Result<Command<'a>, AllocError>
     match page.name {
         "print" => command.group(either(alloc, "side", "labels")?),
         "give" => command.group(either(alloc, "first", "count")?),
+        "export" => command.group(either(alloc, "id", "all")?),
         _ => Ok(command),
     }
 }

@@ -200,6 +200,7 @@ fn desk_command_of<'a>(name: &str, options: &ArgMatches<'a>) -> Option<Command<'
         ("deliver", Some(id), _) => Some(Command::Deliver { file, id }),
         ("forget", Some(id), _) => Some(Command::Forget { file, id }),
         ("export", Some(id), _) => Some(Command::Export { file, id }),
+        ("export", None, _) => Some(Command::ExportAll { file, folder: text_of(options, "all")? }),
         ("copy", Some(id), _) => {
             let (page, side) = (number_in(options, "page", 1, 16)?, number_in(options, "side", 10, 132)?);
             Some(Command::Copy { file, id, page, side, scheme: encodation_of(options)? })

@@ -14,7 +14,7 @@ use Rattle.dm_event_history.specs.Headline.{AreDisjoint, AreOfOneDocument, ArePr
 use Rattle.dm_event_history.proofs.{Gotten.get_more, Gotten.set_at, Headline.each_run_is_sound, Told.page_none}
 use Rattle.dm_event_history.proofs.Stays.{have_more, more_left, more_pages}
 use Rattle.relay_command.specs.declared.command.Command.{Command}
-use Rattle.relay_command.specs.declared.command.Command.TheVariants.{Words, Draw, Read, Plan, Ticket, Ledger, Print, Give, GiveLast, Take, Left, Audit, Scan, Deliver, Forget, Export, Import, Held, Copy, World}
+use Rattle.relay_command.specs.declared.command.Command.TheVariants.{Words, Draw, Read, Plan, Ticket, Ledger, Print, Give, GiveLast, Take, Left, Audit, Scan, Deliver, Forget, Export, ExportAll, Import, Held, Copy, World}
 use Rattle.relay_desk_commands.specs.Desks.{DeskFiles, OnDesk}
 use Rattle.relay_desk_runs.specs.Answered.{GivesPrinted, HoldsPrinted, HasPrinted, IsNearPrinted, IsOfLabel, IsPrintedFile}
 use Rattle.relay_desk_runs.specs.Answered.GivesPrinted.{nothing as gives_nothing, document as gives_document}
@@ -159,6 +159,8 @@ module _ (A : Type 0) (labels : List Label) (printed : ArePrinted labels) (one :
     copied = tt;
     delivered = tt;
   }
+  effect (ExportAll file folder) does near sent =
+      record { set = same_files (held_same None before status after does); exported = tt; copied = tt; delivered = tt }
   effect (Ledger file number first last) does near sent =
       record { set = same_set does.1; exported = tt; copied = tt; delivered = tt }
   effect (Print file number how scheme) does near sent =

@@ -1,7 +1,7 @@
 -- A scan of the images of labels takes in these labels alone. The labels are of side 12, as those of the worked list.
 use Rattle.std.proofs.Common.{◌≡◌, ◌*◌, ◌/◌, ◌%◌, ◌++◌, ℕ, zero, suc, Bool, true, false, List, [], ◌∷◌, None, Option, Some, drop, length, take, refl, sym, ap, subst, ◌∙◌, append_assoc, append-nil, arith}
 use Rattle.std.specs.{List.AllByRecursion, Io.KnownBytes.Consumes, Fmt.digits}
-use Rattle.std.proofs.lemmas.List.{length-append, FromFn.length-map-range_with_len}
+use Rattle.std.proofs.lemmas.List.{length-append, nil_from_length, FromFn.length-map-range_with_len}
 use Rattle.dm_size.specs.{Sizes.row, declared.size.Size.TheVariants.Side12}
 use Rattle.dm_size.proofs.Listed.{same_size}
 use Rattle.dm_finder_frame.specs.Frame.{GridView, IsWholeGrid, square_of}
@@ -48,14 +48,12 @@ length-bytes (suc n) row = ap suc (length-bytes n (drop 8 row))
 
 length-rows : (width height : ℕ) (pixels : List Bool) → length (rows_text false width height pixels) ≡ height * stride width
 length-rows width zero pixels = omega arith
-length-rows width (suc height) pixels =
-    let rest = length-rows width height (drop width pixels) in
-    let row = length-bytes (stride width) (take width pixels) in
-    omega (arith, length-append {A = ℕ}, rest, row)
-
-no_length : (xs : List ℕ) → length xs ≡ 0 → xs ≡ []
-no_length [] is = refl
-no_length (x ∷ xs) is = absurd (omega (arith, is))
+length-rows width (suc height) pixels = omega (
+  arith,
+  length-append {A = ℕ},
+  length-rows width height (drop width pixels),
+  length-bytes (stride width) (take width pixels),
+)
 
 -- a grid of side 12
 abbrev grid_of : List Bool → GridView
@@ -95,7 +93,7 @@ module _ (modules : List Bool) where
       let raster : rows ≡ a.raster ++ w.1 = (same_fronts header a.body rows (a.raster ++ w.1) (ap length head) after).1 in
       let count : length rows ≡ 28 = length-rows 14 14 shown.pixels in
       let packed_count : length a.raster ≡ 28 = length-packed a.raster 14 14 shown.pixels a.raster_is in
-      let none : w.1 ≡ [] = no_length w.1 (omega (arith, ap length raster, length-append a.raster w.1)) in
+      let none : w.1 ≡ [] = nil_from_length w.1 (omega (arith, ap length raster, length-append a.raster w.1)) in
       subst (λ (bytes : List ℕ). Spells bytes shown)
       (sym (w.2 ∙ ap (λ (l : List ℕ). w.0 ++ l) none ∙ append-nil w.0)) s
 

@@ -1,13 +1,15 @@
 -- Lines that ran over the places of a system are commands that ran at a site: the paths that they name, each once.
-use Rattle.std.proofs.Common.{◌≡◌, ◌≢◌, ◌++◌, ◌⊎◌, inl, inr, ℕ, zero, suc, List, [], ◌∷◌, None, Option, Some, slice_get, slice_set, refl, sym, ap, subst, ◌∙◌, Bool, true, false}
-use Rattle.std.specs.{Prelude.Decides, Prelude.IfSome, Prelude.unwrap_or, List.AllByRecursion, Str.bytes_eq}
+use Rattle.std.proofs.Common.{◌≡◌, ◌≢◌, ◌++◌, ◌⊎◌, inl, inr, ℕ, zero, suc, List, [], ◌∷◌, None, Option, Some, slice_get, slice_set, refl, sym, ap, subst, ◌∙◌, Bool, true, false, append_assoc}
+use Rattle.std.specs.{Prelude.Decides, Prelude.map, Prelude.unwrap_or, List.AllByRecursion, Str.bytes_eq}
 use Rattle.std.proofs.lemmas.Slice.Eq.{bytes_eq-Decides}
+use Rattle.relay_command.specs.declared.command.Command.{Command}
+use Rattle.relay_command.specs.declared.command.Command.TheVariants.{Export}
 use Rattle.relay_desk_commands.specs.Desks.{DeskFiles}
 use Rattle.relay.specs.Places.{PlacesView}
-use Rattle.relay.specs.Program.{named_path, path_of, IsAt, SystemView, does, does_and_saves, does_here, lacks_memory, shows}
+use Rattle.relay.specs.Program.{named_path, path_of, DoesAndSaves, ExportsEach, IsAt, SystemView, does, does_and_saves, does_here, exports_all, lacks_memory, next_id, no_id, shows}
 use Rattle.relay.specs.Program as program
 use Rattle.relay_program_runs.specs.Law.{At, MeetsPremises, IsBlank, IsNew, Ran, RunInTurn}
-use Rattle.relay_program_runs.specs.Lines.{Follow, LineRan, LinesAsk, NoLinePrintsAnIdAgain, WhatLinesDeliverWasPrinted, all_commands, commands_in, if_named, ran_at, saved_as}
+use Rattle.relay_program_runs.specs.Lines.{Follow, LineRan, LinesAsk, NoLinePrintsAnIdAgain, WhatLinesDeliverWasPrinted, all_commands, commands_in, exports_in, if_named, ran_at, saved_as}
 use Rattle.relay_program_runs.proofs.{Lists.all_so, Walk.no_id_is_printed_twice, Walk.what_is_delivered_was_printed}
 use Rattle.relay_program_runs.proofs.Steps.{Pairs, at_same, found, pairs_so, there}
 use Rattle.relay_shared.specs.Command.{FileView}
@@ -109,10 +111,6 @@ all_later : {X : Type 0} (P : X → Type 0) (xs ys : List X) → AllByRecursion 
 all_later P [] ys all = all
 all_later P (x ∷ xs) ys all = all_later P xs ys all.1
 
-if_some_so : {X : Type 0} (P Q : X → Type 0) (o : Option X) → ((x : X) → P x → Q x) → IfSome o P → IfSome o Q
-if_some_so P Q None each so = tt
-if_some_so P Q (Some x) each so = each x so
-
 module _ (A : Type 0) where
   abbrev AllIn : List (List ℕ) → List (Ran A) → Type 0
   AllIn paths rans = AllByRecursion (λ ran. IsIn paths (path_of ran.command)) rans
@@ -188,14 +186,11 @@ module _ (A : Type 0) where
       over,
     )
 
-    over_line : (inputs : List ℕ → FileView) (name : Option (List ℕ)) (old new : SystemView) (status : ℕ)
-        (line : program.Runs A inputs name old status new) (rans : List (Ran A)) → AllIn paths rans →
-        IfSome (saved_as line) (IsNone paths) → RunsOver new.places rans →
-        RunsOver old.places (commands_in line ++ rans)
-    over_line inputs name old new status (does line named met (does_here none at)) rans all saved over =
-        over_at (named_path line.command) (ran_at at) old.places new.places refl at.is_at rans over
-    over_line inputs name old new status (does line named met (does_and_saves path is to)) rans all saved over =
-        over_at (named_path line.command) (ran_at to.does) old.places to.done.places refl to.does.is_at rans (elim to.saves [
+    over_saved : (command : Command) (path : List ℕ) (old new : SystemView) (status : ℕ)
+        (to : DoesAndSaves A command path old status new) (rans : List (Ran A)) → AllIn paths rans → IsNone paths path →
+        RunsOver new.places rans → RunsOver old.places (if_named (named_path command) (ran_at to.does) ++ rans)
+    over_saved command path old new status to rans all saved over =
+        over_at (named_path command) (ran_at to.does) old.places to.done.places refl to.does.is_at rans (elim to.saves [
           | inl kept ↦ subst (λ (s : SystemView). RunsOver s.places rans) kept.2 over
           | inr (zero_is, saves) ↦ elim saves.saves [
             | inl kept ↦ subst (λ (p : PlacesView). RunsOver p rans) kept.0 over
@@ -204,27 +199,55 @@ module _ (A : Type 0) where
                 over
           ]
         ])
+
+    over_exports : {file folder : List ℕ} {ids : List (List ℕ)} {old new : SystemView} {status : ℕ}
+        (each : ExportsEach A file folder ids old status new) (rans : List (Ran A)) → AllIn paths (exports_in each ++ rans) →
+        AllByRecursion (IsNone paths) (map (λ id. folder ++ 47 ∷ id) ids) → RunsOver new.places rans →
+        RunsOver old.places (exports_in each ++ rans)
+    over_exports no_id rans all saved over = over
+    over_exports (next_id from id at (inl to) later) rans all saved over =
+        over_saved (Export from id) _ _ _ _ to (exports_in later ++ rans) all.1 saved.0
+        (over_exports later rans all.1 saved.1 over)
+    over_exports (next_id from id at (inr lacks) later) rans all saved over =
+        subst (λ (p : PlacesView). RunsOver p (exports_in later ++ rans)) lacks.0 (over_exports later rans all saved.1 over)
+
+    over_line : (inputs : List ℕ → FileView) (name : Option (List ℕ)) (old new : SystemView) (status : ℕ)
+        (line : program.Runs A inputs name old status new) (rans : List (Ran A)) → AllIn paths (commands_in line ++ rans) →
+        AllByRecursion (IsNone paths) (saved_as line) → RunsOver new.places rans →
+        RunsOver old.places (commands_in line ++ rans)
+    over_line inputs name old new status (does line named met (does_here none one at)) rans all saved over =
+        over_at (named_path line.command) (ran_at at) old.places new.places refl at.is_at rans over
+    over_line inputs name old new status (does line named met (does_and_saves path is to)) rans all saved over =
+        over_saved line.command path old new status to rans
+        (all_later _ (if_named (named_path line.command) (ran_at to.does)) rans all) saved.0 over
+    over_line inputs name old new status (does line named met (exports_all file folder ended text seen is out at (inl told)))
+        rans all saved over = rw append_assoc (over_at (named_path line.command) (ran_at at) old.places seen.places refl
+        at.is_at rans (subst (λ (p : PlacesView). RunsOver p rans) told.0 over))
+    over_line inputs name old new status (does line named met (exports_all file folder ended text seen is out at (inr then)))
+        rans all saved over = rw append_assoc (over_at (named_path line.command) (ran_at at) old.places seen.places refl
+        at.is_at (exports_in then.1 ++ rans) (over_exports then.1 rans
+        (all_later _ (if_named (named_path line.command) (ran_at at)) _ (rw append_assoc at all)) saved over))
     over_line inputs name old new status (does line named met (lacks_memory names same told)) rans all saved over =
         subst (λ (p : PlacesView). RunsOver p rans) same over
     over_line inputs name old new status (shows fault ends shown same) rans all saved over =
         subst (λ (p : PlacesView). RunsOver p rans) same over
 
     over_lines : (lines : List (LineRan A)) (places : PlacesView) → AllIn paths (all_commands lines) →
-        AllByRecursion (λ line. IfSome (saved_as line.runs) (IsNone paths)) lines → Follow places lines →
+        AllByRecursion (λ line. AllByRecursion (IsNone paths) (saved_as line.runs)) lines → Follow places lines →
         RunsOver places (all_commands lines)
     over_lines [] places all saved follow = tt
     over_lines (line ∷ later) places all saved (same, follow) =
         let rest = all_later _ (commands_in line.runs) (all_commands later) all in
         subst (λ (p : PlacesView). RunsOver p (all_commands (line ∷ later))) same
         (over_line line.inputs line.name line.before line.after line.status line.runs (all_commands later)
-        rest saved.0 (over_lines later line.after.places rest saved.1 follow))
+        all saved.0 (over_lines later line.after.places rest saved.1 follow))
 
   asks : (lines : List (LineRan A)) (ask : LinesAsk lines) →
       MeetsPremises (site_of (covers (all_commands lines)).paths ask.places) (all_commands lines)
   asks lines ask = let c = covers (all_commands lines) in record {
     is_new = new_site ask.places ask.is_new c.paths c.apart;
     runs = runs_there c.paths c.apart ask.places (all_commands lines) c.all (over_lines c.paths lines ask.places c.all
-        (all_so _ _ lines (λ line apart. if_some_so _ _ (saved_as line.runs) c.no_other apart) ask.saved_apart) ask.follow);
+        (all_so _ _ lines (λ line apart. all_so _ _ (saved_as line.runs) c.no_other apart) ask.saved_apart) ask.follow);
     apart = ask.apart;
     tickets = ask.tickets;
   }

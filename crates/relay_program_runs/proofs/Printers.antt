@@ -2,7 +2,7 @@
 use Rattle.std.proofs.Common.{◌≡◌, ◌⊎◌, ◌+◌, ◌≤◌, ◌++◌, inl, inr, true, ℕ, zero, suc, List, [], ◌∷◌, None, Option, Some, length, map, slice_get, slice_set, refl, sym, ap, subst, ◌∙◌, arith, eq-eqb}
 use Rattle.std.specs.Prelude.{◌==◌, IfSome, IsSomeAnd}
 use Rattle.std.specs.Option.{option_to_list}
-use Rattle.std.proofs.lemmas.List.{append-nil, length-set}
+use Rattle.std.proofs.lemmas.List.{append-nil, length-map, length-set}
 use Rattle.dm_finder_frame.specs.Frame.{GridView}
 use Rattle.dm_append_label.specs.Labels.{Carries, PageView}
 use Rattle.dm_store.specs.Saved.{Saved}
@@ -13,7 +13,7 @@ use Rattle.dm_event_history.specs.Steps.{IsRun, Moment}
 use Rattle.dm_event_history.specs.Headline.{AreDisjoint, ArePrinted, RelayIsSound, gone, one_if}
 use Rattle.dm_event_history.proofs.{Deciding.same_or_other, Gotten.get_more, Gotten.in_either, Gotten.set_at}
 use Rattle.dm_event_history.proofs.{Headline.each_run_is_sound, Numbers.gone_more}
-use Rattle.dm_event_world.proofs.Changing.{at_place}
+use Rattle.dm_event_world.proofs.{Changing.at_place, Mapped.get_map_from}
 use Rattle.relay_command.specs.declared.command.Command.{Command}
 use Rattle.relay_desk_commands.specs.Desks.{OnDesk}
 use Rattle.relay_runs.specs.Runs.{FollowsRun, IsOfJob, KeepsLedger, grids_in, grids_of}
@@ -69,9 +69,6 @@ pub record Stands (A : Type 0) (ranges : List Range) (earlier : List (Ran A)) (s
 
 -- ---- some lists
 
-some_none : {X : Type 0} (o : Option X) → o ≡ None → (x : X) → o ≡ Some x → ⊥
-some_none o none x some = cc (none, some)
-
 if_none : {X : Type 0} (P : X → Type 0) (o : Option X) → o ≡ None → IsSomeAnd o P → ⊥
 if_none P None none is = absurd is
 if_none P (Some x) none is = cc (none)
@@ -88,15 +85,8 @@ nothing_ran P s = nothing_there s.0 s.1 s.2
 
 grid_there : (grids : List GridView) (labels : List Label) → grids_of labels ≡ grids → (i : ℕ) (grid : GridView) →
     slice_get grids i ≡ Some grid → (label : Label) × (slice_get labels i ≡ Some label) × (label.grid ≡ grid)
-grid_there grids [] same i grid there =
-    absurd (nothing_there i grid (subst (λ (gs : List GridView). slice_get gs i ≡ Some grid) (sym same) there))
-grid_there grids (label ∷ labels) same zero grid there =
-    let at : slice_get (grids_of (label ∷ labels)) 0 ≡ Some grid =
-    subst (λ (gs : List GridView). slice_get gs 0 ≡ Some grid) (sym same) there in
-    (label, refl, cc (at))
-grid_there grids (label ∷ labels) same (suc i) grid there =
-    grid_there (grids_of labels) labels refl i grid
-    (subst (λ (gs : List GridView). slice_get gs (suc i) ≡ Some grid) (sym same) there)
+grid_there grids labels same i grid there = get_map_from (λ (label : Label). label.grid) labels i grid
+    (ap (λ (gs : List GridView). slice_get gs i) same ∙ there)
 
 after_some : {X : Type 0} (xs ys : List X) (i : ℕ) (x : X) → slice_get ys i ≡ Some x → (j : ℕ) × (slice_get (xs ++ ys) j ≡ Some x)
 after_some [] ys i x there = (i, there)
@@ -109,22 +99,14 @@ get_fresh : (from i : ℕ) (ranges : List Range) (range : Range) → slice_get r
 get_fresh from i [] range there = cc (there)
 get_fresh from zero (one ∷ ranges) range there =
     let same : one ≡ range = cc (there) in
-    let number : from ≡ from + 0 = omega arith in
-    ap (λ (r : Range). Some (Running (opening from r))) same
-    ∙ ap (λ (n : ℕ). Some (Running (opening n range))) number
+    let number : from ≡ from + 0 = omega arith in cc (same, number)
 get_fresh from (suc i) (one ∷ ranges) range there =
     let number : from + 1 + i ≡ from + suc i = omega arith in
     get_fresh (from + 1) i ranges range there ∙ ap (λ (n : ℕ). Some (Running (opening n range))) number
 
-none_yet : (site : List At) → length site ≡ length (map (λ (at : At). let o : Option ℕ = None in o) site)
-none_yet [] = refl
-none_yet (at ∷ site) = ap suc (none_yet site)
-
 none_at : (site : List At) (p : ℕ) (o : Option ℕ) →
     slice_get (map (λ (at : At). let o : Option ℕ = None in o) site) p ≡ Some o → o ≡ None
-none_at [] p o there = cc (there)
-none_at (at ∷ site) zero o there = cc (there)
-none_at (at ∷ site) (suc p) o there = none_at site p o there
+none_at site p o there = sym (get_map_from (λ (at : At). let o : Option ℕ = None in o) site p o there).2
 
 pub begun : (A : Type 0) (ranges : List Range) (site : List At) →
     ((place : ℕ) (at : At) → slice_get site place ≡ Some at → IsBlank at) → Stands A ranges [] site
@@ -133,7 +115,7 @@ begun A ranges site blank = record {
   relay = start ranges [];
   run = refl;
   numbers = map (λ (at : At). None) site;
-  count = none_yet site;
+  count = sym (length-map site (λ (at : At). let o : Option ℕ = None in o));
   each = λ place at o there is.
       let b = blank place at there in
       subst (HoldsSo (start ranges []) at.files.joint) (sym (none_at site place o is)) (b.store_honest, b.store);
@@ -164,6 +146,43 @@ other_there (z ∷ zs) zero (suc j) x isnt = refl
 other_there (z ∷ zs) (suc i) zero x isnt = refl
 other_there (z ∷ zs) (suc i) (suc j) x isnt = other_there zs i j x (λ e. isnt (ap suc e))
 
+-- ---- what a command does
+
+effect_at : (A : Type 0) (relay : Relay) (command : Command) {inputs : List FileView} (before after : OnDesk)
+    (ends : Halts A command inputs before after) (o : Option ℕ) → HoldsSo relay before.files.joint o →
+    Taken relay (passed_at ends).taken →
+    Effect A relay o command before after (passed_at ends)
+effect_at A relay command {inputs} before after (exited status does) o holds left =
+    effect A relay inputs before after status command does o holds left
+effect_at A relay command {inputs} before after (cut_short status does) o holds left =
+    effect A relay inputs before after status command does o holds left
+
+out_at : (A : Type 0) (command : Command) {inputs : List FileView} (before after : OnDesk)
+    (ends : Halts A command inputs before after) (job : JobView) → (passed_at ends).printed ≡ Some job →
+    AppendsPart before.streams.output.contents after.streams.output.contents (images_of job.labels)
+out_at A command {inputs} before after (exited status does) job is =
+    out_of A inputs before after status command does job is
+out_at A command {inputs} before after (cut_short status does) job is =
+    out_of A inputs before after status command does job is
+
+-- what is so once it ran: more labels may have left
+pub record OneMore (A : Type 0) (ranges : List Range) (earlier : List (Ran A)) (relay : Relay) (ran : Ran A)
+    (next : List At) : Type 0 where
+  pub stands : Stands A ranges (earlier ++ ran ∷ []) next
+  pub first : IsFirstOfItsId earlier ran
+  pub more : List Label
+  pub labels : stands.relay.labels ≡ relay.labels ++ more
+
+no_first : {A : Type 0} (earlier : List (Ran A)) (ran : Ran A) → (passed ran).printed ≡ None → IsFirstOfItsId earlier ran
+no_first earlier ran none = by (passed ran).printed none
+  where
+    by : (o : Option JobView) → o ≡ None → IfSome o (λ job.
+        ¬ SomeRan (λ other. IsSomeAnd (passed other).printed (λ its. its.id ≡ job.id)) earlier)
+    by None is = tt
+    by (Some job) is = absurd (cc (is))
+
+-- ---- once it ran
+
 module _ (A : Type 0) (ranges : List Range) (earlier : List (Ran A)) (site : List At) (s : Stands A ranges earlier site)
     (ran : Ran A) (place : ℕ) (found : slice_get site place ≡ Some (at_its_path ran ran.before.files)) where
   abbrev now : List (Ran A)
@@ -185,31 +204,12 @@ module _ (A : Type 0) (ranges : List Range) (earlier : List (Ran A)) (site : Lis
   made_now number (i, one, there, is) = (
     i,
     one,
-    subst (λ (ms : List Made). slice_get ms i ≡ Some one) (sym (made_more earlier ran))
-        (get_more (all_made earlier) (made_by ran.command ran.before ran.after) i one there),
+    cc (made_more earlier ran, get_more (all_made earlier) (made_by ran.command ran.before ran.after) i one there),
     is,
   )
 
   -- nothing was printed, or given
   module _ (no_job : (passed ran).printed ≡ None) (no_ticket : (passed ran).given ≡ None) where
-    gave_before : (ticket : TicketView) → SomeRan (Gave ticket) now → (it : ℕ) × (slice_get s.relay.tickets it ≡ Some ticket)
-    gave_before ticket some = elim (before_or_now (Gave ticket) earlier ran some) [
-      | inl old ↦ s.gave ticket old
-      | inr new ↦ absurd (some_none _ no_ticket ticket new)
-    ]
-
-    grids_before : (grid : GridView) → SomeRan (HasLabel grid) now → LeftAs s.relay grid
-    grids_before grid some = elim (before_or_now (HasLabel grid) earlier ran some) [
-      | inl old ↦ s.grids grid old
-      | inr new ↦ absurd (if_none _ (passed ran).printed no_job new)
-    ]
-
-    used_before : (id : ℕ) → SomeRan (HasId id) now → 1 ≤ gone s.relay.moves id
-    used_before id some = elim (before_or_now (HasId id) earlier ran some) [
-      | inl old ↦ s.used id old
-      | inr new ↦ absurd (if_none _ (passed ran).printed no_job new)
-    ]
-
     -- these stores hold ledgers of these numbers
     stays : (numbers : List (Option ℕ)) → length next ≡ length numbers →
         ((place : ℕ) (at : At) (o : Option ℕ) → slice_get next place ≡ Some at → slice_get numbers place ≡ Some o →
@@ -230,10 +230,19 @@ module _ (A : Type 0) (ranges : List Range) (earlier : List (Ran A)) (site : Lis
       once = once;
       fresh = fresh;
       made = made;
-      gave = gave_before;
+      gave = λ ticket some. elim (before_or_now (Gave ticket) earlier ran some) [
+        | inl old ↦ s.gave ticket old
+        | inr new ↦ absurd (cc (no_ticket, new))
+      ];
       printed = λ number label there. one_before _ earlier ran (s.printed number label there);
-      grids = grids_before;
-      used = used_before;
+      grids = λ grid some. elim (before_or_now (HasLabel grid) earlier ran some) [
+        | inl old ↦ s.grids grid old
+        | inr new ↦ absurd (if_none _ (passed ran).printed no_job new)
+      ];
+      used = λ id some. elim (before_or_now (HasId id) earlier ran some) [
+        | inl old ↦ s.used id old
+        | inr new ↦ absurd (if_none _ (passed ran).printed no_job new)
+      ];
     }
 
     -- the store holds what it did, or as good as
@@ -241,9 +250,7 @@ module _ (A : Type 0) (ranges : List Range) (earlier : List (Ran A)) (site : Lis
     still_holds here = stays s.numbers as_many
         (λ p at o there is. elim (set_at site place p (at_its_path ran ran.after.files) at there) [
           | inl same ↦
-              let o_is : its_number.0 ≡ o =
-              (let mine = its_number.1 in let at_p : slice_get s.numbers place ≡ Some o =
-              subst (λ (n : ℕ). slice_get s.numbers n ≡ Some o) (sym same.0) is in cc (mine, at_p)) in
+              let o_is : its_number.0 ≡ o = cc (its_number.1, is, same.0) in
               subst (λ (a : At). HoldsSo s.relay a.files.joint o) same.1
               (subst (HoldsSo s.relay ran.after.files.joint) o_is here)
           | inr other ↦ s.each p at o other.1 is
@@ -263,12 +270,7 @@ module _ (A : Type 0) (ranges : List Range) (earlier : List (Ran A)) (site : Lis
       here_once q other is isnt = sym (other_there s.numbers place q (Some number) (λ e. isnt (sym e))) ∙ is
 
       mine : (q other : ℕ) → slice_get numbered q ≡ Some (Some other) → place ≡ q → number ≡ other
-      mine q other is same =
-          let here : slice_get numbered place ≡ Some (Some number) =
-          set_there s.numbers place its_number.0 (Some number) its_number.1 in
-          let there : slice_get numbered place ≡ Some (Some other) =
-          subst (λ (n : ℕ). slice_get numbered n ≡ Some (Some other)) (sym same) is in
-          cc (here, there)
+      mine q other is same = cc (set_there s.numbers place its_number.0 (Some number) its_number.1, is, same)
 
       numbered_once : (p q other : ℕ) → slice_get numbered p ≡ Some (Some other) → slice_get numbered q ≡ Some (Some other) →
           p ≡ q
@@ -287,11 +289,8 @@ module _ (A : Type 0) (ranges : List Range) (earlier : List (Ran A)) (site : Lis
       makes_one = stays numbered (as_many ∙ sym (length-set s.numbers place (Some number)))
           (λ p at o there is. elim (set_at site place p (at_its_path ran ran.after.files) at there) [
             | inl same ↦
-                let here : slice_get numbered place ≡ Some (Some number) =
-                set_there s.numbers place its_number.0 (Some number) its_number.1 in
-                let at_p : slice_get numbered place ≡ Some o =
-                subst (λ (n : ℕ). slice_get numbered n ≡ Some o) (sym same.0) is in
-                let o_is : Some number ≡ o = cc (here, at_p) in
+                let here = set_there s.numbers place its_number.0 (Some number) its_number.1 in
+                let o_is : Some number ≡ o = cc (here, is, same.0) in
                 subst (λ (a : At). HoldsSo s.relay a.files.joint o) same.1 (subst (HoldsSo s.relay ran.after.files.joint) o_is
                 (Running (opening number range), s.fresh number range in_ranges first, keeps))
             | inr other ↦ s.each p at o other.1
@@ -299,18 +298,14 @@ module _ (A : Type 0) (ranges : List Range) (earlier : List (Ran A)) (site : Lis
           ])
           numbered_once
           (λ other its there unmade. s.fresh other its there (λ p is. elim (same_or_other place p) [
-            | inl e ↦ absurd (let at : slice_get s.numbers place ≡ Some (Some other) =
-                subst (λ (n : ℕ). slice_get s.numbers n ≡ Some (Some other)) (sym e) is in
-                let own = its_number.1 in cc (at, own, none))
+            | inl e ↦ absurd (cc (its_number.1, is, e, none))
             | inr isnt ↦ unmade p (other_there s.numbers place p (Some number) (λ e. isnt (sym e)) ∙ is)
           ]))
           (λ p other is. elim (same_or_other place p) [
             | inl e ↦ (
               length (all_made earlier),
               record { number = number; range = range },
-              subst (λ (ms : List Made). slice_get ms (length (all_made earlier)) ≡ Some (record { number = number; range = range }))
-                  (sym (made_more earlier ran ∙ ap (λ (ms : List Made). all_made earlier ++ ms) is_one))
-                  (at_length (all_made earlier) (record { number = number; range = range })),
+              cc (made_more earlier ran, is_one, at_length (all_made earlier) (record { number = number; range = range })),
               mine p other is e,
             )
             | inr isnt ↦ made_now other (s.made p other (here_once p other is isnt))
@@ -358,8 +353,7 @@ module _ (A : Type 0) (ranges : List Range) (earlier : List (Ran A)) (site : Lis
 
     -- the number stands at this place alone
     away : (p other : ℕ) → (place ≡ p → ⊥) → slice_get s.numbers p ≡ Some (Some other) → other ≡ number → ⊥
-    away p other isnt is same = isnt (s.once place p number (its_number.1 ∙ ap (λ (o : Option ℕ). Some o) is_number)
-        (is ∙ ap (λ (n : ℕ). Some (Some n)) same))
+    away p other isnt is same = isnt (s.once place p number (cc (its_number.1, is_number)) (cc (is, same)))
 
     still_elsewhere : (p : ℕ) (saved : Saved) (o : Option ℕ) → (place ≡ p → ⊥) → slice_get s.numbers p ≡ Some o →
         HoldsSo s.relay saved o → HoldsSo f.after saved o
@@ -372,8 +366,8 @@ module _ (A : Type 0) (ranges : List Range) (earlier : List (Ran A)) (site : Lis
 
     there_after : (i : ℕ) (label : Label) → slice_get f.goods.labels i ≡ Some label →
         (n : ℕ) × (slice_get f.after.labels n ≡ Some label)
-    there_after i label there = let a = after_some s.relay.labels f.goods.labels i label there in
-        (a.0, subst (λ (ls : List Label). slice_get ls a.0 ≡ Some label) (sym labels_are) a.1)
+    there_after i label there =
+        let a = after_some s.relay.labels f.goods.labels i label there in (a.0, cc (labels_are, a.1))
 
     label_new : (i : ℕ) (label : Label) → slice_get f.goods.labels i ≡ Some label →
         PrintsUnder label.page.id label.cut.bytes ran
@@ -421,13 +415,8 @@ module _ (A : Type 0) (ranges : List Range) (earlier : List (Ran A)) (site : Lis
     tickets_are = ap (λ (r : Relay). r.tickets) f.runs.after_is
 
     old_label : (grid : GridView) → LeftAs s.relay grid → LeftAs f.after grid
-    old_label grid (n, label, there, is) = (
-      n,
-      label,
-      subst (λ (ls : List Label). slice_get ls n ≡ Some label) (sym labels_are)
-          (get_more s.relay.labels f.goods.labels n label there),
-      is,
-    )
+    old_label grid (n, label, there, is) =
+        (n, label, cc (labels_are, get_more s.relay.labels f.goods.labels n label there), is)
 
     new_label : (grid : GridView) → HasLabel grid ran → LeftAs f.after grid
     new_label grid has =
@@ -445,34 +434,27 @@ module _ (A : Type 0) (ranges : List Range) (earlier : List (Ran A)) (site : Lis
       count = as_many;
       each = λ p at o there is. elim (set_at site place p (at_its_path ran ran.after.files) at there) [
         | inl same ↦
-            let at_p : slice_get s.numbers place ≡ Some o =
-            subst (λ (n : ℕ). slice_get s.numbers n ≡ Some o) (sym same.0) is in
-            let own = its_number.1 in
-            let o_is : Some number ≡ o = cc (own, at_p, is_number) in
+            let o_is : Some number ≡ o = cc (its_number.1, is, same.0, is_number) in
             subst (λ (a : At). HoldsSo f.after a.files.joint o) same.1 (subst (HoldsSo f.after ran.after.files.joint) o_is
             (f.runs.actor, f.runs.there, f.runs.keeps))
         | inr other ↦ still_elsewhere p at.files.joint o (λ e. other.0 e) is (s.each p at o other.1 is)
       ];
       once = s.once;
-      fresh = λ other range there unmade. other_printer other (λ e. unmade place
-          (its_number.1 ∙ ap (λ (o : Option ℕ). Some o) is_number ∙ ap (λ (n : ℕ). Some (Some n)) (sym e)))
+      fresh = λ other range there unmade. other_printer other (λ e. unmade place (cc (its_number.1, is_number, e)))
           ∙ s.fresh other range there unmade;
       made = λ p other is. made_now other (s.made p other is);
       gave = λ ticket some. elim (before_or_now (Gave ticket) earlier ran some) [
         | inl old ↦
-            let t = s.gave ticket old in (
-              t.0,
-              subst (λ (ts : List TicketView). slice_get ts t.0 ≡ Some ticket) (sym tickets_are)
-                  (get_more s.relay.tickets f.goods.tickets t.0 ticket t.1),
-            )
+            let t = s.gave ticket old in
+            (t.0, cc (tickets_are, get_more s.relay.tickets f.goods.tickets t.0 ticket t.1))
         | inr new ↦
             let one : f.goods.tickets ≡ ticket ∷ [] = f.tickets ∙ ap (option_to_list {X = TicketView}) new in
             let at : slice_get f.goods.tickets 0 ≡ Some ticket = ap (λ (ts : List TicketView). slice_get ts 0) one in
             let a = after_some s.relay.tickets f.goods.tickets 0 ticket at in
-            (a.0, subst (λ (ts : List TicketView). slice_get ts a.0 ≡ Some ticket) (sym tickets_are) a.1)
+            (a.0, cc (tickets_are, a.1))
       ];
       printed = λ n label there. elim (in_either s.relay.labels f.goods.labels n label
-          (subst (λ (ls : List Label). slice_get ls n ≡ Some label) labels_are there)) [
+          (cc (labels_are, there))) [
             | inl old ↦ one_before _ earlier ran (s.printed n label old)
             | inr new ↦ one_now _ earlier ran (label_new new.0 label new.2)
           ];
@@ -488,87 +470,41 @@ module _ (A : Type 0) (ranges : List Range) (earlier : List (Ran A)) (site : Lis
       ];
     }
 
--- ---- whatever the command
+  -- ---- whatever the command
 
-effect_at : (A : Type 0) (relay : Relay) (command : Command) {inputs : List FileView} (before after : OnDesk)
-    (ends : Halts A command inputs before after) (o : Option ℕ) → HoldsSo relay before.files.joint o →
-    Taken relay (passed_at ends).taken →
-    Effect A relay o command before after (passed_at ends)
-effect_at A relay command {inputs} before after (exited status does) o holds left =
-    effect A relay inputs before after status command does o holds left
-effect_at A relay command {inputs} before after (cut_short status does) o holds left =
-    effect A relay inputs before after status command does o holds left
-
-out_at : (A : Type 0) (command : Command) {inputs : List FileView} (before after : OnDesk)
-    (ends : Halts A command inputs before after) (job : JobView) → (passed_at ends).printed ≡ Some job →
-    AppendsPart before.streams.output.contents after.streams.output.contents (images_of job.labels)
-out_at A command {inputs} before after (exited status does) job is =
-    out_of A inputs before after status command does job is
-out_at A command {inputs} before after (cut_short status does) job is =
-    out_of A inputs before after status command does job is
-
--- what is so once it ran: more labels may have left
-pub record OneMore (A : Type 0) (ranges : List Range) (earlier : List (Ran A)) (relay : Relay) (ran : Ran A)
-    (next : List At) : Type 0 where
-  pub stands : Stands A ranges (earlier ++ ran ∷ []) next
-  pub first : IsFirstOfItsId earlier ran
-  pub more : List Label
-  pub labels : stands.relay.labels ≡ relay.labels ++ more
-
-no_first : {A : Type 0} (earlier : List (Ran A)) (ran : Ran A) → (passed ran).printed ≡ None → IsFirstOfItsId earlier ran
-no_first earlier ran none = by (passed ran).printed none
-  where
-    by : (o : Option JobView) → o ≡ None → IfSome o (λ job.
-        ¬ SomeRan (λ other. IsSomeAnd (passed other).printed (λ its. its.id ≡ job.id)) earlier)
-    by None is = tt
-    by (Some job) is = absurd (cc (is))
-
-module _ (A : Type 0) (ranges : List Range) (disjoint : AreDisjoint ranges) (earlier : List (Ran A)) (site : List At)
-    (s : Stands A ranges earlier site) (ran : Ran A) (place : ℕ)
-    (found : slice_get site place ≡ Some (at_its_path ran ran.before.files))
-    (made_apart : (one : Made) → made_by ran.command ran.before ran.after ≡ one ∷ [] →
-    (slice_get ranges one.number ≡ Some one.range) × (WasMade (all_made earlier) one.number → ⊥))
-    (left : Taken s.relay (passed ran).taken) where
-  abbrev Next : Type 0
-  Next = OneMore A ranges earlier s.relay ran (slice_set site place (at_its_path ran ran.after.files))
-
-  by_effect : Effect A s.relay (its_number A ranges earlier site s ran place found).0 ran.command ran.before ran.after
-      (passed ran) → Next
-  unfolding still_holds stays makes_one called
-  by_effect (idle same no_job no_ticket) = record {
-    stands = still_holds A ranges earlier site s ran place found no_job no_ticket
-        (subst (λ (j : Saved). HoldsSo s.relay j (its_number A ranges earlier site s ran place found).0) (sym same)
-        (holds A ranges earlier site s ran place found));
+  -- where it printed nothing no label leaves
+  unprinted : (passed ran).printed ≡ None → (stands : Stands A ranges now next) → stands.relay ≡ s.relay →
+      OneMore A ranges earlier s.relay ran next
+  unprinted no_job stands same = record {
+    stands = stands;
     first = no_first earlier ran no_job;
     more = [];
-    labels = sym (append-nil s.relay.labels);
-  }
-  by_effect (unmade none honest content no_job no_ticket) = record {
-    stands = still_holds A ranges earlier site s ran place found no_job no_ticket
-        (subst (HoldsSo s.relay ran.after.files.joint) (sym none) (honest, content));
-    first = no_first earlier ran no_job;
-    more = [];
-    labels = sym (append-nil s.relay.labels);
-  }
-  by_effect (makes number range none honest ranged content is_one no_job no_ticket) =
-      let its = made_apart (record { number = number; range = range }) is_one in
-      record {
-        stands = makes_one A ranges earlier site s ran place found no_job no_ticket number range none is_one its.0
-            (λ p is. its.1 (s.made p number is))
-            (record { honest = honest; sound = opening_sound number range ranged; content = content });
-        first = no_first earlier ran no_job;
-        more = [];
-        labels = sym (append-nil s.relay.labels);
-      }
-  by_effect (follows number is f) = record {
-    stands = called A ranges earlier site s ran place found disjoint number is f
-        (out_at A ran.command ran.before ran.after ran.ends);
-    first = first_of_its_id A ranges earlier site s ran place found disjoint number is f
-        (out_at A ran.command ran.before ran.after ran.ends);
-    more = f.goods.labels;
-    labels = ap (λ (r : Relay). r.labels) f.runs.after_is;
+    labels = ap (λ (r : Relay). r.labels) same ∙ sym (append-nil s.relay.labels);
   }
 
-  pub one_more : Next
-  one_more = by_effect (effect_at A s.relay ran.command ran.before ran.after ran.ends
-      (its_number A ranges earlier site s ran place found).0 (holds A ranges earlier site s ran place found) left)
+  module _ (disjoint : AreDisjoint ranges)
+      (made_apart : (one : Made) → made_by ran.command ran.before ran.after ≡ one ∷ [] →
+      (slice_get ranges one.number ≡ Some one.range) × (WasMade (all_made earlier) one.number → ⊥))
+      (left : Taken s.relay (passed ran).taken) where
+    by_effect : Effect A s.relay its_number.0 ran.command ran.before ran.after (passed ran) →
+        OneMore A ranges earlier s.relay ran next
+    unfolding still_holds stays makes_one called
+    by_effect (idle same no_job no_ticket) = unprinted no_job (still_holds no_job no_ticket
+        (subst (λ (j : Saved). HoldsSo s.relay j its_number.0) (sym same) holds)) refl
+    by_effect (unmade none honest content no_job no_ticket) = unprinted no_job (still_holds no_job no_ticket
+        (subst (HoldsSo s.relay ran.after.files.joint) (sym none) (honest, content))) refl
+    by_effect (makes number range none honest ranged content is_one no_job no_ticket) =
+        let its = made_apart (record { number = number; range = range }) is_one in
+        unprinted no_job (makes_one no_job no_ticket number range none is_one its.0 (λ p is. its.1 (s.made p number is))
+        (record { honest = honest; sound = opening_sound number range ranged; content = content })) refl
+    by_effect (follows number is f) =
+        let out = out_at A ran.command ran.before ran.after ran.ends in
+        record {
+          stands = called disjoint number is f out;
+          first = first_of_its_id disjoint number is f out;
+          more = f.goods.labels;
+          labels = ap (λ (r : Relay). r.labels) f.runs.after_is;
+        }
+
+    pub one_more : OneMore A ranges earlier s.relay ran next
+    one_more = by_effect (effect_at A s.relay ran.command ran.before ran.after ran.ends its_number.0 holds left)

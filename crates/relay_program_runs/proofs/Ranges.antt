@@ -1,8 +1,8 @@
 -- The ranges of ledgers by the numbers of their printers, with a range of nothing where a number has none: so the machine
 -- may begin with all of them.
-use Rattle.std.proofs.Common.{◌≡◌, ◌⊎◌, ◌+◌, ◌<◌, ◌≤◌, inl, inr, ℕ, zero, suc, List, [], ◌∷◌, Some, length, slice_get, slice_index_or, refl, sym, ap, subst, ◌∙◌, arith}
+use Rattle.std.proofs.Common.{◌≡◌, ◌⊎◌, ◌+◌, ◌<◌, ◌≤◌, inl, inr, ℕ, zero, suc, List, [], ◌∷◌, Some, slice_get, slice_index_or, refl, sym, ap, subst, ◌∙◌, arith}
 use Rattle.std.specs.Prelude.{AllPairs}
-use Rattle.std.proofs.lemmas.{Bool.cases_lt, Option.slice_get-get_or, Option.slice_get_within}
+use Rattle.std.proofs.lemmas.{Bool.cases_lt, Option.get_or_from_slice_get, Option.slice_get-get_or, Option.slice_get_within}
 use Rattle.dm_print_ledger.specs.declared.range.Range.{Range}
 use Rattle.dm_event_history.specs.Headline.{AreDisjoint, IsApart}
 use Rattle.dm_event_history.proofs.Deciding.{same_or_other}
@@ -54,17 +54,11 @@ placed_from : (gap : Range) (xs : List Range) (n m : ℕ) (range x : Range) → 
 placed_from gap [] zero zero range x there = inl (refl, cc (there))
 placed_from gap [] zero (suc m) range x there = cc (there)
 placed_from gap [] (suc n) zero range x there = inr (inl (cc (there)))
-placed_from gap [] (suc n) (suc m) range x there = elim (placed_from gap [] n m range x there) [
-  | inl here ↦ inl (ap suc here.0, here.1)
-  | inr other ↦ inr other
-]
+placed_from gap [] (suc n) (suc m) range x there = grind (arith, (placed_from gap [] n m range x there))
 placed_from gap (y ∷ xs) zero zero range x there = inl (refl, cc (there))
 placed_from gap (y ∷ xs) zero (suc m) range x there = inr (inr there)
 placed_from gap (y ∷ xs) (suc n) zero range x there = inr (inr there)
-placed_from gap (y ∷ xs) (suc n) (suc m) range x there = elim (placed_from gap xs n m range x there) [
-  | inl here ↦ inl (ap suc here.0, here.1)
-  | inr other ↦ inr other
-]
+placed_from gap (y ∷ xs) (suc n) (suc m) range x there = grind (arith, (placed_from gap xs n m range x there))
 
 -- ---- ledgers that are apart
 
@@ -72,13 +66,9 @@ placed_from gap (y ∷ xs) (suc n) (suc m) range x there = elim (placed_from gap
 pub two_apart : (made : List Made) → AllPairs AreApart made → (i j : ℕ) (one other : Made) → i < j →
     slice_get made i ≡ Some one → slice_get made j ≡ Some other → AreApart one other
 two_apart made apart i j one other below at there =
-    let within : j < length made = slice_get_within made j other there in
-    let a : slice_get made i ≡ Some (slice_index_or made i one) = slice_get-get_or made i one (omega arith) in
-    let b : slice_get made j ≡ Some (slice_index_or made j one) = slice_get-get_or made j one within in
-    let first : slice_index_or made i one ≡ one = cc (a, at) in
-    let second : slice_index_or made j one ≡ other = cc (b, there) in
-    subst (λ (m : Made). AreApart one m) second
-    (subst (λ (m : Made). AreApart m (slice_index_or made j one)) first (apart i j one below within))
+    subst (λ (m : Made). AreApart one m) (get_or_from_slice_get made j other one there)
+    (subst (λ (m : Made). AreApart m (slice_index_or made j one)) (get_or_from_slice_get made i one one at)
+    (apart i j one below (slice_get_within made j other there)))
 
 pub later_apart : (one : Made) (more : List Made) → AllPairs AreApart (one ∷ more) → AllPairs AreApart more
 later_apart one more apart = λ i j d below within. apart (suc i) (suc j) d (omega arith) (omega arith)
@@ -137,14 +127,11 @@ other_way : (one other : Range) → IsApart one other → IsApart other one
 other_way one other (inl before) = inr before
 other_way one other (inr after) = inl after
 
-module _ (made : List Made) (apart : AllPairs AreApart made) where
-  positive : 0 < above made
-  positive = by made
-    where
-      by : (ms : List Made) → 0 < above ms
-      by [] = omega arith
-      by (m ∷ ms) = let rest = by ms in omega arith
+positive : (made : List Made) → 0 < above made
+positive [] = omega arith
+positive (one ∷ more) = omega arith
 
+module _ (made : List Made) (apart : AllPairs AreApart made) where
   -- ledgers of two numbers
   two_ranges : (i j : ℕ) (one other : Range) → (i ≡ j → ⊥) → IsOf made i one → IsOf made j other → IsApart one other
   two_ranges i j one other isnt a b = by_place (cases_lt a.place b.place)
@@ -154,9 +141,7 @@ module _ (made : List Made) (apart : AllPairs AreApart made) where
 
       same_number : a.place ≡ b.place → ⊥
       same_number e =
-          let there : slice_get made a.place ≡ Some b.one = subst (λ (p : ℕ). slice_get made p ≡ Some b.one) (sym e) b.there in
-          let at = a.there in
-          let same : a.one ≡ b.one = cc (there, at) in
+          let same : a.one ≡ b.one = cc (a.there, b.there, e) in
           isnt (a.number_is ∙ ap (λ (m : Made). m.number) same ∙ sym b.number_is)
 
       by_place : (a.place < b.place) ⊎ (b.place ≤ a.place) → IsApart one other
@@ -175,7 +160,7 @@ module _ (made : List Made) (apart : AllPairs AreApart made) where
       by_where : ((gap_of made ≡ one) ⊎ IsOf made i one) → ((gap_of made ≡ other) ⊎ IsOf made j other) → IsApart one other
       by_where (inr a) (inr b) = two_ranges i j one other isnt a b
       by_where (inl a) (inl b) =
-          subst (λ (r : Range). IsApart one r) b (subst (λ (r : Range). IsApart r (gap_of made)) a (inl positive))
+          subst (λ (r : Range). IsApart one r) b (subst (λ (r : Range). IsApart r (gap_of made)) a (inl (positive made)))
       by_where (inl a) (inr b) =
           subst (λ (r : Range). IsApart r other) a (inr (subst (λ (r : Range). r.last < above made) b.range_is
           (last_below made b.place b.one b.there)))

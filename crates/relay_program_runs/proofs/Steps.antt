@@ -1,7 +1,8 @@
 -- Lists of commands, each at its place of a site: that the site is new, that they ran one after another, and which
 -- ledgers they made.
-use Rattle.std.proofs.Common.{◌≡◌, ◌≢◌, ◌≤◌, ◌<◌, ◌+◌, ◌++◌, ℕ, zero, suc, List, [], ◌∷◌, Option, Some, length, slice_get, slice_index_or, slice_set, refl, sym, ap, subst, ◌∙◌, arith}
+use Rattle.std.proofs.Common.{◌≡◌, ◌≢◌, ◌≤◌, ◌<◌, ◌+◌, ◌++◌, ℕ, zero, suc, List, [], ◌∷◌, Option, Some, slice_get, slice_set, refl, sym, ap, subst, ◌∙◌, arith}
 use Rattle.std.specs.{Prelude.AllPairs, Prelude.IfSome, Prelude.IsSomeAnd, List.AllByRecursion}
+use Rattle.std.proofs.lemmas.Option.{slice_get-get_or}
 use Rattle.dm_store.specs.Saved.{with_open_plans, Saved, SavedSet}
 use Rattle.dm_print_ledger.specs.Ledger.{JobView, TicketView}
 use Rattle.relay_command.specs.declared.command.Command.{Command}
@@ -17,12 +18,6 @@ use Rattle.relay_program_runs.specs.Worked.{Breaks, IsDone, two_files, given, no
 pub also : {X Y : Type 0} → X → Y → X × Y
 also x y = (x, y)
 
-by_index : {X : Type 0} (P : X → Type 0) (xs : List X) → AllByRecursion P xs → (j : ℕ) (d : X) → j < length xs →
-    P (slice_index_or xs j d)
-by_index P [] all j d within = absurd (omega (arith, within))
-by_index P (x ∷ xs) all zero d within = all.0
-by_index P (x ∷ xs) all (suc j) d within = by_index P xs all.1 j d (omega arith)
-
 pub found : {X : Type 0} (P : X → Type 0) (xs : List X) → AllByRecursion P xs → (i : ℕ) (x : X) → slice_get xs i ≡ Some x →
     P x
 found P [] all i x is = cc (is)
@@ -36,7 +31,7 @@ Pairs R (x ∷ xs) = AllByRecursion (R x) xs × Pairs R xs
 pub pairs_so : {X : Type 0} (R : X → X → Type 0) (xs : List X) → Pairs R xs → AllPairs R xs
 pairs_so R [] all i j d below within = absurd (omega (arith, within))
 pairs_so R (x ∷ xs) all zero zero d below within = absurd (omega (arith, below))
-pairs_so R (x ∷ xs) all zero (suc j) d below within = by_index (R x) xs all.0 j d (omega arith)
+pairs_so R (x ∷ xs) all zero (suc j) d below within = found (R x) xs all.0 j _ (slice_get-get_or xs j d (omega arith))
 pairs_so R (x ∷ xs) all (suc i) zero d below within = absurd (omega (arith, below))
 pairs_so R (x ∷ xs) all (suc i) (suc j) d below within = pairs_so R xs all.1 i j d (omega arith) (omega arith)
 

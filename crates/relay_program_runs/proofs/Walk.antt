@@ -1,14 +1,14 @@
 -- The two laws, command by command.
-use Rattle.std.proofs.Common.{◌≡◌, ◌++◌, ◌<◌, ℕ, List, [], ◌∷◌, None, Option, Some, length, slice_get, slice_set, refl, sym, ap, subst, ◌∙◌, append_assoc}
+use Rattle.std.proofs.Common.{◌≡◌, ◌++◌, ◌<◌, ℕ, List, [], ◌∷◌, None, Option, Some, length, slice_get, refl, sym, ap, ◌∙◌, append_assoc}
 use Rattle.std.specs.Prelude.{AllPairs, IfSome, IsTrue}
 use Rattle.std.proofs.lemmas.Option.{slice_get_within}
 use Rattle.dm_print_ledger.specs.Ledger.{TicketView}
 use Rattle.dm_event_history.specs.Relay.{Relay}
 use Rattle.dm_event_history.proofs.Gotten.{get_more}
-use Rattle.relay_program_runs.specs.Law.{AreApart, At, DeliversPrinted, Each, IsFirstOfItsId, NoIdIsPrintedTwice, Ran, RunInTurn, SomeRan, TakesGiven, TakesPrinted, WhatIsDeliveredWasPrinted, all_made, at_its_path, passed}
+use Rattle.relay_program_runs.specs.Law.{AreApart, At, DeliversPrinted, Each, IsFirstOfItsId, NoIdIsPrintedTwice, Ran, RunInTurn, SomeRan, TakesGiven, TakesPrinted, WhatIsDeliveredWasPrinted, all_made, passed}
 use Rattle.relay_program_runs.specs.Passed.{Made, made_by}
 use Rattle.relay_program_runs.proofs.{Effects.Taken, Lists.at_length, Lists.made_more}
-use Rattle.relay_program_runs.proofs.Printers.{Gave, OneMore, Stands, WasMade, begun, one_more}
+use Rattle.relay_program_runs.proofs.Printers.{Gave, Stands, WasMade, begun, one_more}
 use Rattle.relay_program_runs.proofs.Ranges.{range_found, ranges_apart, ranges_of, two_apart}
 use Rattle.relay_program_runs.proofs.Desks.{AreClean, clean_begun, clean_more, delivers}
 
@@ -23,16 +23,14 @@ module _ (A : Type 0) (made : List Made) (apart : AllPairs AreApart made) (earli
     its_place : slice_get made (length (all_made earlier)) ≡ Some one
     its_place =
         let there : slice_get (all_made (earlier ++ ran ∷ [])) (length (all_made earlier)) ≡ Some one =
-        subst (λ (ms : List Made). slice_get ms (length (all_made earlier)) ≡ Some one)
-        (sym (made_more earlier ran ∙ ap (λ (ms : List Made). all_made earlier ++ ms) is)) (at_length (all_made earlier) one) in
-        subst (λ (ms : List Made). slice_get ms (length (all_made earlier)) ≡ Some one) (sym made_next)
-        (get_more (all_made (earlier ++ ran ∷ [])) (all_made later) (length (all_made earlier)) one there)
+        cc (made_more earlier ran, is, at_length (all_made earlier) one) in
+        cc (made_next, get_more (all_made (earlier ++ ran ∷ [])) (all_made later) (length (all_made earlier)) one there)
 
     not_before : WasMade (all_made earlier) one.number → ⊥
     not_before (i, other, there, same) =
         let below : i < length (all_made earlier) = slice_get_within (all_made earlier) i other there in
-        let at : slice_get made i ≡ Some other = subst (λ (ms : List Made). slice_get ms i ≡ Some other) (sym are)
-        (get_more (all_made earlier) (all_made (ran ∷ later)) i other there) in
+        let at : slice_get made i ≡ Some other =
+        cc (are, get_more (all_made earlier) (all_made (ran ∷ later)) i other there) in
         (two_apart made apart i (length (all_made earlier)) other one below at its_place).0 same
 
     made_apart : (slice_get (ranges_of made) one.number ≡ Some one.range) × (WasMade (all_made earlier) one.number → ⊥)
@@ -51,12 +49,10 @@ module _ (A : Type 0) (made : List Made) (apart : AllPairs AreApart made) where
       Each IsFirstOfItsId earlier later
   each_first [] earlier site s are runs takes = tt
   each_first (ran ∷ later) earlier site s are runs takes =
-      let o : OneMore A (ranges_of made) earlier s.relay ran (slice_set site runs.0 (at_its_path ran ran.after.files)) =
-      one_more A (ranges_of made) (ranges_apart made apart) earlier site s ran runs.0 runs.1
+      let o = one_more A (ranges_of made) earlier site s ran runs.0 runs.1 (ranges_apart made apart)
       (made_apart A made apart earlier ran later are) (taken A earlier s.relay (passed ran).taken s.gave takes.0) in (
         o.first,
-        each_first later (earlier ++ ran ∷ []) (slice_set site runs.0 (at_its_path ran ran.after.files)) o.stands
-            (made_next A made apart earlier ran later are) runs.2 takes.1,
+        each_first later (earlier ++ ran ∷ []) _ o.stands (made_next A made apart earlier ran later are) runs.2 takes.1,
       )
 
   each_delivers : (IsAmong : List ℕ → Type 0) (later earlier : List (Ran A)) (site : List At) →
@@ -67,11 +63,10 @@ module _ (A : Type 0) (made : List Made) (apart : AllPairs AreApart made) where
   each_delivers IsAmong [] earlier site c are runs takes brings = tt
   each_delivers IsAmong (ran ∷ later) earlier site c are runs takes brings =
       let s = c.stands in
-      let o : OneMore A (ranges_of made) earlier s.relay ran (slice_set site runs.0 (at_its_path ran ran.after.files)) =
-      one_more A (ranges_of made) (ranges_apart made apart) earlier site s ran runs.0 runs.1
+      let o = one_more A (ranges_of made) earlier site s ran runs.0 runs.1 (ranges_apart made apart)
       (made_apart A made apart earlier ran later are) (taken A earlier s.relay (passed ran).taken s.gave takes.0) in (
         delivers A IsAmong (ranges_of made) (ranges_apart made apart) earlier site c ran runs.0 runs.1 brings.0,
-        each_delivers IsAmong later (earlier ++ ran ∷ []) (slice_set site runs.0 (at_its_path ran ran.after.files))
+        each_delivers IsAmong later (earlier ++ ran ∷ []) _
             (clean_more A IsAmong (ranges_of made) (ranges_apart made apart) earlier site c ran runs.0 runs.1 brings.0 o)
             (made_next A made apart earlier ran later are) runs.2 takes.1 brings.1,
       )

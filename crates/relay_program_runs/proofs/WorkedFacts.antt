@@ -1,11 +1,10 @@
 -- What commands that ended well did, over streams whose bytes are known.
-use Rattle.std.proofs.Common.{◌≡◌, ◌⊎◌, ◌≤◌, ◌+◌, ◌++◌, inl, inr, ℕ, Bool, true, false, List, [], ◌∷◌, None, Option, Some, Result, Ok, Err, length, slice_get, take, refl, sym, ap, subst, ◌∙◌, append_assoc, append-nil, arith}
-use Rattle.std.specs.{Prelude.IfSome, Prelude.IsTrue, Prelude.MatchBool, Borrow.Bor, List.AllByRecursion}
+use Rattle.std.proofs.Common.{◌≡◌, ◌⊎◌, ◌≤◌, ◌+◌, inl, inr, false, ℕ, suc, List, [], ◌∷◌, None, Option, Some, Result, Ok, Err, length, slice_get, take, refl, sym, ap, subst, ◌∙◌, append-nil, arith}
+use Rattle.std.specs.{Prelude.IfSome, Prelude.IsTrue, Borrow.Bor, List.AllByRecursion}
 use Rattle.std.specs.Io.KnownBytes.{Appends}
 use Rattle.std.proofs.lemmas.List.{take_all}
 use Rattle.dm_size.specs.{Sizes.row, Sizes.side, declared.size.Size.Size, declared.size.Size.TheVariants.Side12}
 use Rattle.dm_size.proofs.Listed.{same_size}
-use Rattle.dm_symbol.specs.Correction.{grid_of_words}
 use Rattle.dm_assembly_desk.specs.declared.{fault.ImportFault.ImportFault, reply.Imported.Imported}
 use Rattle.dm_assembly_desk.specs.declared.fault.ImportFault.TheVariants as import_fault
 use Rattle.relay_desk_commands.specs.declared.import.TheConstants.{IMPORT_BYTES}
@@ -15,9 +14,8 @@ use Rattle.dm_finder_frame.proofs.FramedGrids.{grid_is_whole}
 use Rattle.dm_pbm_io.specs.Image.{p4}
 use Rattle.dm_store.specs.Saved.{Saved}
 use Rattle.dm_print_ledger.proofs.LedgerLaws.{opening_sound}
-use Rattle.dm_print_ledger.specs.Verdicts.{SavesFirst, opening, AreLabels, CarriesOut, IsJobOf, IsMade, TakesTicket, giver_of, least, take_verdict, ticket_of, union_with_range}
-use Rattle.dm_print_ledger.specs.declared.{fault.CreateFault.CreateFault, range.Range.Range}
-use Rattle.dm_print_ledger.specs.declared.fault.CreateFault.TheVariants as create_fault
+use Rattle.dm_print_ledger.specs.Verdicts.{opening, AreLabels, CarriesOut, IsJobOf, IsMade, TakesTicket, giver_of, least, take_verdict, ticket_of, union_with_range}
+use Rattle.dm_print_ledger.specs.declared.range.Range.{Range}
 use Rattle.dm_print_ledger.specs.declared.fault.TakeFault.TheVariants as take_fault
 use Rattle.dm_print_ledger.specs.Ledger.{JobView, LedgerView, PrinterView, TicketView, givers_with, is_range, ledger_bytes, running}
 use Rattle.dm_event_history.specs.Relay.{Running}
@@ -32,7 +30,7 @@ use Rattle.relay_printer_commands.specs.Printers.EndsLedger.{created, refused as
 use Rattle.relay_printer_commands.specs.Printers.EndsTake.{no_ticket, not_opened as take_not_opened, opened as take_opened}
 use Rattle.relay_desk_commands.specs.Desks.{DeskFiles, EndsExport, EndsImport, OnDesk, EndsCopy, EndsAtDesk.no_desk, EndsAtDesk.opened, EndsOnId.no_id, EndsOnId.of_id, EndsImport.not_read, EndsImport.read}
 use Rattle.relay_desk_commands.specs.Desks.EndsCopyOf.{no_side as no_size, of_side as of_size}
-use Rattle.relay_runs.proofs.{Files.opened as open_as, TicketTexts.text_once}
+use Rattle.relay_runs.proofs.{Files.opened as open_as, Ledgers.first_saved, TicketTexts.text_once}
 use Rattle.relay_runs.specs.Runs.{job_ended, ticket_given, ticket_taken, KeepsLedger}
 use Rattle.relay_desk_runs.specs.Answered.{file_exported, files_imported, if_imported, label_copied}
 use Rattle.relay_program_runs.specs.{Law.passed, Passed.Made, Passed.made_where}
@@ -48,13 +46,9 @@ refused_one (inl told) = omega (arith, told.1)
 refused_one (inr failed) = omega (arith, failed.2)
 
 -- what was written to an output that had nothing is all that it has
-all_out : (a b : Option (List ℕ)) (out text : List ℕ) → a ≡ Some [] → b ≡ Some out → Appends a b text → out ≡ text
-all_out None b out text none some appends = cc (none)
-all_out (Some xs) None out text none some appends = cc (some)
-all_out (Some xs) (Some ys) out text none some appends =
-    let empty : xs ≡ [] = cc (none) in
-    let same : ys ≡ out = cc (some) in
-    sym same ∙ appends ∙ ap (λ (l : List ℕ). l ++ text) empty
+all_out : (new : Option (List ℕ)) (out text : List ℕ) → new ≡ Some out → Appends (Some []) new text → out ≡ text
+all_out None out text some appends = cc (some)
+all_out (Some xs) out text some appends = (let same : out ≡ xs = cc (some) in same ∙ appends)
 
 -- ---- `ledger`
 
@@ -70,23 +64,20 @@ made_well : (number : ℕ) (range : Range) (streams : StreamsView) (new : OnLedg
     EndsLedger number range (ledger_at no_files.joint streams) 0 new →
     IsTrue (is_range range) × (new.saved ≡ (fresh number range).joint)
 made_well number range streams new (not_created fault creates told) = absurd (refused_one told.0)
-made_well number range streams new (created printer creates told) = by_range (is_range range) refl creates.saves
-  where
-    by_range : (b : Bool) → is_range range ≡ b →
-        MatchBool b (SavesFirst {X = PrinterView} no_files.joint (opening number range) (Ok printer) new.saved)
-        ((◌≡◌ {A = Result PrinterView CreateFault} (Ok printer) (Err create_fault.Range)) × (new.saved ≡ no_files.joint)) →
-        IsTrue (is_range range) × (new.saved ≡ (fresh number range).joint)
-    by_range true is saves = (
-      is,
-      λ i. record {
-        content = saves.1.done refl refl i;
-        is_honest = saves.1.same_honesty i;
-        may_lack_memory = saves.1.same_memory i;
-        load_plan = saves.1.same_load_plan i;
-        save_plan = saves.1.follows i;
-      },
-    )
-    by_range false is no_range = absurd (let same = no_range.0 in cc (same))
+made_well number range streams new (created printer creates told) =
+    elim (first_saved number range no_files.joint new.saved (Ok printer) creates) [
+      | inl saves ↦ (
+        saves.0,
+        λ i. record {
+          content = saves.1.1.done refl refl i;
+          is_honest = saves.1.1.same_honesty i;
+          may_lack_memory = saves.1.1.same_memory i;
+          load_plan = saves.1.1.same_load_plan i;
+          save_plan = saves.1.1.follows i;
+        },
+      )
+      | inr no_range ↦ absurd (cc (no_range.0))
+    ]
 
 module _ {A : Type 0} {f : Bor (List ℕ)} {number first last : ℕ} {y : DeskFiles} {input o : List ℕ}
     (r : IsDone A (Ledger f number first last) no_files input 0 y o) where
@@ -116,34 +107,21 @@ module _ {A : Type 0} {f : Bor (List ℕ)} {number first last : ℕ} {y : DeskFi
 abbrev pub IsIn : List GridView → GridView → Type 0
 IsIn labels grid = (i : ℕ) × (slice_get labels i ≡ Some grid)
 
-whole_label : (grid : GridView) (size : Size) (words : _) →
-    grid ≡ grid_of_words size words → IsWholeGrid grid
-whole_label grid size words is = subst IsWholeGrid (sym is) (grid_is_whole size _)
-
--- each label of the job is of the size, and one of the list
-labels_12 : (A : Type 0) (every : List GridView) (size : Size) (scheme : Scheme) (id n m : ℕ) (parts : List (List ℕ))
-    (before labels : List GridView) → every ≡ before ++ labels → size ≡ Side12 →
-    AreLabels size scheme id n m parts labels → AllByRecursion (Is12 A (IsIn every)) labels
-labels_12 A every size scheme id n m [] before [] same is are = tt
-labels_12 A every size scheme id n m [] before (grid ∷ labels) same is are = absurd are
-labels_12 A every size scheme id n m (part ∷ parts) before [] same is are = absurd are
-labels_12 A every size scheme id n m (part ∷ parts) before (grid ∷ labels) same is are = (
+-- each label of the job is of the size, and so
+labels_12 : (A : Type 0) (Q : GridView → Type 0) (size : Size) (scheme : Scheme) (id n m : ℕ) (parts : List (List ℕ))
+    (labels : List GridView) → ((grid : GridView) → IsIn labels grid → Q grid) → size ≡ Side12 →
+    AreLabels size scheme id n m parts labels → AllByRecursion (Is12 A Q) labels
+labels_12 A Q size scheme id n m [] [] so is are = tt
+labels_12 A Q size scheme id n m [] (grid ∷ labels) so is are = absurd are
+labels_12 A Q size scheme id n m (part ∷ parts) [] so is are = absurd are
+labels_12 A Q size scheme id n m (part ∷ parts) (grid ∷ labels) so is are = (
   record {
     size = are.0.size_is ∙ is;
-    whole = whole_label grid grid.size are.0.carries.words are.0.carries.drawn;
-    so = (
-      length before,
-      subst (λ (gs : List GridView). slice_get gs (length before) ≡ Some grid) (sym same)
-          (at_end before grid labels),
-    );
+    whole = subst IsWholeGrid (sym are.0.carries.drawn) (grid_is_whole grid.size _);
+    so = so grid (0, refl);
   },
-  labels_12 A every size scheme id n (m + 1) parts (before ++ grid ∷ []) labels
-      (same ∙ sym (append_assoc before (grid ∷ []) labels)) is are.1,
+  labels_12 A Q size scheme id n (m + 1) parts labels (λ other at. so other (suc at.0, at.1)) is are.1,
 )
-  where
-    at_end : (xs : List GridView) (x : GridView) (ys : List GridView) → slice_get (xs ++ x ∷ ys) (length xs) ≡ Some x
-    at_end [] x ys = refl
-    at_end (z ∷ xs) x ys = at_end xs x ys
 
 -- a print that ended well has a job, of the least ID that was free, and its labels are all that was written
 pub record PrintedWell (A : Type 0) (saved : Saved) (job : Option JobView) (out : List ℕ) : Type 0 where
@@ -193,9 +171,9 @@ print_done {A} {number = number} {x} {input = input} {o} r =
           job_is = refl;
           id_is = λ ledger keeps. made.1.id_is
               ∙ ap (λ (v : PrinterView). least v.ledger.free) (open_as x.joint (Running ledger) number before keeps opens).1;
-          written = all_out (Some []) new.streams.output.contents o (images_of job.labels) refl some
+          written = all_out new.streams.output.contents o (images_of job.labels) some
               (images_out job.labels _ (record (streams_of_input input) { input = rest }) new.streams told.0);
-          labels = labels_12 A job.labels size Ascii _ _ 1 made.0 [] job.labels refl
+          labels = labels_12 A (IsIn job.labels) size Ascii _ _ 1 made.0 job.labels (λ grid at. at)
               (same_size size Side12 (is_12 size chosen.suits)) made.1.labels;
         }
 
@@ -279,7 +257,7 @@ export_done {i = i} {x} {input = input} {o} r = by_ends r.after r.output_is r.do
     by_ends new some (of_id id text_is (no_desk name has refuses)) = absurd (refused_one refuses.0)
     by_ends new some (of_id id text_is (opened desk opens (Err name, gives, refuses, same))) = absurd (refused_one refuses.0)
     by_ends new some (of_id id text_is (opened desk opens (Ok bytes, gives, inl told, same))) =
-        ap Some (sym (all_out (Some []) new.streams.output.contents o bytes refl some told.0))
+        ap Some (sym (all_out new.streams.output.contents o bytes some told.0))
     by_ends new some (of_id id text_is (opened desk opens (Ok bytes, gives, inr told, same))) = absurd (refused_one told.3)
 
 -- a copy that ended well wrote the image of its grid
@@ -304,10 +282,10 @@ copy_done {A} {i = i} {page} {x} {input = input} {o} r = by_ends r.after r.outpu
           refl,
           record {
             size = its ∙ same_size size Side12 (is_12 size is);
-            whole = whole_label grid grid.size copies.carries.words copies.carries.drawn;
+            whole = subst IsWholeGrid (sym copies.carries.drawn) (grid_is_whole grid.size _);
             so = refl;
           },
-          all_out (Some []) new.streams.output.contents o bytes refl some told.0 ∙ image ∙ sym (append-nil (p4 grid)),
+          all_out new.streams.output.contents o bytes some told.0 ∙ image ∙ sym (append-nil (p4 grid)),
         )
 
 pub import_of_all : (P : List ℕ → Type 0) (capacity : ℕ) (old : OnDesk) (status : ℕ) (new : OnDesk) (input : List ℕ) →

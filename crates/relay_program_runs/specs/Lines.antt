@@ -1,9 +1,8 @@
 -- The laws of commands, said of the program: of lines that ran one after another over the places of one system.
-use Rattle.std.specs.Prelude.{◌≡◌, ◌≢◌, ◌++◌, ◌∷◌, ℕ, AllPairs, Bool, List, [], None, Option, Some, IfSome, IsTrue}
-use Rattle.std.specs.{List.AllByRecursion, Io.KnownBytes.Keeps}
+use Rattle.std.specs.Prelude.{◌≡◌, ◌≢◌, ◌⊎◌, ◌++◌, ◌∷◌, ℕ, AllPairs, Bool, List, [], None, Option, Some, IsTrue, map}
+use Rattle.std.{specs.List.AllByRecursion, specs.Io.KnownBytes.Keeps, proofs.Common.inl, proofs.Common.inr}
 use Rattle.relay_command.specs.declared.command.Command.{Command}
-use Rattle.relay.specs.Places.{PlacesView}
-use Rattle.relay.specs.Program.{named_path, path_of, DoesAt, SystemView, does, does_and_saves, does_here, streams_over}
+use Rattle.relay.specs.{Places.PlacesView, Program.named_path, Program.path_of, Program.DoesAt, Program.ExportsEach, Program.SystemView, Program.does, Program.does_and_saves, Program.does_here, Program.exports_all, Program.ids_in, Program.next_id, Program.no_id, Program.streams_over}
 use Rattle.relay.specs.Program as program
 use Rattle.relay_program_runs.specs.Law.{AreApart, DeliversPrinted, Each, IsBlank, IsFirstOfItsId, Ran, TakesGiven, TakesPrinted, all_made, exited}
 use Rattle.relay_shared.specs.Command.{FileView}
@@ -38,21 +37,32 @@ module _ {A : Type 0} where
   if_named None ran = []
   if_named (Some path) ran = ran ∷ []
 
+  -- the exports of documents, in turn
+  abbrev pub exports_in : {file folder : List ℕ} {ids : List (List ℕ)} {old new : SystemView} {status : ℕ} →
+      ExportsEach A file folder ids old status new → List (Ran A)
+  exports_in no_id = []
+  exports_in (next_id from id at (inl to) later) = ran_at to.does ∷ exports_in later
+  exports_in (next_id from id at (inr lacks) later) = exports_in later
+
   abbrev pub commands_in : {inputs : List ℕ → FileView} {name : Option (List ℕ)} {old new : SystemView} {status : ℕ} →
       program.Runs A inputs name old status new → List (Ran A)
-  commands_in (does line named met (does_here none at)) = if_named (named_path line.command) (ran_at at)
+  commands_in (does line named met (does_here none one at)) = if_named (named_path line.command) (ran_at at)
   commands_in (does line named met (does_and_saves path is to)) = if_named (named_path line.command) (ran_at to.does)
+  commands_in (does line named met (exports_all file folder ended text seen is out at after)) =
+      if_named (named_path line.command) (ran_at at) ++ elim after [ inl told ↦ [] | inr (zero, each) ↦ exports_in each ]
   commands_in other = []
 
   abbrev pub all_commands : List (LineRan A) → List (Ran A)
   all_commands [] = []
   all_commands (line ∷ later) = commands_in line.runs ++ all_commands later
 
-  -- the path of the file that the output of a line was to be saved as
+  -- the paths of the files that the outputs of a line were to be saved as
   abbrev pub saved_as : {inputs : List ℕ → FileView} {name : Option (List ℕ)} {old new : SystemView} {status : ℕ} →
-      program.Runs A inputs name old status new → Option (List ℕ)
-  saved_as (does line named met (does_and_saves path is to)) = Some path
-  saved_as other = None
+      program.Runs A inputs name old status new → List (List ℕ)
+  saved_as (does line named met (does_and_saves path is to)) = path ∷ []
+  saved_as (does line named met (exports_all file folder ended text seen is out at after)) =
+      map (λ id. folder.now ++ 47 ∷ id) (ids_in text)
+  saved_as other = []
 
   -- ---- premises
 
@@ -67,8 +77,8 @@ module _ {A : Type 0} where
     pub places : PlacesView
     pub is_new : (path : List ℕ) → IsBlank (record { path = path; files = places path })
     pub follow : Follow places lines
-    pub saved_apart : AllByRecursion (λ line. IfSome (saved_as line.runs)
-        (λ path. AllByRecursion (λ ran. path ≢ path_of ran.command) (all_commands lines))) lines
+    pub saved_apart : AllByRecursion (λ line. AllByRecursion (λ path.
+        AllByRecursion (λ ran. path ≢ path_of ran.command) (all_commands lines)) (saved_as line.runs)) lines
     pub apart : AllPairs AreApart (all_made (all_commands lines))
     pub tickets : Each TakesGiven [] (all_commands lines)
 

@@ -1,5 +1,8 @@
-use Rattle.std.proofs.Common.{inr, refl, sym}
+use Rattle.std.proofs.Common.{inl, inr, refl}
 use Rattle.relay.proofs.standard.StandardStreams.noted.Goals as goal
 
-pub returns : goal.returns
-returns g c = rw (sym c.self.view_is) (refl, refl, inr (c.as_str.result.now, c.show-errors.ensures.part))
+pub returns-in-Some : goal.returns-in-Some
+returns-in-Some g c = inr (c.as_bytes.result.now, c.show_on_errors.ensures)
+
+pub returns-in-None : goal.returns-in-None
+returns-in-None g c = inl refl

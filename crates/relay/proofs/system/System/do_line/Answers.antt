@@ -1,4 +1,4 @@
-use Rattle.std.proofs.Common.{ap}
+use Rattle.std.proofs.Common.{ap, ◌∙◌}
 use Rattle.relay.specs.Program.{SystemView, lacks_memory}
 use Rattle.relay.proofs.system.System.do_line.Goals as goal
 
@@ -8,5 +8,5 @@ returns-in-Ok g c = rw c.in-Ok.is at c.do_with-ended.ensures
 pub returns-in-Err : goal.returns-in-Err
 returns-in-Err g c =
     let lacks = rw c.in-Err.is at c.do_with-ended.ensures in
-    lacks_memory lacks.0 (ap (λ (s : SystemView). s.places) lacks.1)
-    (rw (ap (λ (s : SystemView). s.standard) lacks.1) at c.refuse_memory-status.ensures)
+    lacks_memory lacks.0 (c.refuse_memory.ensures.places ∙ ap (λ (s : SystemView). s.places) lacks.1)
+    (rw (ap (λ (s : SystemView). s.standard) lacks.1) at c.refuse_memory.ensures.told)
