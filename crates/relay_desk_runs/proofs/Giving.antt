@@ -72,15 +72,13 @@ module _ (labels : List Label) (printed : ArePrinted labels) (one : AreOfOneDocu
   of_pages : (page : PageView) → IsPageHeld held id m page → (found : Option Pages) → finite.get held id ≡ found →
       IsOfLabel labels page
   of_pages page is None there =
-      let gone = ap (λ (o : Option Pages). held_page
-      (unwrap_or o []) m) there ∙ page_none m in
-      absurd (let bytes = is.bytes_are in cc (gone, bytes))
+      let gone = ap (λ (o : Option Pages). held_page (unwrap_or o []) m) there ∙ page_none m in
+      absurd (cc (gone, is.bytes_are))
   of_pages page is (Some pages) there =
       let h = left.pages id m page.bytes is.bytes_are in
       let c = left.counts id pages there in
       let same : h.label.cut ≡ c.label.cut = one h.number c.number h.label c.label h.there c.there (h.id_is ∙ sym c.id_is) in
-      let count : page.n ≡ length pages =
-      is.n_is ∙ ap (λ (o : Option Pages). length (unwrap_or o [])) there in
+      let count : page.n ≡ length pages = is.n_is ∙ ap (λ (o : Option Pages). length (unwrap_or o [])) there in
       let n : h.label.page.n ≡ page.n = (printed h.number h.label h.there).n_is
       ∙ ap (λ (cut : CutDocument). length cut.parts) same ∙ sym (printed c.number c.label c.there).n_is
       ∙ c.n_is ∙ sym count in
@@ -122,31 +120,24 @@ refused_status : (name : List ℕ) (old new : OutputView) (status : ℕ) → Tel
 refused_status name old new status (inl told) = told.1
 refused_status name old new status (inr failed) = failed.2
 
-one_or_none : (status : ℕ) → status ≡ 1 → status ≡ 0 → ⊥
-one_or_none status one none = omega arith
-
 module _ (labels : List Label) (text : List ℕ) (old : OnDesk) (status : ℕ) (new : OnDesk) where
-  abbrev Gives : Type 0
-  Gives = GivesPrinted labels text old status new
-
-  refused : (name : List ℕ) → RefusesOnErrors name old.streams status new.streams → Gives
+  refused : (name : List ℕ) → RefusesOnErrors name old.streams status new.streams → GivesPrinted labels text old status new
   refused name told = nothing (ap (λ (s : StreamsView). s.output) told.1)
       (refused_status name old.streams.errors new.streams.errors status told.0)
 
   by_bytes : (id : ℕ) (bytes : List ℕ) → IsTextOfId text id → IsTheDocument labels id bytes →
-      TellsBytes bytes old.streams status new.streams → Gives
+      TellsBytes bytes old.streams status new.streams → GivesPrinted labels text old status new
   by_bytes id bytes text_is the (inl told) =
       document id bytes text_is the (part_whole _ _ bytes told.0) (λ none. told.0)
   by_bytes id bytes text_is the (inr told) = document id bytes text_is the told.1
-      (λ none. absurd (one_or_none status (refused_status (write_fault_name Write)
-      old.streams.errors new.streams.errors status told.3) none))
+      (λ none. absurd (omega (arith, refused_status (write_fault_name Write) old.streams.errors new.streams.errors status told.3)))
 
   module _ (printed : ArePrinted labels) (one : AreOfOneDocument labels) (set : SavedSet) (desk : DeskView)
       (o : IsOpened labels set desk) (id : ℕ) (text_is : IsTextOfId text id) where
     by_given : (given : Result (List ℕ) (List ℕ)) →
         ByName ask_fault_name (Asks (λ (bytes : List ℕ). bytes) (finite.get desk.held id)) given →
         MatchResult given (λ bytes. TellsBytes bytes old.streams status new.streams)
-        (λ name. RefusesOnErrors name old.streams status new.streams) → Gives
+        (λ name. RefusesOnErrors name old.streams status new.streams) → GivesPrinted labels text old status new
     by_given (Ok bytes) asks told =
         by_bytes id bytes text_is (asked labels printed MOST_CAPACITY desk.held o.shows.shown one id bytes asks) told
     by_given (Err name) asks told = refused name told

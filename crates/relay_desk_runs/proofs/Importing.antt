@@ -1,6 +1,6 @@
 -- An import keeps a desk so, and so does a forget.
 use Rattle.std.proofs.Common.{◌≡◌, ℕ, List, Result, Ok, Err, sym, subst}
-use Rattle.std.specs.{List.AllByRecursion, Prelude.Option}
+use Rattle.std.specs.List.{AllByRecursion}
 use Rattle.dm_assembly_desk.specs.Desk.{Imports, ImportsBytes, IsFileReadAs, import_of}
 use Rattle.dm_assembly_desk.specs.Documents.{DeskView, Pages, SpellsFile}
 use Rattle.dm_assembly_desk.specs.declared.{adding.AddFault.AddFault, fault.ImportFault.ImportFault}
@@ -10,14 +10,11 @@ use Rattle.dm_assembly_desk.proofs.AnyFile.{one_spelled}
 use Rattle.dm_event_history.specs.{Relay.Label, Headline.ArePrinted, Headline.IsCleanExport}
 use Rattle.relay_desk_commands.specs.Desks.{EndsImport, EndsAtDesk.no_desk, EndsAtDesk.opened, ImportsFile, EndsImport.not_read, EndsImport.read, EndsImport.read_files, ImportsFile.file_not_read, ImportsFile.file_read}
 use Rattle.relay_streams.specs.Streams.{OutputView}
-use Rattle.relay_desk_runs.specs.Answered.{bytes_of_file, files_imported, if_imported, EachForgetKeeps, EachImportKeeps, HasNoDocuments, HoldsPrinted, HasPrinted, IsPrintedFile}
+use Rattle.relay_desk_runs.specs.Answered.{bytes_of_file, files_imported, if_imported, EachForgetKeeps, EachImportKeeps, HoldsPrinted, HasPrinted, IsPrintedFile}
 use Rattle.relay_desk_runs.proofs.Saving.{MayBeAdded, ShowsPrinted, adding, forgetting}
 use Rattle.relay_desk_runs.proofs.Scanning.{each_file_keeps}
-use Rattle.relay_desk_runs.proofs.Opened.{as_they_were, at_desk_keeps, is_opened, on_id_keeps, still_clean, unopened}
+use Rattle.relay_desk_runs.proofs.Opened.{as_they_were, at_desk_keeps, on_id_keeps, opened_keeps, still_clean, unopened_keeps}
 use Rattle.relay_shared.specs.Command.{FileView}
-
-pub same_pair : {E : Type 0} (a b : ℕ × Pages) → ◌≡◌ {A = Result (ℕ × Pages) E} (Ok a) (Ok b) → a ≡ b
-same_pair a b is = cc
 
 module _ (labels : List Label) (printed : ArePrinted labels) (bytes : List ℕ) (old new : DeskView)
     (answer : Result Imported ImportFault) (clean : ShowsPrinted labels old)
@@ -31,8 +28,8 @@ module _ (labels : List Label) (printed : ArePrinted labels) (bytes : List ℕ) 
   sent : (id : ℕ) (pages : Pages) → SpellsFile id bytes pages → IsPrintedFile labels bytes →
       IsCleanExport labels (record { id = id; pages = pages })
   sent id pages spells f =
-      let same = same_pair (f.id, f.pages) (id, pages) (one_spelled bytes f.id f.pages id pages
-      (record { sound = f.sound; spelled = f.is_file }) spells) in
+      let read = one_spelled bytes f.id f.pages id pages (record { sound = f.sound; spelled = f.is_file }) spells in
+      let same : ◌≡◌ {A = ℕ × Pages} (f.id, f.pages) (id, pages) = cc (read) in
       subst (λ (e : ℕ × Pages). IsCleanExport labels (record { id = e.0; pages = e.1 })) same f.clean
 
   imports : (id : ℕ) (pages : Pages) → SpellsFile id bytes pages → Imports id pages old answer new →
@@ -62,23 +59,15 @@ each_import_keeps labels capacity images old status new printed clean how near =
     by_input (not_read fault has same told leaves) near =
         still_clean labels old new clean (as_they_were old.files new.files same)
     by_input (read bytes reads (no_desk name has refuses) leaves) near =
-        still_clean labels old new clean (unopened old.files new.files capacity name clean.joint has)
+        unopened_keeps labels capacity old new clean name has
     by_input (read bytes reads (opened desk opens rest) leaves) near =
-        let o = is_opened labels old.files capacity new.files.joint desk clean.set clean.joint opens in
-        record {
-          set = subst (HoldsPrinted labels) (sym rest.3)
-              (imported labels printed bytes desk rest.0 rest.1 o.0.shows near rest.2).set;
-          joint = subst HasNoDocuments (sym o.1) clean.joint;
-        }
-    by_input (read_files (no_desk name has refuses)) near =
-        still_clean labels old new clean (unopened old.files new.files capacity name clean.joint has)
+        opened_keeps labels capacity old new clean desk opens (λ o. subst (HoldsPrinted labels) (sym rest.3)
+        (imported labels printed bytes desk rest.0 rest.1 o.shows near rest.2).set)
+    by_input (read_files (no_desk name has refuses)) near = unopened_keeps labels capacity old new clean name has
     by_input (read_files (opened desk opens rest)) near =
-        let o = is_opened labels old.files capacity new.files.joint desk clean.set clean.joint opens in
-        record {
-          set = subst (HoldsPrinted labels) (sym rest.5) (each_file_keeps bytes_of_file
-              (λ (at : DeskView × OutputView). ShowsPrinted labels at.0) (IsPrintedFile labels) one rest.1 o.0.shows near).set;
-          joint = subst HasNoDocuments (sym o.1) clean.joint;
-        }
+        opened_keeps labels capacity old new clean desk opens (λ o. subst (HoldsPrinted labels) (sym rest.5)
+        (each_file_keeps bytes_of_file (λ (at : DeskView × OutputView). ShowsPrinted labels at.0) (IsPrintedFile labels) one
+        rest.1 o.shows near).set)
 
 pub each_forget_keeps : EachForgetKeeps
 each_forget_keeps labels text old status new printed clean how = on_id_keeps labels text old status new clean

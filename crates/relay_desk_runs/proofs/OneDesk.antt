@@ -8,8 +8,8 @@ use Rattle.dm_assembly_desk.specs.declared.fault.ForgetFault.{ForgetFault}
 use Rattle.dm_event_history.specs.declared.event.Event.TheVariants as events
 use Rattle.dm_event_history.specs.declared.reply.Reply.{Reply, TheVariants.Document}
 use Rattle.dm_event_history.specs.declared.stop.Stop.TheVariants as stops
-use Rattle.dm_event_history.specs.Relay.{Desk, Export, Label, Relay, Running, no_goods, with_desk}
-use Rattle.dm_event_history.specs.Steps.{Saves, ending, forget_reply, pages_reply, verdict_course, Step}
+use Rattle.dm_event_history.specs.Relay.{Actor, Desk, Export, Label, Relay, Running, no_goods, with_desk}
+use Rattle.dm_event_history.specs.Steps.{DeskGoes, Ending, Saves, ending, forget_reply, pages_reply, verdict_course, Step}
 use Rattle.dm_event_history.specs.Headline.{AreOfOneDocument, ArePrinted, HaveLeft, IsClean, IsCleanActor, IsCleanExport, IsTheDocument}
 use Rattle.dm_event_history.proofs.{Gives.each_clean_desk_gives, Stays.each_step_keeps_clean}
 
@@ -38,6 +38,19 @@ module _ (labels : List Label) (printed : ArePrinted labels) (room : ℕ) (held 
   holds_next exports next c =
       subst (λ (ls : List Label). HaveLeft ls next) (append-nil labels) (c (desk_of next) refl)
 
+  -- the desk goes on with this
+  goes : (exports : List Export) (Acts : ℕ → Actor Documents → Ending ℕ Documents → Type 0) (reply : Reply ℕ)
+      (next : Documents) → Acts room (Running held) (ending reply (Running next) no_goods) →
+      DeskGoes (relay exports) 0 Acts reply (with_desk (relay exports) 0 (desk_of next) no_goods)
+  goes exports Acts reply next acts = record {
+    desk = desk_of held;
+    was = refl;
+    end = ending reply (Running next) no_goods;
+    acts = acts;
+    reply_is = refl;
+    new_is = refl;
+  }
+
   pub added : (export : Export) → IsCleanExport labels export → (next : Documents) (answer : Result Imported AddFault) →
       add_verdict room held export.id export.pages ≡ Becomes next answer → HaveLeft labels next
   added export sent next answer is =
@@ -48,14 +61,8 @@ module _ (labels : List Label) (printed : ArePrinted labels) (room : ℕ) (held 
         (
           export,
           refl,
-          record {
-            desk = desk_of held;
-            was = refl;
-            end = ending reply (Running next) no_goods;
-            acts = (Saves next no_goods reply, inl (sym (ap (verdict_course pages_reply) is)), refl);
-            reply_is = refl;
-            new_is = refl;
-          },
+          goes (export ∷ []) _ reply next
+              (Saves next no_goods reply, inl (sym (ap (verdict_course pages_reply) is)), refl),
         ),
       ) in
       holds_next (export ∷ []) next (each_step_keeps_clean ℕ (relay (export ∷ []))
@@ -69,14 +76,7 @@ module _ (labels : List Label) (printed : ArePrinted labels) (room : ℕ) (held 
       let step : Step {A = ℕ} (relay []) (events.Forget 0 id stops.None) reply
       (with_desk (relay []) 0 (desk_of next) no_goods) = inl (
         omega arith,
-        record {
-          desk = desk_of held;
-          was = refl;
-          end = ending reply (Running next) no_goods;
-          acts = (Saves next no_goods reply, inl (sym (ap (verdict_course forget_reply) is)), refl);
-          reply_is = refl;
-          new_is = refl;
-        },
+        goes [] _ reply next (Saves next no_goods reply, inl (sym (ap (verdict_course forget_reply) is)), refl),
       ) in
       holds_next [] next (each_step_keeps_clean ℕ (relay []) (with_desk (relay []) 0 (desk_of next) no_goods)
       (events.Forget 0 id stops.None) reply 0 printed (is_clean []) tt step)
@@ -87,14 +87,4 @@ module _ (labels : List Label) (printed : ArePrinted labels) (room : ℕ) (held 
   asked one id bytes asks =
       each_clean_desk_gives ℕ (relay []) (with_desk (relay []) 0 (desk_of held) no_goods) 0 id bytes printed
       one (is_clean [])
-      (inl (
-        omega arith,
-        record {
-          desk = desk_of held;
-          was = refl;
-          end = ending (Document bytes) (Running held) no_goods;
-          acts = ((Ok bytes, asks, refl, refl), refl);
-          reply_is = refl;
-          new_is = refl;
-        },
-      ))
+      (inl (omega arith, goes [] _ (Document bytes) held ((Ok bytes, asks, refl, refl), refl)))

@@ -38,12 +38,12 @@ unopened old new capacity name none (not_moved fault moves is) =
 unopened old new capacity name none (not_opened fault moves has is) =
     let same = unmoved _ _ _ _ _ none moves.1 in record { joint = same.0; set = same.1 }
 
-module _ (labels : List Label) (old new : OnDesk) where
-  pub still_clean : HasPrinted labels old → AreSame old.files new.files → HasPrinted labels new
-  still_clean clean same = record {
-    set = subst (HoldsPrinted labels) (sym same.set) clean.set;
-    joint = subst HasNoDocuments (sym same.joint) clean.joint;
-  }
+pub still_clean : (labels : List Label) (old new : OnDesk) → HasPrinted labels old → AreSame old.files new.files →
+    HasPrinted labels new
+still_clean labels old new clean same = record {
+  set = subst (HoldsPrinted labels) (sym same.set) clean.set;
+  joint = subst HasNoDocuments (sym same.joint) clean.joint;
+}
 
 -- the desk that is opened runs, and shows what the set holds
 pub record IsOpened (labels : List Label) (set : SavedSet) (desk : DeskView) : Type 0 where
@@ -71,16 +71,26 @@ is_opened labels files capacity joint desk printed none o =
 
 -- ---- commands
 
-module _ {Refuses : List ℕ → StreamsView → ℕ → StreamsView → Type 0} {Rest : DeskView → StreamsView → ℕ → OnDesk → Type 0}
-    (labels : List Label) (capacity : ℕ) (old : OnDesk) (status : ℕ) (new : OnDesk) (clean : HasPrinted labels old)
-    (rest_keeps : (desk : DeskView) → IsOpened labels old.files.set desk → Rest desk old.streams status new →
-    HoldsPrinted labels new.files.set) where
-  pub at_desk_keeps : EndsAtDesk Refuses capacity Rest old status new → HasPrinted labels new
-  at_desk_keeps (no_desk name has refuses) =
+module _ (labels : List Label) (capacity : ℕ) (old new : OnDesk) (clean : HasPrinted labels old) where
+  pub unopened_keeps : (name : List ℕ) → HasNoDesk old.files capacity name new.files → HasPrinted labels new
+  unopened_keeps name has =
       still_clean labels old new clean (unopened old.files new.files capacity name clean.joint has)
-  at_desk_keeps (opened desk opens rest) =
+
+  pub opened_keeps : (desk : DeskView) → OpensDesk old.files capacity new.files.joint desk →
+      (IsOpened labels old.files.set desk → HoldsPrinted labels new.files.set) → HasPrinted labels new
+  opened_keeps desk opens keeps =
       let o = is_opened labels old.files capacity new.files.joint desk clean.set clean.joint opens in
-      record { set = rest_keeps desk o.0 rest; joint = subst HasNoDocuments (sym o.1) clean.joint }
+      record { set = keeps o.0; joint = subst HasNoDocuments (sym o.1) clean.joint }
+
+pub at_desk_keeps : {Refuses : List ℕ → StreamsView → ℕ → StreamsView → Type 0}
+    {Rest : DeskView → StreamsView → ℕ → OnDesk → Type 0} (labels : List Label) (capacity : ℕ) (old : OnDesk) (status : ℕ)
+    (new : OnDesk) → HasPrinted labels old → ((desk : DeskView) → IsOpened labels old.files.set desk →
+    Rest desk old.streams status new → HoldsPrinted labels new.files.set) →
+    EndsAtDesk Refuses capacity Rest old status new → HasPrinted labels new
+at_desk_keeps labels capacity old status new clean keeps (no_desk name has refuses) =
+    unopened_keeps labels capacity old new clean name has
+at_desk_keeps labels capacity old status new clean keeps (opened desk opens rest) =
+    opened_keeps labels capacity old new clean desk opens (λ o. keeps desk o rest)
 
 pub on_id_keeps : {Refuses : List ℕ → StreamsView → ℕ → StreamsView → Type 0} {Ends : ℕ → OnDesk → ℕ → OnDesk → Type 0}
     (labels : List Label) (text : List ℕ) (old : OnDesk) (status : ℕ) (new : OnDesk) → HasPrinted labels old →

@@ -2,7 +2,7 @@
 use Rattle.std.proofs.Common.{◌≡◌, ◌⊎◌, inl, inr, ℕ, List, IsSome, Option, None, Some, Result, Ok, Err, refl, sym, ap, subst, ◌∙◌, arith}
 use Rattle.std.specs.FinMap as finite
 use Rattle.dm_store.specs.Saved.{Done, Faulted, HeldAfterFault, Outcome, Refused, SavePlan, SavedSet}
-use Rattle.dm_assembly_desk.specs.Desk.{Becomes, DeskCarriesOut, SaveEnds, SavesDocument, Stays, Verdict, add_kind, add_verdict, answer_by, forget_verdict, verdict_by}
+use Rattle.dm_assembly_desk.specs.Desk.{Becomes, DeskCarriesOut, SaveEnds, SavesDocument, Stays, Verdict, add_kind, add_verdict, answer_by, forget_verdict, shown as shown_then, verdict_by}
 use Rattle.dm_assembly_desk.specs.{Documents.DeskView, Documents.Documents, Documents.Pages, declared.reply.Kind.Kind}
 use Rattle.dm_assembly_desk.specs.declared.{adding.AddFault.AddFault, fault.ForgetFault.ForgetFault}
 use Rattle.dm_assembly_desk.specs.declared.adding.AddFault.TheVariants as adds
@@ -44,35 +44,34 @@ module _ (labels : List Label) (old new : DeskView) (clean : ShowsPrinted labels
   unchanged : new ≡ old → ShowsPrinted labels new
   unchanged same = subst (ShowsPrinted labels) (sym same) clean
 
+  -- what is kept then, and what is shown
+  saved_so : (id : ℕ) (held : Documents) (outcome : Outcome) (ends : SaveEnds id held outcome old new) →
+      HaveLeft labels (ends.keeps clean.set.honest).0 → HaveLeft labels (shown_then held outcome old new.saved).held →
+      ShowsPrinted labels new
+  saved_so id held outcome ends printed shown =
+      let kept = ends.keeps clean.set.honest in
+      record {
+        set = record {
+          honest = still_honest old.saved new.saved id (finite.get held id) outcome ends.saved ∙ clean.set.honest;
+          held = kept.0;
+          files = kept.2;
+          printed = printed;
+        };
+        shown = subst (HaveLeft labels) (sym (ap (λ (v : DeskView). v.held) ends.shows)) shown;
+      }
+
   -- a save ended; if anything may have been saved, it was so
   ended : (id : ℕ) (held : Documents) (outcome : Outcome) → ((outcome ≡ Refused → ⊥) → HaveLeft labels held) →
       SaveEnds id held outcome old new → ShowsPrinted labels new
   ended id held Done next ends =
-      let kept = ends.keeps clean.set.honest in
       let to_be = next (λ e. cc (e)) in
-      record {
-        set = record {
-          honest = still_honest old.saved new.saved id (finite.get held id) Done ends.saved ∙ clean.set.honest;
-          held = kept.0;
-          files = kept.2;
-          printed = subst (HaveLeft labels) (sym kept.1) to_be;
-        };
-        shown = subst (HaveLeft labels) (sym (ap (λ (v : DeskView). v.held) ends.shows)) to_be;
-      }
+      saved_so id held Done ends (subst (HaveLeft labels) (sym (ends.keeps clean.set.honest).1) to_be) to_be
   ended id held Faulted next ends =
       let kept = ends.keeps clean.set.honest in
-      record {
-        set = record {
-          honest = still_honest old.saved new.saved id (finite.get held id) Faulted ends.saved ∙ clean.set.honest;
-          held = kept.0;
-          files = kept.2;
-          printed = elim (old_or_new old.saved.save_plan old.held held kept.0 kept.1) [
-            | inl is_old ↦ subst (HaveLeft labels) (sym is_old) clean.shown
-            | inr is_new ↦ subst (HaveLeft labels) (sym is_new) (next (λ e. cc (e)))
-          ];
-        };
-        shown = subst (HaveLeft labels) (sym (ap (λ (v : DeskView). v.held) ends.shows)) clean.shown;
-      }
+      saved_so id held Faulted ends (elim (old_or_new old.saved.save_plan old.held held kept.0 kept.1) [
+        | inl is_old ↦ subst (HaveLeft labels) (sym is_old) clean.shown
+        | inr is_new ↦ subst (HaveLeft labels) (sym is_new) (next (λ e. cc (e)))
+      ]) clean.shown
   ended id held Refused next ends = unchanged ends.shows
 
   module _ (printed : ArePrinted labels) where

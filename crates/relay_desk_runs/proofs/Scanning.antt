@@ -1,11 +1,11 @@
 -- A scan keeps a desk so.
-use Rattle.std.proofs.Common.{◌++◌, ℕ, Bool, List, [], ◌∷◌, Option, Result, Ok, Err, sym, subst, ◌∙◌}
+use Rattle.std.proofs.Common.{◌++◌, ℕ, Bool, List, [], ◌∷◌, Result, Ok, Err, sym, subst, ◌∙◌}
 use Rattle.std.specs.List.{AllByRecursion}
 use Rattle.dm_finder_frame.specs.Frame.{GridView}
 use Rattle.dm_append_label.specs.{Labels.PageView, Opening.LabelOpens, declared.fault.LabelFault.LabelFault}
 use Rattle.dm_append_label.specs.declared.opening.Opened.{Opened}
 use Rattle.dm_pbm_io.specs.Image.{Picture}
-use Rattle.dm_assembly_desk.specs.{Desk.AcceptsGrid, Desk.Scans, Desk.lone, Desk.scan_of, Documents.DeskView}
+use Rattle.dm_assembly_desk.specs.{Desk.Scans, Desk.lone, Desk.scan_of, Documents.DeskView}
 use Rattle.dm_assembly_desk.specs.declared.{adding.AddFault.AddFault, reply.Accepted.Accepted, reply.Imported.Imported}
 use Rattle.dm_assembly_desk.specs.declared.adding.AddFault.TheVariants as adds
 use Rattle.dm_assembly_desk.specs.declared.fault.ScanFault.{ScanFault}
@@ -16,18 +16,15 @@ use Rattle.relay_streams.specs.Streams.{InputView}
 use Rattle.relay_shared.specs.Command.{AnswersImages, AtImage, FileView, ImageComes, EndsImages, Progress, Said, TellsFile, TellsFiles, TellsImages, TellsInputs, ImageComes.image, ImageComes.unread, ImageComes.too_many, AnswersImages.none, AnswersImages.another, EndsImages.no_image, EndsImages.last_line, TellsImages.ended, TellsImages.stopped, TellsFiles.last_file, TellsFiles.next_file, TellsFiles.no_file, TellsInputs.of_files, TellsInputs.of_input}
 use Rattle.relay_shared.specs.Command.TellsFile.{not_opened, opened as was_opened}
 use Rattle.relay_desk_commands.specs.Desks.{AtDesk, EndsScan, ScansPicture, scan_images, ScansPicture.accepted, ScansPicture.refused, ScansPicture.unsettled, ScansPicture.no_grid, EndsAtDesk.no_desk, EndsAtDesk.opened}
-use Rattle.relay_desk_runs.specs.Answered.{grids_at_end, grids_before, grids_of_bytes, grids_of_file, grids_of_images, grids_of_inputs, grids_of_picture, grids_scanned, if_saved, of_each_file, EachScanKeeps, HasNoDocuments, HoldsPrinted, HasPrinted, IsNearPrinted, IsOfLabel}
+use Rattle.relay_desk_runs.specs.Answered.{grids_at_end, grids_before, grids_of_bytes, grids_of_file, grids_of_images, grids_of_inputs, grids_of_picture, grids_scanned, if_saved, of_each_file, EachScanKeeps, HoldsPrinted, HasPrinted, IsNearPrinted, IsOfLabel}
 use Rattle.relay_desk_runs.proofs.Saving.{MayBeAdded, ShowsPrinted, adding}
-use Rattle.relay_desk_runs.proofs.Opened.{is_opened, still_clean, unopened}
+use Rattle.relay_desk_runs.proofs.Opened.{opened_keeps, unopened_keeps}
 
--- what is so of both lists
-first_part : {X : Type 0} (P : X → Type 0) (xs ys : List X) → AllByRecursion P (xs ++ ys) → AllByRecursion P xs
-first_part P [] ys all = tt
-first_part P (x ∷ xs) ys all = (all.0, first_part P xs ys all.1)
-
-last_part : {X : Type 0} (P : X → Type 0) (xs ys : List X) → AllByRecursion P (xs ++ ys) → AllByRecursion P ys
-last_part P [] ys all = all
-last_part P (x ∷ xs) ys all = last_part P xs ys all.1
+-- what is so of two lists joined is so of each
+parts_so : {X : Type 0} (P : X → Type 0) (xs ys : List X) → AllByRecursion P (xs ++ ys) →
+    AllByRecursion P xs × AllByRecursion P ys
+parts_so P [] ys all = (tt, all)
+parts_so P (x ∷ xs) ys all = let rest = parts_so P xs ys all.1 in ((all.0, rest.0), rest.1)
 
 -- what one file keeps, so do all
 pub each_file_keeps : {S X : Type 0} {Tells : FileView → S → ℕ → S → Type 0} {has_stopped : S → Bool}
@@ -38,9 +35,9 @@ pub each_file_keeps : {S X : Type 0} {Tells : FileView → S → ℕ → S → T
     P old → AllByRecursion Q (of_each_file of_one tells) → P new
 each_file_keeps of_one P Q keeps no_file so all = so
 each_file_keeps of_one P Q keeps (last_file tells is_last) so all = keeps _ _ _ _ tells so all
-each_file_keeps of_one P Q keeps (next_file tells goes_on others) so all = each_file_keeps of_one P Q keeps others
-    (keeps _ _ _ _ tells so (first_part Q (of_one _ _ _ _ tells) (of_each_file of_one others) all))
-    (last_part Q (of_one _ _ _ _ tells) (of_each_file of_one others) all)
+each_file_keeps of_one P Q keeps (next_file tells goes_on others) so all =
+    let parts = parts_so Q (of_one _ _ _ _ tells) (of_each_file of_one others) all in
+    each_file_keeps of_one P Q keeps others (keeps _ _ _ _ tells so parts.0) parts.1
 
 -- the page of a label that left, alone
 page_clean : (labels : List Label) (page : PageView) → ArePrinted labels → IsOfLabel labels page →
@@ -80,10 +77,6 @@ module _ (A : Type 0) (labels : List Label) (printed : ArePrinted labels) where
       (near (subst MayBeIn (sym is) (may_be_in read.page added may))))) does
   by_read grid old new answer (Err fault) label clean near (is, same) = subst (ShowsPrinted labels) (sym same) clean
 
-  accepts : (grid : GridView) (old new : DeskView) (answer : Result Accepted ScanFault) → ShowsPrinted labels old →
-      (MayBeIn answer → IsNearPrinted labels grid) → AcceptsGrid A grid old answer new → ShowsPrinted labels new
-  accepts grid old new answer clean near does = by_read grid old new answer does.opened does.label clean near does.scans
-
   if_in : (grid : GridView) (fault : ScanFault) → AllByRecursion (IsNearPrinted labels) (if_saved fault grid) →
       MayBeIn (Err fault) → IsNearPrinted labels grid
   if_in grid scan_fault.Save all may = all.0
@@ -97,9 +90,9 @@ module _ (A : Type 0) (labels : List Label) (printed : ArePrinted labels) where
   picture : {number : ℕ} {p : Picture} {before after : AtDesk} {said : Said} (scans : ScansPicture A number p before said after) →
       ShowsPrinted labels before.desk → Near (grids_of_picture scans) → ShowsPrinted labels after.desk
   picture {before = before} (accepted {desk} grid reply shape inside does) clean near =
-      accepts grid before.desk desk (Ok reply) clean (λ may. near.0) does
+      by_read grid before.desk desk (Ok reply) does.opened does.label clean (λ may. near.0) does.scans
   picture {before = before} {after = after} (refused grid fault id shape inside does is notes) clean near =
-      accepts grid before.desk after.desk (Err fault) clean (if_in grid fault near) does
+      by_read grid before.desk after.desk (Err fault) does.opened does.label clean (if_in grid fault near) does.scans
   picture (unsettled grid why shape inside is notes) clean near = clean
   picture (no_grid fault has notes) clean near = clean
 
@@ -115,8 +108,8 @@ module _ (A : Type 0) (labels : List Label) (printed : ArePrinted labels) where
       Near (grids_before all) → ShowsPrinted labels now.state.desk
   before none clean near = clean
   before (another one answers takes whole appends) clean near =
-      come takes.comes (before answers clean (first_part _ (grids_before answers) (grids_of_bytes takes.comes) near))
-      (last_part _ (grids_before answers) (grids_of_bytes takes.comes) near)
+      let near = parts_so _ (grids_before answers) (grids_of_bytes takes.comes) near in
+      come takes.comes (before answers clean near.0) near.1
 
   at_end : {count : ℕ} {old new : Progress (scan_images A)} {said : Said}
       (last : EndsImages (scan_images A) count old said new) → ShowsPrinted labels old.state.desk →
@@ -127,11 +120,11 @@ module _ (A : Type 0) (labels : List Label) (printed : ArePrinted labels) where
   images : {start new : Progress (scan_images A)} {status : ℕ} (tells : TellsImages (scan_images A) start status new) →
       ShowsPrinted labels start.state.desk → Near (grids_of_images tells) → ShowsPrinted labels new.state.desk
   images (ended said answers last reads appends is) clean near =
-      at_end last (before answers clean (first_part _ (grids_before answers) (grids_at_end last) near))
-      (last_part _ (grids_before answers) (grids_at_end last) near)
+      let near = parts_so _ (grids_before answers) (grids_at_end last) near in
+      at_end last (before answers clean near.0) near.1
   images (stopped said answers takes failed part is) clean near =
-      come takes.comes (before answers clean (first_part _ (grids_before answers) (grids_of_bytes takes.comes) near))
-      (last_part _ (grids_before answers) (grids_of_bytes takes.comes) near)
+      let near = parts_so _ (grids_before answers) (grids_of_bytes takes.comes) near in
+      come takes.comes (before answers clean near.0) near.1
 
   file : (file : FileView) (old : AtImage (scan_images A)) (status : ℕ) (new : AtImage (scan_images A))
       (tells : TellsFile (scan_images A) file old status new) → ShowsPrinted labels old.state.desk →
@@ -154,11 +147,6 @@ each_scan_keeps A labels capacity images old status new printed clean how near =
   where
     by_desk : (ends : EndsScan A capacity images old status new) →
         AllByRecursion (IsNearPrinted labels) (grids_scanned ends) → HasPrinted labels new
-    by_desk (no_desk name has refuses) near =
-        still_clean labels old new clean (unopened old.files new.files capacity name clean.joint has)
-    by_desk (opened desk opens rest) near =
-        let o = is_opened labels old.files capacity new.files.joint desk clean.set clean.joint opens in
-        record {
-          set = subst (HoldsPrinted labels) (sym rest.4) (inputs A labels printed rest.1 o.0.shows near).set;
-          joint = subst HasNoDocuments (sym o.1) clean.joint;
-        }
+    by_desk (no_desk name has refuses) near = unopened_keeps labels capacity old new clean name has
+    by_desk (opened desk opens rest) near = opened_keeps labels capacity old new clean desk opens
+        (λ o. subst (HoldsPrinted labels) (sym rest.4) (inputs A labels printed rest.1 o.shows near).set)
