@@ -62,10 +62,10 @@ fn locks_files(access: Access, found: Found) -> bool
     }
 }
 
-/// Whether the path of a file ends as that of one that is made beside a ledger or a desk.
+/// Whether a path is that of a file that is made beside a ledger or a desk, or lies in a desk's folder.
 pub(crate) fn has_own_ending(place: &Place) -> bool {
     let path = place.file.as_str();
-    OWN_ENDINGS.iter().any(|ending| path.ends_with(*ending))
+    path.contains(".pages/") || OWN_ENDINGS.iter().any(|ending| path.ends_with(*ending))
 }
 
 // Whether a file has a name beside its own, and beside that of its draft, which a stop may have left it.
