@@ -1,6 +1,6 @@
 //! A command between the standard streams: what it writes goes out through buffers.
 
-ghost use Rattle.std.specs.Prelude.{◌≡◌, map, true, false};
+ghost use Rattle.std.specs.Prelude.{◌≡◌, map, true};
 ghost use Rattle.relay.specs.Buffers.{promised};
 ghost use Rattle.relay.specs.Program.{DoesBetween, PutsOut, ShowsPart, TellsOut, StandardView};
 ghost use Rattle.relay_places.specs.Places.{files_of};

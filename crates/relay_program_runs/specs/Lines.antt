@@ -1,5 +1,5 @@
 -- The laws of commands, said of the program: of lines that ran one after another over the places of one system.
-use Rattle.std.specs.Prelude.{◌≡◌, ◌≢◌, ◌⊎◌, ◌++◌, ◌∷◌, ℕ, AllPairs, Bool, List, [], None, Option, Some, IsTrue, map}
+use Rattle.std.specs.Prelude.{◌≡◌, ◌≢◌, ◌++◌, ◌∷◌, ℕ, AllPairs, Bool, List, [], None, Option, Some, IsTrue, map}
 use Rattle.std.{specs.List.AllByRecursion, specs.Io.KnownBytes.Keeps, proofs.Common.inl, proofs.Common.inr}
 use Rattle.relay_command.specs.declared.command.Command.{Command}
 use Rattle.relay.specs.{Places.PlacesView, Program.named_path, Program.path_of, Program.DoesAt, Program.ExportsEach, Program.SystemView, Program.does, Program.does_and_saves, Program.does_here, Program.exports_all, Program.ids_in, Program.next_id, Program.no_id, Program.streams_over}

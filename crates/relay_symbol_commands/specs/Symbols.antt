@@ -1,5 +1,5 @@
 -- The names of refusals: each is that of its innermost fault.
-use Rattle.std.specs.Prelude.{ℕ, ◌⊎◌, List, ◌≡◌, ◌<◌, ◌≤◌, true, [], ◌∷◌, ◌++◌, Bool, Option, codes, ◌≢◌, false, Err}
+use Rattle.std.specs.Prelude.{ℕ, ◌⊎◌, List, ◌≡◌, ◌<◌, ◌≤◌, true, [], ◌∷◌, ◌++◌, Bool, codes, ◌≢◌, false, Err}
 use Rattle.dm_append_label.specs.Labels.{PageView, id_words, head_at}
 use Rattle.dm_append_label.specs.Opening.{label_fault_name, symbol_fault, OpensAs, ReadsPage}
 use Rattle.dm_encodation.specs.{Faults.decode_fault_name, Faults.encode_fault_name, Written.filled, Written.need_of}
