@@ -231,7 +231,7 @@ abbrev pub NamesFiles : CommandLine → Type 0
 NamesFiles line = IsSome (named_path line.command) ⊎ (named_images line ≢ [])
 
 -- What a line does: its command, with the files to be read that it names, whose output is saved if it names a file for it;
--- or it exports all documents of which `held` tells, if that ends with 0; or nothing, since memory is refused, which is told.
+-- or it exports all documents that `held` lists, if that ends with 0; or nothing, since memory is refused, which it says.
 pub data DoesFor (A : Type 0) (inputs : List ℕ → FileView) (line : CommandLine) (old : SystemView) (status : ℕ)
     (new : SystemView) : Type 0 where
   does_here : saved_path line ≡ None → ((file folder : Bor (List ℕ)) → line.command ≢ ExportAll file folder) →

@@ -112,8 +112,8 @@ pub(crate) struct Done<S: Store, T: StoreSet, I: Read, O: Write, E: Write> {
     pub(crate) has_no_image: bool,
 }
 
-/// Does a command over a store, a set and files to be read, and lets out what it has written. It stays a function of its
-/// own, so that the frames of its instances don't add up on the stack.
+/// Does a command over a store, a set and files to be read, and lets out what it has written. It stays a function of
+/// its own, so that the frames of its instances don't add up on the stack.
 #[inline(never)]
 #[rattlefmt::skip] // a pattern a line
 pub(crate) fn do_between<

@@ -7,8 +7,8 @@ use clap::{Arg, ArgAction, ArgGroup, Command};
 use relay_command::SCHEMES;
 use std::alloc::{AllocError, Global};
 
-// How an argument stands on a line: `--NAME VALUE`, where nothing says more; `With` this other argument alone; `Not` with
-// it; with this `Default` where it is left out; as a `Flag`, `--NAME`; as at most one `Word`, or any number of `Words`.
+// How an argument stands on a line: `--NAME VALUE`, where nothing says more; `With` this other one alone; `Not` with it;
+// with this `Default` where it is left out; as a `Flag`, `--NAME`; as at most one `Word`, or any number of `Words`.
 #[derive(Clone, Copy)]
 #[rattlefmt::skip]
 pub enum Kind { Optional, With(&'static str), Not(&'static str), Required, Default(&'static str), Flag, Word, Words }
@@ -67,7 +67,7 @@ pub mod rows {
     pub const ANY_ID: Row = Row("id", "IIII", Optional, Text, ID_HELP);
     pub const PAGE: Row = Row("page", "M", Required, Number(1, 16), "the page, from 1 to 16");
     pub const SAVED: Row = Row("to", "FILE", Optional, NotEmpty, SAVED_HELP);
-    pub const ALL: Row = Row("all", "DIR", Not("to"), NotEmpty, "save every document in this folder, as the file of its ID");
+    pub const ALL: Row = Row("all", "DIR", Not("to"), NotEmpty, "save each document in this folder, under its ID");
     pub const IMAGES: Row = Row("images", "IMAGES", Words, Text, IMAGES_HELP);
     pub const PAGES: Row = Row("images", "FILES", Words, Text, "files of pages, in turn; `-` is the standard input");
     pub const REFUSAL: Row = Row("name", "NAME", Word, Text, "the name of a refusal; without one, prints all names");
