@@ -1,6 +1,7 @@
 -- What a grid opens as, from its corrected symbol and the symbol's page; a grid near a label opens as that label's
 -- page.
-use Rattle.std.proofs.Common.{◌≡◌, ℕ, ◌+◌, ◌-◌, ◌*◌, ◌/◌, ◌%◌, ◌≤◌, List, [], ◌∷◌, Result, Ok, Err, take, drop, length, get_or, sym, ap, subst, ◌∙◌, arith, eq-eqb, le-ltb}
+use Rattle.std.proofs.Common.{MatchResult, IfOk, ◌≡◌, ℕ, ◌+◌, ◌-◌, ◌*◌, ◌/◌, ◌%◌, ◌≤◌, List, [], ◌∷◌, Result, Ok, Err, take, drop, length, get_or, sym, ap, subst, ◌∙◌, arith, eq-eqb, le-ltb}
+use Rattle.std.proofs.lemmas.List.{length-take}
 use Rattle.dm_size.specs.declared.size.Size.{Size}
 use Rattle.dm_check_blocks.specs.Blocks.{IsSymbol}
 use Rattle.dm_encodation.specs.Grammar.{ReadsOnly}
@@ -8,10 +9,9 @@ use Rattle.dm_finder_frame.specs.Frame.{GridView}
 use Rattle.dm_symbol.specs.Correction.{CorrectedView, CorrectsNear, IsCorrectedAs, IsNear, data_of, grid_of_words}
 use Rattle.dm_symbol.specs.declared.fault.SymbolFault.{SymbolFault}
 use Rattle.dm_append_label.specs.Labels.{PageView, HeadView, IsHead, head_at, head_from, head_of, head_words, Carries}
-use Rattle.dm_append_label.specs.Opening.{IsPageOf, LabelOpens, Opens, OpensNear, ReadsPage}
-use Rattle.dm_append_label.specs.declared.{opening.TheConstants.MOST_PAGE_BYTES, fault.LabelFault.LabelFault}
+use Rattle.dm_append_label.specs.Opening.{IsPageOf, LabelOpens, Opens, OpensAs, RefusesLabel, OpensNear, ReadsPage, page_at_front}
+use Rattle.dm_append_label.specs.declared.{opening.TheConstants.MOST_PAGE_BYTES, opening.FoundPage.FoundPage, fault.LabelFault.LabelFault}
 use Rattle.dm_append_label.specs.declared.fault.LabelFault.TheVariants.{Border, Block, Content, Memory}
-use Rattle.dm_append_label.specs.declared.opening.Opened.{Opened}
 
 -- ---- heads
 
@@ -77,7 +77,6 @@ refused_head words fault e = subst IsOfHead e (of_head words)
 -- the fault of a head is that of the page
 pub bad_head : (words : List ℕ) (fault : LabelFault) → head_at words ≡ Err fault → ReadsPage words (Err fault)
 bad_head words (Content fault) e = absurd (refused_head words (Content fault) e)
-bad_head words Memory e = absurd (refused_head words Memory e)
 bad_head words fault e = e
 
 -- ---- a label of the size of a grid near it
@@ -157,10 +156,10 @@ data_there grid symbol size = ap (λ (s : Size). data_of s symbol.words) size
 -- ---- how an opening ends
 
 -- The symbol has no page.
-pub no_page : {A : Type 0} (grid : GridView) (symbol : CorrectedView) (fault : LabelFault) → IsCorrectedAs grid symbol →
+pub no_page : (grid : GridView) (symbol : CorrectedView) (fault : LabelFault) → IsCorrectedAs grid symbol →
     GivesNear grid (Ok symbol)
-    → ReadsPage (data_of symbol.size symbol.words) (Err fault) → LabelOpens {A = A} grid (Err fault)
-no_page {A} grid symbol fault is give reads = record {
+    → ReadsPage (data_of symbol.size symbol.words) (Err fault) → LabelOpens grid (Err fault)
+no_page grid symbol fault is give reads = record {
   opens = opens fault (subst (λ (d : List ℕ). ReadsPage d (Err fault)) (data_there grid symbol is.same_size) reads);
   near = λ label page carries near.
       let near_words = gives grid label page (Ok symbol) give carries near in
@@ -168,47 +167,67 @@ no_page {A} grid symbol fault is give reads = record {
   short = tt;
 }
   where
-    opens : (f : LabelFault) → ReadsPage (data_of grid.size symbol.words) (Err f) → Opens {A = A} grid (Err f)
+    opens : (f : LabelFault) → ReadsPage (data_of grid.size symbol.words) (Err f) → Opens grid (Err f)
     opens (Border wrong) h = absurd (refused_head _ _ h)
     opens (Block block) h = absurd (refused_head _ _ h)
-    opens Memory h = (
-      h.0,
-      symbol.corrected,
-      symbol.wrong,
-      record {
-        words = symbol.words;
-        read = is.read;
-        is_page = h.1;
-        changed = is.corrected;
-        wrong_is = is.wrong;
-      },
-    )
+    opens Memory h = refused_head _ _ h
     opens f h = (symbol.words, is.read, h)
 
     nothing : (page : PageView) (f : LabelFault) → IsPageOf (data_of symbol.size symbol.words) page →
-        ReadsPage (data_of symbol.size symbol.words) (Err f) → OpensNear {A = A} page (Err f)
+        ReadsPage (data_of symbol.size symbol.words) (Err f) → OpensNear page (Err f)
     nothing page (Border wrong) p h = tt
     nothing page (Content f) p h = let stuck = h.stuck in stuck.unread page.bytes p.reads.reads
-    nothing page Memory p h = tt
     nothing page f p h = not_both (head_at (data_of symbol.size symbol.words)) (head_of page) f p.head h
 
--- The symbol has a page.
-pub one_page_opens : {A : Type 0} (grid : GridView) (symbol : CorrectedView) (opened : Opened A) →
-    IsCorrectedAs grid symbol → GivesNear grid (Ok symbol)
-    → IsPageOf (data_of symbol.size symbol.words) opened.page → opened.corrected ≡ symbol.corrected →
-    opened.wrong ≡ symbol.wrong
-    → length opened.page.bytes ≤ MOST_PAGE_BYTES → LabelOpens grid (Ok opened)
-one_page_opens grid symbol opened is give page corrected wrong short = record {
-  opens = record {
-    words = symbol.words;
-    read = is.read;
-    is_page = subst (λ (d : List ℕ). IsPageOf d opened.page) (data_there grid symbol is.same_size) page;
-    changed = corrected ∙ is.corrected;
-    wrong_is = wrong ∙ is.wrong;
-  };
-  near = λ label other carries near.
-      let near_words = gives grid label other (Ok symbol) give carries near in
-      one_page (data_of symbol.size symbol.words) opened.page other page
-      (page_there grid label other symbol near_words.0 is.same_size near_words.1);
-  short = short;
+pub opens_as : (grid : GridView) (symbol : CorrectedView) (page : PageView) → IsCorrectedAs grid symbol →
+    IsPageOf (data_of symbol.size symbol.words) page → OpensAs grid page symbol.corrected symbol.wrong
+opens_as grid symbol page is is_page = record {
+  words = symbol.words;
+  read = is.read;
+  is_page = subst (λ (d : List ℕ). IsPageOf d page) (data_there grid symbol is.same_size) is_page;
+  changed = is.corrected;
+  wrong_is = is.wrong;
 }
+
+-- The symbol has a page.
+pub one_page_opens : (grid : GridView) (symbol : CorrectedView) (page : PageView) → IsCorrectedAs grid symbol →
+    GivesNear grid (Ok symbol) → IsPageOf (data_of symbol.size symbol.words) page
+    → length page.bytes ≤ MOST_PAGE_BYTES
+    → LabelOpens grid (Ok page) × OpensAs grid page symbol.corrected symbol.wrong
+one_page_opens grid symbol page is give is_page short =
+    let opens = opens_as grid symbol page is is_page in (
+      record {
+        opens = (symbol.corrected, symbol.wrong, opens);
+        near = λ label other carries near.
+            let near_words = gives grid label other (Ok symbol) give carries near in
+            one_page (data_of symbol.size symbol.words) page other is_page
+            (page_there grid label other symbol near_words.0 is.same_size near_words.1);
+        short = short;
+      },
+      opens,
+    )
+
+-- ---- what is found in room of the caller's
+
+-- what a call says of the page of a symbol
+abbrev FindsPage : List ℕ → CorrectedView → Result FoundPage LabelFault → Type 0
+FindsPage room symbol result = MatchResult result
+    (λ page. IsPageOf (data_of symbol.size symbol.words) (page_at_front room page))
+    (λ fault. ReadsPage (data_of symbol.size symbol.words) (Err fault))
+
+-- the grid opens as what is found in its symbol
+pub found_opens : (grid : GridView) (symbol : CorrectedView) (room : List ℕ) (result : Result FoundPage LabelFault) →
+    IsCorrectedAs grid symbol → GivesNear grid (Ok symbol) → FindsPage room symbol result
+    → IfOk result (λ page. IsHead (head_of (page_at_front room page)) × (page.count ≤ MOST_PAGE_BYTES))
+    → MatchResult result (λ page. LabelOpens grid (Ok (page_at_front room page)))
+    (λ fault. LabelOpens grid (Err fault))
+found_opens grid symbol room (Ok page) is give finds short =
+    (one_page_opens grid symbol (page_at_front room page) is give finds
+    (grind (arith, length-take page.count room, short.1))).0
+found_opens grid symbol room (Err fault) is give finds short = no_page grid symbol fault is give finds
+
+-- the grid opens as no label that has memory of its own
+pub refused_opens : (grid : GridView) (symbol : CorrectedView) (fault : LabelFault) → IsCorrectedAs grid symbol →
+    GivesNear grid (Ok symbol) → ReadsPage (data_of symbol.size symbol.words) (Err fault) → RefusesLabel grid fault
+refused_opens grid symbol Memory is give reads = absurd (refused_head _ _ reads)
+refused_opens grid symbol fault is give reads = no_page grid symbol fault is give reads

@@ -67,11 +67,4 @@ impl<A: Allocator> Page<A> {
     {
         self.bytes.as_slice()
     }
-
-    /// Gives its bytes up, without a copy.
-    pub fn into_bytes(self) -> Vec<u8, A>
-        ensures { result.items ≡ self.bytes }
-    {
-        self.bytes
-    }
 }

@@ -1,10 +1,11 @@
--- The faults of desks: their names, as they are printed, and where they come from. That of a label is the label's own.
+-- Desks: the names of their faults (that of a label is the label's own), what each call answers and saves, and how
+-- their files are opened, looked at, and moved from version 1.
 use Rattle.std.specs.Prelude.{ℕ, List, codes, ◌≡◌, true, Option, Some, None, Result, IsTrue, ◌&&◌, not, length, Ok, Err, is_some, is_none, nat_le, ◌==◌, if◌then◌else◌, ◌-◌, replicate, slice_set, ◌⊎◌, ◌<◌, ◌≤◌, false, IsSomeAnd, ◌≢◌, ◌∷◌, ◌++◌, slice_get, [], take, filter, option_map}
 use Rattle.dm_append_label.specs.{Labels.PageView, Opening.label_fault_name, Opening.LabelOpens}
 use Rattle.dm_assembly_desk.specs.declared.fault.{DeskFault.DeskFault, ScanFault.ScanFault, AskFault.AskFault}
 use Rattle.dm_assembly_desk.specs.declared.fault.{ForgetFault.ForgetFault, ExportFault.ExportFault, MoveFault.MoveFault}
 use Rattle.dm_assembly_desk.specs.declared.{fault.ImportFault.ImportFault, file.FileFault.FileFault, reply.Kind.Kind}
-use Rattle.dm_append_label.specs.declared.{fault.LabelFault.LabelFault, opening.Opened.Opened}
+use Rattle.dm_append_label.specs.declared.fault.LabelFault.{LabelFault}
 use Rattle.dm_store.specs.declared.store.StoreFault.{StoreFault}
 use Rattle.dm_assembly_desk.specs.declared.{adding.AddFault.AddFault, reply.Imported.Imported, reply.Accepted.Accepted}
 use Rattle.std.specs.{List.list_all, List.flat_map, Int.w16, Int.to_be_bytes, Option.option_or}
@@ -17,7 +18,6 @@ use Rattle.dm_assembly_desk.specs.declared.fault.ScanFault.TheVariants as scanni
 use Rattle.dm_assembly_desk.specs.declared.fault.ForgetFault.TheVariants as forgets
 use Rattle.dm_assembly_desk.specs.declared.fault.ImportFault.TheVariants as importing
 use Rattle.dm_assembly_desk.specs.declared.fault.AskFault.TheVariants as asks
-use Rattle.dm_append_label.specs.declared.fault.LabelFault.TheVariants as labels
 use Rattle.dm_store.specs.declared.store.StoreFault.TheVariants as storing
 use Rattle.dm_assembly_desk.specs.declared.file.FileFault.TheVariants as files
 use Rattle.dm_assembly_desk.specs.declared.adding.AddFault.TheVariants as adds
@@ -81,11 +81,6 @@ move_fault_name moves.Memory = codes "Memory"
 abbrev pub move_fault_of : StoreFault → MoveFault
 move_fault_of storing.Device = moves.Device
 move_fault_of storing.Memory = moves.Memory
-
--- memory that was refused for the label was refused for the scan
-abbrev pub scan_fault : LabelFault → ScanFault
-scan_fault labels.Memory = scanning.Memory
-scan_fault fault = scanning.Label fault
 
 abbrev pub import_fault : FileFault → ImportFault
 import_fault files.NotPages = importing.NotPages
@@ -241,14 +236,14 @@ Accepts p old result new =
     (added : Result Imported AddFault) × (result ≡ scan_of p added) × Adds p.id (lone p) old added new
 
 -- a scan at a desk that has not failed, by what the grid is opened as
-abbrev pub Scans : {A : Type 0} → Result (Opened A) LabelFault → DeskView → Result Accepted ScanFault → DeskView → Type 0
-Scans (Ok opened) old result new = Accepts opened.page old result new
-Scans (Err fault) old result new = (result ≡ Err (scan_fault fault)) × (new ≡ old)
+abbrev pub Scans : Result PageView LabelFault → DeskView → Result Accepted ScanFault → DeskView → Type 0
+Scans (Ok page) old result new = Accepts page old result new
+Scans (Err fault) old result new = (result ≡ Err (scanning.Label fault)) × (new ≡ old)
 
 -- a scan of a grid at a desk that has not failed
-pub record AcceptsGrid (A : Type 0) (grid : GridView)
+pub record AcceptsGrid (grid : GridView)
     (old : DeskView) (result : Result Accepted ScanFault) (new : DeskView) : Type 0 where
-  pub opened : Result (Opened A) LabelFault
+  pub opened : Result PageView LabelFault
   pub label : LabelOpens grid opened
   pub scans : Scans opened old result new
 

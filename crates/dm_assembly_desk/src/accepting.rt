@@ -1,15 +1,15 @@
 //! Scanned labels, whose pages are held and saved: a scan is the import of one page.
 
 ghost use Rattle.std.specs.Prelude.{◌≡◌, ◌≤◌, length, true, false, Err};
-ghost use Rattle.dm_append_label.specs.declared.opening.TheConstants.{MOST_PAGE_BYTES};
+ghost use Rattle.dm_append_label.specs.Labels.{IsHead};
 ghost use Rattle.dm_assembly_desk.specs.Desk.{Accepts, AcceptsGrid};
 ghost use Rattle.dm_assembly_desk.specs.Documents.{KeepsPages, DeskIsInOrder};
 
 use crate::desk::Desk;
 use crate::fault::ScanFault;
 use crate::reply::Accepted;
-use dm_append_label::{Page, open_label};
-use dm_finder_frame::Grid;
+use dm_append_label::{FoundPage, MOST_PAGE_BYTES, open_page};
+use dm_finder_frame::{Grid, LentGrid};
 use dm_store::StoreSet;
 use std::alloc::Allocator;
 
@@ -21,7 +21,21 @@ impl<S: StoreSet, A: Allocator + Copy> Desk<S, A> {
     /// answers `Failed` until it is closed and opened again; after any other the desk and its set are as before.
     pub fn accept(&mut self, grid: &Grid<A>) -> Result<Accepted, ScanFault>
         ensures failed { self.old.is_failed ≡ true → (result ≡ Err ScanFault.Failed) × (self.new ≡ self.old) }
-        ensures scanned { self.old.is_failed ≡ false → AcceptsGrid A grid.now self.old result self.new }
+        ensures scanned { self.old.is_failed ≡ false → AcceptsGrid grid.now self.old result self.new }
+        ensures kept { KeepsPages self.old.held self.new.held }
+        ensures before { DeskIsInOrder self.old }
+        ensures after { DeskIsInOrder self.new }
+    {
+        self.accept_lent(&grid.lend())
+    }
+
+    /// Does so for a grid that is lent.
+    ///
+    /// # Errors
+    /// As [`Desk::accept`].
+    pub fn accept_lent(&mut self, grid: &LentGrid) -> Result<Accepted, ScanFault>
+        ensures failed { self.old.is_failed ≡ true → (result ≡ Err ScanFault.Failed) × (self.new ≡ self.old) }
+        ensures scanned { self.old.is_failed ≡ false → AcceptsGrid grid.now self.old result self.new }
         ensures kept { KeepsPages self.old.held self.new.held }
         ensures before { DeskIsInOrder self.old }
         ensures after { DeskIsInOrder self.new }
@@ -29,24 +43,25 @@ impl<S: StoreSet, A: Allocator + Copy> Desk<S, A> {
         if self.is_failed {
             return Err(ScanFault::Failed);
         }
-        match open_label(self.alloc, grid) {
-            Ok(opened) => self.accept_page(&opened.page),
-            Err(fault) => Err(ScanFault::from(fault)),
+        let mut room = [0u8; MOST_PAGE_BYTES];
+        match open_page(grid, &mut room) {
+            Ok(page) => self.accept_page(page, &room[..page.count]),
+            Err(fault) => Err(ScanFault::Label(fault)),
         }
     }
 
     // Answers a page, and holds and saves it where it was not held.
-    fn accept_page(&mut self, page: &Page<A>) -> Result<Accepted, ScanFault>
+    fn accept_page(&mut self, page: FoundPage, bytes: &[u8]) -> Result<Accepted, ScanFault>
         requires running { self.old.is_failed ≡ false }
-        requires short { length page.now.bytes ≤ MOST_PAGE_BYTES }
-        ensures accepts { Accepts page.now self.old result self.new }
+        requires head { IsHead (record { m = page.m; n = page.n; id = page.id }) }
+        requires short { length bytes.now ≤ MOST_PAGE_BYTES }
+        ensures accepts { Accepts (record { id = page.id; m = page.m; n = page.n; bytes = bytes.now })
+            self.old result self.new }
         ensures after { DeskIsInOrder self.new }
     {
-        let id = page.id();
-        let m = page.m();
-        let n = page.n();
+        let FoundPage { id, m, n, .. } = page;
         let mut places: [Option<&[u8]>; 16] = [None; 16];
-        places[m as usize - 1] = Some(page.bytes());
+        places[m as usize - 1] = Some(bytes);
         match self.add(id.number(), &places[..n as usize]) {
             Ok(reply) => Ok(Accepted {
                 id,

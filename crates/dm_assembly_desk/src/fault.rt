@@ -1,7 +1,7 @@
 //! Why a desk refuses, each with its name as it is printed.
 
 ghost use Rattle.std.specs.Prelude.{◌≡◌};
-ghost use Rattle.dm_assembly_desk.specs.Desk.{scan_fault, scan_fault_of, import_fault, import_fault_of, desk_fault_of, move_fault_of, desk_fault_name, scan_fault_name, ask_fault_name, forget_fault_name, export_fault_name, import_fault_name, move_fault_name};
+ghost use Rattle.dm_assembly_desk.specs.Desk.{scan_fault_of, import_fault, import_fault_of, desk_fault_of, move_fault_of, desk_fault_name, scan_fault_name, ask_fault_name, forget_fault_name, export_fault_name, import_fault_name, move_fault_name};
 
 use crate::adding::AddFault;
 use crate::file::FileFault;
@@ -38,7 +38,7 @@ pub enum ScanFault {
     Conflict,
     /// The document is not held, and there is no room for another.
     Full,
-    /// Memory was refused: for the label, or for the page and its save, after all else.
+    /// Memory for the page or its save was refused.
     Memory,
     /// The save met a device fault. The page may be held once the desk is opened again.
     Save,
@@ -111,17 +111,6 @@ pub enum MoveFault {
     Device,
     /// Memory for a load or for a save was refused.
     Memory,
-}
-
-impl From<LabelFault> for ScanFault {
-    ghost from_gives = { λ given fault. fault ≡ scan_fault given };
-
-    fn from(fault: LabelFault) -> Self {
-        match fault {
-            LabelFault::Memory => ScanFault::Memory,
-            _ => ScanFault::Label(fault),
-        }
-    }
 }
 
 impl From<AddFault> for ScanFault {

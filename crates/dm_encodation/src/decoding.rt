@@ -1,9 +1,9 @@
 //! The text of a symbol's data codewords.
 
-ghost use Rattle.std.specs.Prelude.{◌≡◌, ◌≢◌, ◌+◌, ◌-◌, ◌*◌, ◌≤◌, ◌++◌, ℕ, List, length, drop, true, IfOk, IfErr};
+ghost use Rattle.std.specs.Prelude.{◌≡◌, ◌≢◌, ◌+◌, ◌-◌, ◌*◌, ◌≤◌, ◌++◌, ℕ, List, length, drop, take, IfOk, IfErr, IfSome};
 ghost use Rattle.std.specs.Prelude.{IsErrOf};
 ghost use Rattle.dm_encodation.specs.Grammar.{ReadsOnly, StuckOnly};
-ghost use Rattle.dm_encodation.specs.inner.Reading.{reading, bytes_of, Collects};
+ghost use Rattle.dm_encodation.specs.inner.Reading.{reading, bytes_of, Collects, Holds};
 ghost use Rattle.dm_encodation.specs.declared.fault.DecodeFault.TheVariants.{Memory};
 ghost use Rattle.dm_encodation.specs.declared.mode.Mode.TheVariants.{Ascii};
 
@@ -12,49 +12,79 @@ use crate::mode::Mode;
 use crate::reader::{Decoded, finish, step};
 use std::alloc::Allocator;
 
-// Writes the bytes that a codeword gives, if all before them are written. Gives whether they are.
+// Writes bytes after the first of a room, if it has room for them and had it for those before. Gives how many stand
+// there then.
 #[inline(always)]
-fn push_output<A: Allocator>(out: &mut Vec<u8, A>, output: Decoded, is_whole: bool) -> bool
-    ensures { result ≡ true → (is_whole ≡ true) × (out.new.items ≡ out.old.items ++ bytes_of output) }
+fn put(room: &mut [u8], count: Option<usize>, bytes: &[u8]) -> Option<usize>
+    requires { IfSome count (λ n. n ≤ length room.old) }
+    ensures put { (before : List ℕ) → Holds room.old count before → Holds room.new result (before ++ bytes.now) }
+    ensures same { length room.new ≡ length room.old }
 {
-    if !is_whole {
-        return false;
+    let count = count?;
+    if room.len() - count < bytes.len() {
+        return None;
     }
+    let end = count + bytes.len();
+    room[count..end].copy_from_slice(bytes);
+    Some(end)
+}
+
+// Writes the bytes that a codeword gives.
+#[inline(always)]
+fn put_output(room: &mut [u8], count: Option<usize>, output: Decoded) -> Option<usize>
+    requires { IfSome count (λ n. n ≤ length room.old) }
+    ensures put { (before : List ℕ) → Holds room.old count before → Holds room.new result (before ++ bytes_of output) }
+    ensures same { length room.new ≡ length room.old }
+{
     match output {
-        Decoded::Nothing => true,
-        Decoded::One(a) => out.push(a).is_ok(),
-        Decoded::Two(a, b) => out.extend_from_slice(&[a, b]).is_ok(),
-        Decoded::Three(a, b, c) => out.extend_from_slice(&[a, b, c]).is_ok(),
+        Decoded::Nothing => count,
+        Decoded::One(a) => put(room, count, &[a]),
+        Decoded::Two(a, b) => put(room, count, &[a, b]),
+        Decoded::Three(a, b, c) => put(room, count, &[a, b, c]),
     }
 }
 
-// Writes the bytes of the codewords after what was written before, and gives whether there was memory for all of them.
-// Where it is refused, the codewords are still looked through.
-fn read_words<A: Allocator>(
-    out: &mut Vec<u8, A>,
-    words: &[u8],
-    from: usize,
-) -> Result<bool, DecodeFault>
+// Writes the bytes of the codewords at the front of a room, and gives how many they are, if it has room for all of them.
+fn read_words(room: &mut [u8], words: &[u8], from: usize) -> Result<Option<usize>, DecodeFault>
     requires { from ≤ length words.now }
-    ensures { Collects result out.old.items out.new.items (reading Ascii (from + 1) (drop from words.now)) }
+    ensures collects { Collects room.new result (reading Ascii (from + 1) (drop from words.now)) }
+    ensures same { length room.new ≡ length room.old }
 {
-    let mut is_whole = out.reserve(words.len() - from).is_ok();
+    let mut count = Some(0);
     let mut mode = Mode::Ascii;
     for at in from..words.len() {
         if let Mode::Padded = mode {
-            return Ok(is_whole);
+            return Ok(count);
         }
         let (next, output) = step(mode, at + 1, words[at])?;
-        is_whole = push_output(out, output, is_whole);
+        count = put_output(room, count, output);
         mode = next;
     }
     let output = finish(mode, words.len() + 1)?;
-    Ok(push_output(out, output, is_whole))
+    Ok(put_output(room, count, output))
 }
 
-/// The bytes that the data codewords from index `from` on read as (ISO/IEC 16022:2006, 5.2; how a run
-/// of C40 or Text ends is this project's own rule). The codewords begin in ASCII, and their end is the
-/// symbol's end.
+/// Writes the bytes that the data codewords from index `from` on read as at the front of room of the caller's, and gives
+/// how many they are (ISO/IEC 16022:2006, 5.2; how a run of C40 or Text ends is this project's own rule). The codewords
+/// begin in ASCII, and their end is the symbol's end. It takes no memory.
+///
+/// # Errors
+/// The first fault from the left, which is never `Memory`.
+pub fn decode_to_slice(words: &[u8], from: usize, room: &mut [u8]) -> Result<usize, DecodeFault>
+    requires place { from ≤ length words.now }
+    requires wide { 2 * (length words.now - from) ≤ length room.old }
+    ensures read { IfOk result (λ count. (count ≤ length room.new)
+        × ReadsOnly (from + 1) (drop from words.now) (take count room.new)) }
+    ensures stuck { IfErr result (λ f. (f ≢ Memory) × StuckOnly (from + 1) (drop from words.now) f) }
+    ensures same { length room.new ≡ length room.old }
+{
+    match read_words(room, words, from)? {
+        Some(count) => Ok(count),
+        None => unreachable!(),
+    }
+}
+
+/// The bytes that [`decode_to_slice`] writes, in memory of the allocator.
 ///
 /// # Errors
 /// The first fault from the left. `Memory` comes only where the codewords have no fault, since all of
@@ -66,15 +96,15 @@ pub fn decode<A: Allocator + Copy>(
 ) -> Result<Vec<u8, A>, DecodeFault>
     requires { from ≤ length words.now }
     ensures read { IfOk result (λ v. ReadsOnly (from + 1) (drop from words.now) v.items) }
-    ensures short { IfOk result (λ v. length v.items ≤ 2 * (length words.now - from)) }
     ensures stuck { IfErr result (λ f. f ≢ Memory → StuckOnly (from + 1) (drop from words.now) f) }
     ensures memory { IsErrOf result Memory → (bytes : List ℕ)
         × ReadsOnly (from + 1) (drop from words.now) bytes }
 {
-    let mut out = Vec::new(alloc);
-    if read_words(&mut out, words, from)? {
-        Ok(out)
-    } else {
-        Err(DecodeFault::Memory)
-    }
+    let Ok(mut bytes) = vec![in alloc; 0u8; 2 * (words.len() - from)] else {
+        read_words(&mut [], words, from)?;
+        return Err(DecodeFault::Memory);
+    };
+    let count = decode_to_slice(words, from, &mut bytes)?;
+    bytes.truncate(count);
+    Ok(bytes)
 }

@@ -4,12 +4,13 @@
 //! [`need`] and [`fit`] say how many codewords a text takes and how much of it fits a room, and
 //! [`encode`] writes it after a head and fills the symbol with pads. Where the standard leaves a
 //! choice, which codewords are written is this project's own rule. [`decode`] reads the codewords of ASCII,
-//! C40, Text and Base 256, and says of all other words where and why they are refused.
+//! C40, Text and Base 256, and says of all other words where and why they are refused; [`decode_to_slice`] reads them
+//! into room of the caller's.
 //!
 //! Proved: `encode` writes exactly the codewords of the definition, and they read as the bytes that
 //! went in and as nothing else; `need`, `fit` and the refusal `TooLong` are exact; `decode` gives
 //! the one reading of the codewords, or the one fault at which they are stuck, and `Memory` only where
-//! they have no fault. `need` and `fit` take no memory.
+//! they have no fault. `need`, `fit` and `decode_to_slice` take no memory.
 //!
 //! The way down: `counter` counts the codewords of a text byte by byte (`counting` runs it), `encoding`
 //! writes the text by `ascii`, `run` (C40 and Text, by the values of `characters`) or `base256`, and
@@ -34,7 +35,7 @@ mod scheme;
 mod values;
 
 pub use counting::{fit, need};
-pub use decoding::decode;
+pub use decoding::{decode, decode_to_slice};
 pub use encoding::encode;
 pub use fault::{DecodeFault, EncodeFault};
 pub use scheme::Scheme;

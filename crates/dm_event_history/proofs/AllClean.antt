@@ -8,7 +8,8 @@ use Rattle.dm_assembly_desk.specs.Documents.{Documents}
 use Rattle.dm_event_history.specs.declared.{event.Event.Event, reply.Reply.Reply, stop.Stop.Stop}
 use Rattle.dm_event_history.specs.declared.event.Event.TheVariants.{Print, Scan, RestartPrinter, RestartDesk, Ask, Forget, Give, Take, Export, Import}
 use Rattle.dm_event_history.proofs.{Gotten.in_either, Gotten.set_at, Deciding.decided, Deciding.true_false}
-use Rattle.dm_append_label.specs.declared.{opening.Opened.Opened, fault.LabelFault.LabelFault}
+use Rattle.dm_append_label.specs.Labels.{PageView}
+use Rattle.dm_append_label.specs.declared.fault.LabelFault.{LabelFault}
 use Rattle.dm_event_history.specs.Steps.{may_save, Acts, DeskGoes, IsNamedThere, PrinterGoes, Step, Calls, Course, Ending, Looks, MayLackFirst, ends, GiveComes, PrintComes, TakeComes, ExportTells, MayBe, ScanComes, scan_course, scan_faults}
 use Rattle.dm_event_history.proofs.Having.{CourseHas, calls_have, may_lack_has}
 use Rattle.dm_event_history.specs.Relay.{Actor, HasAll, Running, Desk, Goods, Label, Relay}
@@ -138,7 +139,7 @@ all_stay_clean old new event reply printed all fair (inr none) = grind arith
 
 -- what a scan that was answered so comes to is not kept
 pub unsaved_course : {A : Type 0} (Q : Documents → Type 0) (desk number : ℕ) (flips : List (ℕ × ℕ)) (stop : Stop)
-    (reply : Reply A) (held : Documents) (k : Result (Opened A) LabelFault) (room : ℕ) (course : Course A Documents) →
+    (reply : Reply A) (held : Documents) (k : Result PageView LabelFault) (room : ℕ) (course : Course A Documents) →
     ¬ (may_save (Scan desk number flips stop) reply ≡ true) → MayBe (scan_course room held k) course →
     reply ≡ (ends scan_faults stop course (Running held)).reply → CourseHas Q stop course
 unsaved_course {A} Q desk number flips stop reply held k room course unsaved lack is = grind arith

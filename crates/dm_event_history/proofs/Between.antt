@@ -2,8 +2,9 @@
 -- it may hold.
 use Rattle.std.proofs.Common.{◌≡◌, ◌≢◌, ◌⊎◌, ◌<◌, inl, inr, true, ℕ, length, arith, Some, Ok, Result, List, [], ◌∷◌, slice_get, IsSome, refl, sym, ap, subst, ◌∙◌}
 use Rattle.std.specs.FinMap as finite
+use Rattle.dm_append_label.specs.Labels.{PageView}
 use Rattle.dm_append_label.specs.{Labels.IsHead, Labels.head_of, Opening.LabelOpens, Opening.OpensNear}
-use Rattle.dm_append_label.specs.declared.{opening.Opened.Opened, fault.LabelFault.LabelFault}
+use Rattle.dm_append_label.specs.declared.fault.LabelFault.{LabelFault}
 use Rattle.dm_assembly_desk.specs.declared.fault.DeskFault.TheVariants as desk_fault
 use Rattle.dm_assembly_desk.specs.declared.reply.{Accepted.Accepted, Kind.Kind}
 use Rattle.dm_assembly_desk.specs.declared.reply.Kind.TheVariants as kinds
@@ -99,7 +100,7 @@ module _ (A : Type 0) (before : Relay) (desk number room : ℕ) (flips : List (�
     (head : IsHead (head_of label.page)) where
   -- where it may have saved it was fair
   abbrev IsFairlyRead : Reply A → Type 0
-  IsFairlyRead reply = may_save (Scan desk number flips stop) reply ≡ true → (read : Result (Opened A) LabelFault) →
+  IsFairlyRead reply = may_save (Scan desk number flips stop) reply ≡ true → (read : Result PageView LabelFault) →
       LabelOpens (flipped label.grid flips) read → OpensNear label.page read
 
   may : (reply : Reply A) (i m : ℕ) → may_save {A = A} (Scan desk number flips stop) reply ≡ true → i ≡ label.page.id →

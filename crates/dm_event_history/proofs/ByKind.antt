@@ -3,8 +3,8 @@ use Rattle.std.proofs.Common.{arith, ◌≡◌, ℕ, Bool, true, false, length, 
 use Rattle.dm_finder_frame.specs.Frame.{GridView, flipped}
 use Rattle.dm_size.specs.declared.size.Size.{Size}
 use Rattle.dm_encodation.specs.declared.scheme.Scheme.{Scheme}
-use Rattle.dm_append_label.specs.declared.{opening.Opened.Opened, fault.LabelFault.LabelFault}
-use Rattle.dm_append_label.specs.declared.fault.LabelFault.TheVariants as label_fault
+use Rattle.dm_append_label.specs.Labels.{PageView}
+use Rattle.dm_append_label.specs.declared.fault.LabelFault.{LabelFault}
 use Rattle.dm_print_ledger.specs.{declared.range.Range.Range, Ledger.LedgerView, Ledger.TicketView}
 use Rattle.dm_print_ledger.specs.declared.fault.OpenFault.TheVariants as open_fault
 use Rattle.dm_assembly_desk.specs.declared.fault.DeskFault.TheVariants as desk_fault
@@ -84,9 +84,8 @@ scan_plain : {A : Type 0} (room : ℕ) (grid : GridView) (held : Documents) (cou
 scan_plain {A} room grid held course comes =
     may_be_plain (scan_course room held comes.0) course (by_read comes.0) comes.2
   where
-    by_read : (read : Result (Opened A) LabelFault) → IsPlainCourse {A = A} (scan_course room held read)
-    by_read (Ok opened) = grind (arith, add_plain)
-    by_read (Err label_fault.Memory) = tt
+    by_read : (read : Result PageView LabelFault) → IsPlainCourse {A = A} (scan_course room held read)
+    by_read (Ok page) = grind (arith, add_plain)
     by_read (Err fault) = (record { up = λ b. refl; same = λ b. refl; unfailed = refl }, refl)
 
 forget_plain : {A : Type 0} (id : ℕ) (held : Documents) (course : Course A Documents) → ForgetComes id held course →

@@ -111,11 +111,8 @@ may_be_one : {A C : Type 0} (wanted one other : Course A C) → MayBe wanted one
     SameCourse one other
 may_be_one wanted one other a b = grind arith
 
-may_be_lacking : {A C : Type 0} (one : Course A C) → MayBe LacksMemory one → one ≡ LacksMemory
-may_be_lacking one a = grind arith
-
 pub scan_determined : {A : Type 0} (room : ℕ) (grid : GridView) → IsDetermined (ScanComes {A = A} room grid)
-scan_determined {A} room grid held one other p q = grind (arith, may_be_lacking, may_be_one, reading_once)
+scan_determined {A} room grid held one other p q = grind (arith, may_be_one, reading_once)
 
 pub forget_determined : {A : Type 0} (id : ℕ) → IsDetermined (ForgetComes {A = A} id)
 forget_determined id held one other p q = may_be_one _ one other p q

@@ -4,8 +4,8 @@ use Rattle.std.specs.FinMap as finite
 use Rattle.dm_size.specs.declared.size.Size.{Size}
 use Rattle.dm_encodation.specs.declared.scheme.Scheme.{Scheme}
 use Rattle.dm_finder_frame.specs.Frame.{GridView}
-use Rattle.dm_append_label.specs.declared.{opening.Opened.Opened, fault.LabelFault.LabelFault}
-use Rattle.dm_append_label.specs.declared.fault.LabelFault.TheVariants as label_fault
+use Rattle.dm_append_label.specs.Labels.{PageView}
+use Rattle.dm_append_label.specs.declared.fault.LabelFault.{LabelFault}
 use Rattle.dm_print_ledger.specs.{declared.range.Range.Range, Ledger.TicketView}
 use Rattle.dm_assembly_desk.specs.Documents.{Pages}
 use Rattle.dm_event_history.specs.{declared.reply.Reply.Reply, declared.stop.Stop.Stop, Told.IsOfMemory}
@@ -43,9 +43,8 @@ pub scan_answered : {A : Type 0} (room : ℕ) (grid : GridView) → AreAnswered 
 scan_answered {A} room grid held course comes =
     may_be_answered (scan_course room held comes.0) course (by_read comes.0) comes.2
   where
-    by_read : (read : Result (Opened A) LabelFault) → IsAnswered {A = A} (scan_course room held read)
-    by_read (Ok opened) = grind arith
-    by_read (Err label_fault.Memory) = tt
+    by_read : (read : Result PageView LabelFault) → IsAnswered {A = A} (scan_course room held read)
+    by_read (Ok page) = grind arith
     by_read (Err fault) = grind arith
 
 pub forget_answered : {A : Type 0} (id : ℕ) → AreAnswered (ForgetComes {A = A} id)

@@ -4,7 +4,7 @@ use Rattle.dm_finder_frame.specs.Frame.{GridView, flipped}
 use Rattle.dm_size.specs.declared.size.Size.{Size}
 use Rattle.dm_encodation.specs.declared.scheme.Scheme.{Scheme}
 use Rattle.dm_append_label.specs.{Labels.PageView, Labels.HasNoEnds, Opening.LabelOpens, Opening.OpensNear}
-use Rattle.dm_append_label.specs.declared.{opening.Opened.Opened, fault.LabelFault.LabelFault}
+use Rattle.dm_append_label.specs.declared.fault.LabelFault.{LabelFault}
 use Rattle.dm_store.specs.declared.fuse.Kept.{Kept}
 use Rattle.dm_print_ledger.specs.{Verdicts.print_verdict, Ledger.LedgerView, declared.fault.PrintFault.PrintFault}
 use Rattle.dm_print_ledger.specs.declared.fault.PrintFault.TheVariants as print_fault
@@ -74,13 +74,13 @@ acts_fail old new event reply acts save =
 
 -- a fair scan of a desk that runs
 framed : {A : Type 0} (grid : GridView) (page : PageView) (room : ℕ) (held : Documents) (stop : Stop)
-    (course : Course A Documents) (read : Result (Opened A) LabelFault) → LabelOpens grid read → OpensNear page read →
+    (course : Course A Documents) (read : Result PageView LabelFault) → LabelOpens grid read → OpensNear page read →
     MayBe (scan_course room held read) course →
     IsFramedSo grid (ends scan_faults stop course (Running held)).reply
 framed grid page room held stop course read opens near may = grind arith
 
 scan_framed : {A : Type 0} (grid : GridView) (page : PageView) (room : ℕ) (stop : Stop) (actor : Actor Documents)
-    (end : Ending A Documents) → ((read : Result (Opened A) LabelFault) → LabelOpens grid read → OpensNear page read) →
+    (end : Ending A Documents) → ((read : Result PageView LabelFault) → LabelOpens grid read → OpensNear page read) →
     MayLackFirst (Calls scan_faults stop (ScanComes room grid)) actor end → IsFramedSo grid end.reply
 scan_framed {A} grid page room stop actor end near acts = grind (arith, framed)
 

@@ -3,8 +3,7 @@ use Rattle.std.proofs.Common.{arith, ◌≡◌, ◌≢◌, inl, inr, ℕ, Option
 use Rattle.std.specs.{Prelude.unwrap_or, Option.option_or}
 use Rattle.std.specs.FinMap as finite
 use Rattle.dm_append_label.specs.{Labels.PageView, Labels.IsHead, Labels.head_of, Opening.OpensNear}
-use Rattle.dm_append_label.specs.declared.{opening.Opened.Opened, fault.LabelFault.LabelFault}
-use Rattle.dm_append_label.specs.declared.fault.LabelFault.TheVariants as label_fault
+use Rattle.dm_append_label.specs.declared.fault.LabelFault.{LabelFault}
 use Rattle.dm_assembly_desk.specs.declared.reply.Kind.{Kind}
 use Rattle.dm_assembly_desk.specs.Documents.{Pages, page, Documents, page_at}
 use Rattle.dm_assembly_desk.specs.Desk.{lone, add_kind, add_verdict, pages_with, with_pages}
@@ -161,17 +160,16 @@ lone_clean labels number label there printed =
     }
 
 -- a fair scan is read as its label's page
-reading_clean : {A : Type 0} (labels : List Label) (room number : ℕ) (held : Documents) (label : Label) →
+reading_clean : (A : Type 0) (labels : List Label) (room number : ℕ) (held : Documents) (label : Label) →
     HaveLeft labels held → slice_get labels number ≡ Some label → IsPrinted label →
-    (read : Result (Opened A) LabelFault) → OpensNear label.page read →
-    IsCleanCourse labels (scan_course room held read)
-reading_clean {A} labels room number held label h there printed (Ok opened) near =
+    (read : Result PageView LabelFault) → OpensNear label.page read →
+    IsCleanCourse {A = A} labels (scan_course room held read)
+reading_clean A labels room number held label h there printed (Ok page) near =
     subst (λ (p : PageView). IsCleanCourse {A = A} labels
     (verdict_course (page_reply p) (add_verdict room held p.id (lone p)))) (sym near)
     (add_clean labels room held (lone_export label.page) (page_reply label.page) h
     (lone_clean labels number label there printed))
-reading_clean labels room number held label h there printed (Err label_fault.Memory) near = tt
-reading_clean labels room number held label h there printed (Err fault) near = tt
+reading_clean A labels room number held label h there printed (Err fault) near = tt
 
 forget_clean : (A : Type 0) (labels : List Label) (id : ℕ) (held : Documents) (o : Option Pages) →
     HaveLeft labels held → IsCleanCourse {A = A} labels (verdict_course forget_reply (forget_by held id o))
@@ -204,7 +202,7 @@ acts_keep old new (Scan desk number flips stop) reply own p clean harm acts =
     desk_keeps old new desk own _ reply clean
     (λ same room. may_lack_keeps old.labels _ (calls_keep old.labels _ stop _
     (λ held course h comes. may_be_clean old.labels _ course
-    (reading_clean old.labels room number held acts.0 h acts.1 (p number acts.0 acts.1) comes.0
+    (reading_clean _ old.labels room number held acts.0 h acts.1 (p number acts.0 acts.1) comes.0
     (comes.1.near acts.0.grid acts.0.page (p number acts.0 acts.1).carries (harm same acts.0 acts.1))) comes.2)))
     acts.2
 acts_keep {A} old new (Forget desk id stop) reply own p clean harm acts =

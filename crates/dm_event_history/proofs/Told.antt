@@ -3,7 +3,7 @@ use Rattle.std.proofs.Common.{arith, ◌≡◌, ◌≢◌, ◌⊎◌, ℕ, List,
 use Rattle.std.specs.Prelude.{is_none, unwrap_or, if◌then◌else◌}
 use Rattle.std.specs.Option.{option_or}
 use Rattle.std.specs.FinMap as finite
-use Rattle.dm_append_label.specs.{Labels.PageView, Opening.OpensNear, declared.opening.Opened.Opened}
+use Rattle.dm_append_label.specs.{Labels.PageView, Opening.OpensNear}
 use Rattle.dm_append_label.specs.declared.fault.LabelFault.{LabelFault}
 use Rattle.dm_append_label.specs.declared.fault.LabelFault.TheVariants as label_fault
 use Rattle.dm_assembly_desk.specs.Desk.{lone, add_kind, add_verdict, pages_with, reply_of, with_pages, Verdict, Stays, Becomes}
@@ -65,14 +65,14 @@ add_ended {A} tells room held id pages reply after = grind arith
 
 -- a fair scan that is answered took its page, or the page was held
 pub scan_told : {A : Type 0} (room : ℕ) (p : PageView) (held : Documents) (a : Accepted) (after : Actor Documents)
-    (read : Result (Opened A) LabelFault) → OpensNear p read →
+    (read : Result PageView LabelFault) → OpensNear p read →
     Ended {A = A} (scan_course room held read) held (Scanned a) after →
     AddTold {A = A} (page_reply p) room held p.id (lone p) (Scanned a) after
 scan_told {A} room p held a after read near ended = grind arith
 
 -- one that is refused was refused for its finder patterns, or by what is held
 pub scan_was_refused : {A : Type 0} (room : ℕ) (p : PageView) (held : Documents) (fault : ScanFault)
-    (after : Actor Documents) (read : Result (Opened A) LabelFault) → OpensNear p read →
+    (after : Actor Documents) (read : Result PageView LabelFault) → OpensNear p read →
     Ended {A = A} (scan_course room held read) held (ScanRefused fault) after →
     AddRefused {A = A} (page_reply p) room held p.id (lone p) (ScanRefused fault)
     ⊎ ((wrong : ℕ) × (fault ≡ scan_fault.Label (label_fault.Border wrong)))

@@ -25,7 +25,7 @@ use Rattle.std.proofs.lemmas.Option.{slice_get_within}
 use Rattle.dm_event_history.specs.declared.reply.Reply.{Reply}
 use Rattle.dm_store.specs.declared.fuse.Kept.TheVariants.{Old}
 use Rattle.dm_event_history.specs.declared.stop.Stop.TheVariants as stops
-use Rattle.dm_event_history.proofs.WorkedLabels.{first_are, first_are_1, first_are_5, first_page, first_words, first_words_1, first_words_5, opened_page, opens, second_are, second_are_1, second_are_5, second_page, second_words, second_words_1, second_words_5}
+use Rattle.dm_event_history.proofs.WorkedLabels.{first_are, first_are_1, first_are_5, first_page, first_words, first_words_1, first_words_5, opens, second_are, second_are_1, second_are_5, second_page, second_words, second_words_1, second_words_5}
 use Rattle.dm_event_history.proofs.WorkedSteps.{both_labels, desk_goes, label, ledger, printer_goes, saves_print}
 
 -- ---- one step after another
@@ -290,20 +290,20 @@ pub gathered_is : (A : Type 0) → CarriesItsWords Side12 → MaySay one_printer
 gathered_is A law =
     let By : Documents → PageView → Result Kind AddFault → Course A Documents = λ held page judged.
     verdict_course (page_reply page) (verdict_by held page.id (lone page) judged) in
-    let first = opens (first_page 0) first_words first_are law A (omega arith) in
-    let second = opens (second_page 0) second_words second_are law A (omega arith) in
+    let first = opens (first_page 0) first_words first_are law (omega arith) in
+    let second = opens (second_page 0) second_words second_are law (omega arith) in
     step_to labelled (omega arith)
     (printer_goes one_printer 0 _ (Running fresh) (ending (Printed 0 0 2) (Running used_once) labels_0) refl
     (inr (Saves used_once labels_0 (Printed 0 0 2), print_0 0, refl)))
     (step_so scanned (scan_step labelled 1 (label (second_page 0) second_words) none_held half_held
     (Saves half_held no_goods (Scanned (accepted (second_page 0) New))) _ refl refl
-    (Ok (opened_page (second_page 0)), second, inl (sym (ap (By none_held (second_page 0)) is_new))) refl)
+    (Ok (second_page 0), second, inl (sym (ap (By none_held (second_page 0)) is_new))) refl)
     (step_so scanned_again (scan_step scanned 1 (label (second_page 0) second_words) half_held half_held
     (Answers (Scanned (accepted (second_page 0) Again))) _ refl refl
-    (Ok (opened_page (second_page 0)), second, inl (sym (ap (By half_held (second_page 0)) is_again))) refl)
+    (Ok (second_page 0), second, inl (sym (ap (By half_held (second_page 0)) is_again))) refl)
     (step_so whole (scan_step scanned_again 0 (label (first_page 0) first_words) half_held all_held
     (Saves all_held no_goods (Scanned (accepted (first_page 0) Complete))) _ refl refl
-    (Ok (opened_page (first_page 0)), first, inl (sym (ap (By half_held (first_page 0)) is_complete))) refl)
+    (Ok (first_page 0), first, inl (sym (ap (By half_held (first_page 0)) is_complete))) refl)
     (step_to asked (omega arith)
     (desk_goes whole 0 _ (desk_with all_held) (ending (Document digits) (Running all_held) no_goods) refl
     ((Ok digits, subst (λ (o : Option Pages). Asks (λ given. given) o (Ok digits)) (sym all_at) refl, refl, refl), refl))

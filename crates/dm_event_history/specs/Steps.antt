@@ -13,7 +13,7 @@ use Rattle.dm_print_ledger.specs.declared.range.Range.{Range}
 use Rattle.dm_print_ledger.specs.Verdicts.{least, IsLabelOf, print_verdict, give_verdict, take_verdict, ticket_of}
 use Rattle.dm_event_history.specs.declared.reply.Reply.TheVariants.{Printed, PrintRefused, Given, GiveRefused, Taken, TakeRefused, Scanned, ScanRefused, Document, AskRefused, Forgotten, ForgetRefused, Exported, ExportRefused, Imported, ImportRefused, Stopped, NoSuch, PrinterRefused, DeskRefused}
 use Rattle.dm_finder_frame.specs.Frame.{GridView, flipped}
-use Rattle.dm_append_label.specs.declared.{opening.Opened.Opened, fault.LabelFault.LabelFault}
+use Rattle.dm_append_label.specs.declared.fault.LabelFault.{LabelFault}
 use Rattle.dm_assembly_desk.specs.declared.{reply.Accepted.Accepted, adding.AddFault.AddFault, fault.AskFault.AskFault}
 use Rattle.dm_assembly_desk.specs.declared.fault.{ScanFault.ScanFault, ForgetFault.ForgetFault, ImportFault.ImportFault}
 use Rattle.dm_assembly_desk.specs.Documents.{Pages, mask, Documents}
@@ -26,7 +26,6 @@ use Rattle.dm_event_history.specs.declared.stop.Stop.TheVariants as stops
 use Rattle.dm_print_ledger.specs.declared.fault.PrintFault.TheVariants as print_fault
 use Rattle.dm_print_ledger.specs.declared.fault.GiveFault.TheVariants as give_fault
 use Rattle.dm_print_ledger.specs.declared.fault.TakeFault.TheVariants as take_fault
-use Rattle.dm_append_label.specs.declared.fault.LabelFault.TheVariants as label_fault
 use Rattle.dm_assembly_desk.specs.declared.reply.Imported as imported_type
 use Rattle.dm_assembly_desk.specs.declared.fault.ScanFault.TheVariants as scan_fault
 use Rattle.dm_assembly_desk.specs.declared.fault.ForgetFault.TheVariants as forget_fault
@@ -234,15 +233,13 @@ abbrev pub page_reply : {A : Type 0} → PageView → Result imported_type.Impor
 page_reply page added = scan_reply (scan_of page added)
 
 -- what a scan comes to, by what its grid is read as: of the document its page alone is added
-abbrev pub scan_course : {A : Type 0} → ℕ → Documents → Result (Opened A) LabelFault → Course A Documents
-scan_course room held (Ok opened) =
-    verdict_course (page_reply opened.page) (add_verdict room held opened.page.id (lone opened.page))
-scan_course room held (Err label_fault.Memory) = LacksMemory
+abbrev pub scan_course : {A : Type 0} → ℕ → Documents → Result PageView LabelFault → Course A Documents
+scan_course room held (Ok page) = verdict_course (page_reply page) (add_verdict room held page.id (lone page))
 scan_course room held (Err fault) = Answers (ScanRefused (scan_fault.Label fault))
 
 abbrev pub ScanComes : {A : Type 0} → ℕ → GridView → Documents → Course A Documents → Type 0
 ScanComes {A} room grid held course =
-    (read : Result (Opened A) LabelFault) × LabelOpens grid read × MayBe (scan_course room held read) course
+    (read : Result PageView LabelFault) × LabelOpens grid read × MayBe (scan_course room held read) course
 
 -- ---- imports
 

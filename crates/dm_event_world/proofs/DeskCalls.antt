@@ -4,9 +4,9 @@ use Rattle.std.specs.Prelude.{is_none, if◌then◌else◌, ◌<◌, ◌+◌, co
 use Rattle.std.specs.{Cmp.nat_cmp_total, FinMap.len-insert}
 use Rattle.std.specs.FinMap as finite
 use Rattle.dm_finder_frame.specs.Frame.{GridView}
-use Rattle.dm_append_label.specs.{Opening.LabelOpens, declared.opening.Opened.Opened}
+use Rattle.dm_append_label.specs.Labels.{PageView}
+use Rattle.dm_append_label.specs.Opening.{LabelOpens}
 use Rattle.dm_append_label.specs.declared.fault.LabelFault.{LabelFault}
-use Rattle.dm_append_label.specs.declared.fault.LabelFault.TheVariants as label_fault
 use Rattle.dm_assembly_desk.specs.declared.reply.{Accepted.Accepted, Kind.TheVariants.Again}
 use Rattle.dm_assembly_desk.specs.declared.reply.Imported as imported_type
 use Rattle.dm_assembly_desk.specs.declared.{adding.AddFault.AddFault, fault.ScanFault.ScanFault}
@@ -362,7 +362,7 @@ Scanned A grid room stop view mid r = Carried scan_faults room stop view.held (S
 -- a scan
 pub scan_carried : {A : Type 0} (grid : GridView) (room : ℕ) (stop : Stop) (view : DeskView)
     (answer : Result Accepted ScanFault) (mid : DeskView) → DeskIs view room view.held view.held false →
-    AcceptsGrid A grid (desk_planned view (next_save_of stop)) answer mid →
+    AcceptsGrid grid (desk_planned view (next_save_of stop)) answer mid →
     Carried scan_faults room stop view.held (ScanComes {A = A} room grid view.held) (scan_reply answer)
     (states.Running (desk_planned mid next_save.Fine))
 scan_carried {A} grid room stop view answer mid s does = by_read does.opened does.label does.scans
@@ -371,54 +371,32 @@ scan_carried {A} grid room stop view answer mid s does = by_read does.opened doe
         ShowsDesk {A = A} room (states.Running (desk_planned mid next_save.Fine)) (Running view.held)
     again same = same_again A room view mid (next_save_of stop) (Running view.held) s s.store.ready same
 
-    refused : (f : LabelFault) → LabelOpens {A = A} grid (Err f) →
-        Answers (ScanRefused (scan_fault.Label f)) ≡ scan_course {A = A} room view.held (Err f) →
-        answer ≡ Err (scan_fault.Label f) → mid ≡ desk_planned view (next_save_of stop) → Scanned A grid room stop view mid answer
-    refused f label course_is answer_is same = subst (Scanned A grid room stop view mid) (sym answer_is) (record {
-      course = Answers (ScanRefused (scan_fault.Label f));
-      comes = (Err f, label, inl course_is);
-      tells = refl;
-      ends_so = answers_end (ShowsDesk {A = A} room) scan_faults stop (Running view.held)
-          (ScanRefused (scan_fault.Label f)) (states.Running (desk_planned mid next_save.Fine)) (again same);
-      leaves = unsaved_empty scan_faults stop (Answers (ScanRefused (scan_fault.Label f))) (Running view.held) tt;
-    })
-
-    by_read : (read : Result (Opened A) LabelFault) → LabelOpens grid read →
+    by_read : (read : Result PageView LabelFault) → LabelOpens grid read →
         Scans read (desk_planned view (next_save_of stop)) answer mid → Scanned A grid room stop view mid answer
-    by_read (Ok opened) label scans =
-        let c = carried (page_reply {A = A} opened.page) (ScanRefused scan_fault.Failed) (Err adds.Memory)
-        (Err adds.Save) opened.page.id room refl stop view mid scans.0 s
-        (add_verdict room view.held opened.page.id (lone opened.page))
-        (add_fits (page_reply {A = A} opened.page) refl refl (λ done. refl) room view.held opened.page.id
-        (lone opened.page) s.store.few)
-        (subst (λ (c : ℕ). holding.DeskCarriesOut (Err adds.Memory) (Err adds.Save) opened.page.id
-        (add_verdict c view.held opened.page.id (lone opened.page)) (desk_planned view (next_save_of stop)) scans.0 mid)
+    by_read (Ok page) label scans =
+        let c = carried (page_reply {A = A} page) (ScanRefused scan_fault.Failed) (Err adds.Memory)
+        (Err adds.Save) page.id room refl stop view mid scans.0 s
+        (add_verdict room view.held page.id (lone page))
+        (add_fits (page_reply {A = A} page) refl refl (λ done. refl) room view.held page.id
+        (lone page) s.store.few)
+        (subst (λ (c : ℕ). holding.DeskCarriesOut (Err adds.Memory) (Err adds.Save) page.id
+        (add_verdict c view.held page.id (lone page)) (desk_planned view (next_save_of stop)) scans.0 mid)
         s.capacity scans.2) in
         subst (Scanned A grid room stop view mid) (sym scans.1) (record {
           course = c.course;
-          comes = (Ok opened, label, c.comes);
+          comes = (Ok page, label, c.comes);
           tells = c.tells;
           ends_so = c.ends_so;
           leaves = c.leaves;
         })
-    by_read (Err label_fault.Memory) label scans = subst (Scanned A grid room stop view mid) (sym scans.0) (record {
-      course = LacksMemory;
-      comes = (Err label_fault.Memory, label, inl refl);
+    by_read (Err f) label scans = subst (Scanned A grid room stop view mid) (sym scans.0) (record {
+      course = Answers (ScanRefused (scan_fault.Label f));
+      comes = (Err f, label, inl refl);
       tells = refl;
-      ends_so = lacks_end (ShowsDesk {A = A} room) scan_faults stop (Running view.held)
-          (states.Running (desk_planned mid next_save.Fine)) (again scans.1);
-      leaves = unsaved_empty scan_faults stop LacksMemory (Running view.held) tt;
+      ends_so = answers_end (ShowsDesk {A = A} room) scan_faults stop (Running view.held)
+          (ScanRefused (scan_fault.Label f)) (states.Running (desk_planned mid next_save.Fine)) (again scans.1);
+      leaves = unsaved_empty scan_faults stop (Answers (ScanRefused (scan_fault.Label f))) (Running view.held) tt;
     })
-    by_read (Err (label_fault.Border wrong)) label scans =
-        refused (label_fault.Border wrong) label refl scans.0 scans.1
-    by_read (Err (label_fault.Block block)) label scans =
-        refused (label_fault.Block block) label refl scans.0 scans.1
-    by_read (Err label_fault.NotAppended) label scans = refused label_fault.NotAppended label refl scans.0 scans.1
-    by_read (Err (label_fault.Sequence word)) label scans =
-        refused (label_fault.Sequence word) label refl scans.0 scans.1
-    by_read (Err label_fault.FileId) label scans = refused label_fault.FileId label refl scans.0 scans.1
-    by_read (Err (label_fault.Content fault)) label scans =
-        refused (label_fault.Content fault) label refl scans.0 scans.1
 
 -- ---- memory that is asked for first
 
@@ -441,7 +419,7 @@ lacking {A} room exports Acts state new view is same shown s =
 
 pub scan_of_flipped : {A : Type 0} (scanned grid : GridView) (room : ℕ) (stop : Stop) (view : DeskView)
     (answer : Result Accepted ScanFault) (mid : DeskView) → scanned ≡ grid → DeskIs view room view.held view.held false →
-    AcceptsGrid A scanned (desk_planned view (next_save_of stop)) answer mid → Scanned A grid room stop view mid answer
+    AcceptsGrid scanned (desk_planned view (next_save_of stop)) answer mid → Scanned A grid room stop view mid answer
 scan_of_flipped {A} scanned grid room stop view answer mid is s does =
     scan_carried grid room stop view answer mid s
-    (subst (λ (g : GridView). AcceptsGrid A g (desk_planned view (next_save_of stop)) answer mid) is does)
+    (subst (λ (g : GridView). AcceptsGrid g (desk_planned view (next_save_of stop)) answer mid) is does)

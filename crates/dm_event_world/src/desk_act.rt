@@ -100,7 +100,7 @@ fn accept_under<A: Allocator + Copy>(
     grid: &Grid<A>,
     stop: Stop,
 ) -> Result<Accepted, ScanFault>
-    ensures { IsMadeUnder desk_planned stop (Calling (Err scan_failed) (AcceptsGrid A grid.now))
+    ensures { IsMadeUnder desk_planned stop (Calling (Err scan_failed) (AcceptsGrid grid.now))
         desk.old result desk.new }
 {
     desk.set_next(next_save(stop));

@@ -3,9 +3,8 @@ use Rattle.dm_pbm_io.specs.Image.{Picture}
 use Rattle.relay_shared.specs.Command.{EndsNote}
 use Rattle.std.specs.Prelude.{◌≡◌, ◌||◌, ℕ, List, Bool, true, false, Result, Ok, Err}
 use Rattle.std.proofs.Common.{inl, inr, refl, ap, sym, ◌∙◌}
-use Rattle.dm_append_label.specs.{declared.fault.LabelFault.LabelFault, declared.opening.Opened.Opened, Labels.PageView}
-use Rattle.dm_append_label.specs.declared.fault.LabelFault.TheVariants as labels
-use Rattle.dm_assembly_desk.specs.{Desk.lone, Desk.scan_of, Desk.Scans, Desk.scan_fault, Documents.DeskView}
+use Rattle.dm_append_label.specs.{declared.fault.LabelFault.LabelFault, Labels.PageView}
+use Rattle.dm_assembly_desk.specs.{Desk.lone, Desk.scan_of, Desk.Scans, Documents.DeskView}
 use Rattle.dm_assembly_desk.specs.declared.{adding.AddFault.AddFault, fault.ScanFault.ScanFault}
 use Rattle.dm_assembly_desk.specs.declared.adding.AddFault.TheVariants as adds
 use Rattle.dm_assembly_desk.specs.declared.fault.ScanFault.TheVariants as scans
@@ -28,17 +27,12 @@ same_save p (Err adds.Full) = refl
 same_save p (Err adds.Memory) = refl
 same_save p (Err adds.Save) = refl
 
-label_is_no_save : (fault : LabelFault) → is_save (Err (scan_fault fault)) ≡ false
-label_is_no_save labels.Memory = refl
-label_is_no_save _ = refl
-
-pub after_scan : {A : Type 0} (opened : Result (Opened A) LabelFault) (before : DeskView)
-    (reply : Result Accepted ScanFault) (after : DeskView) → before.is_failed ≡ false
-    → Scans opened before reply after → after.is_failed ≡ is_save reply
-after_scan (Ok opened) before reply after running done =
-    adds_failed opened.page.id (lone opened.page) before after running done.0 done.2
-    ∙ sym (ap is_save done.1 ∙ same_save opened.page done.0)
-after_scan (Err fault) before reply after running done = cc (ap is_save done.0, label_is_no_save fault)
+pub after_scan : (opened : Result PageView LabelFault) (before : DeskView) (reply : Result Accepted ScanFault)
+    (after : DeskView) → before.is_failed ≡ false → Scans opened before reply after → after.is_failed ≡ is_save reply
+after_scan (Ok page) before reply after running done =
+    adds_failed page.id (lone page) before after running done.0 done.2
+    ∙ sym (ap is_save done.1 ∙ same_save page done.0)
+after_scan (Err fault) before reply after running done = cc (ap is_save done.0)
 
 -- the end of a note: no more is tried than may be
 pub ends_note : {tried wanted : Bool} {p : Picture} {text ending : List ℕ} → (tried ≡ true → wanted ≡ true)

@@ -17,7 +17,7 @@ use Rattle.relay_desk_commands.specs.declared.{import.TheConstants.IMPORT_BYTES,
 use Rattle.relay_shared.specs.Command.{FileView, GivesNothing, HasInputFault, refusal_name, OnlyOutput, RefusesOnErrors, RefusesOnOutput, StreamsView, TellsAnswer, TellsBytes, TellsRefusal, ImageCommand, Said, TellsFiles, TellsInputs, progress_at, refusal_of, Tells, EndsNote, NotesImage}
 use Rattle.dm_finder_frame.specs.Frame.{GridView}
 use Rattle.dm_pbm_io.specs.{FaultNames.shape_fault_name, Image.Picture, Image.HasShape, Image.IsGridInside, Image.p4}
-use Rattle.dm_pbm_io.specs.declared.fault.ShapeFault.{ShapeFault, TheVariants.Shape, TheVariants.Memory}
+use Rattle.dm_pbm_io.specs.declared.fault.ShapeFault.TheVariants.{Shape}
 use Rattle.dm_assembly_desk.specs.declared.{fault.ScanFault.TheVariants.Label, fault.ScanFault.TheVariants.Conflict, fault.ScanFault.TheVariants.Full, reply.Kind.Kind, reply.Kind.TheVariants.Again}
 use Rattle.dm_append_label.specs.declared.fault.LabelFault.TheVariants.{Border, Block}
 use Rattle.dm_store.specs.declared.store.StoreFault.{StoreFault}
@@ -225,17 +225,9 @@ is_of_image (Label (Border wrong)) = true
 is_of_image (Label (Block block)) = true
 is_of_image fault = false
 
-abbrev pub is_of_shape : ShapeFault → Bool
-is_of_shape Shape = true
-is_of_shape Memory = false
-
 -- the grid opens as a label with this ID
 abbrev pub IsIdOn : GridView → ℕ → Type 0
 IsIdOn grid id = (page : PageView) × (corrected wrong : ℕ) × OpensAs grid page corrected wrong × (page.id ≡ id)
-
--- why a picture has no grid
-abbrev pub HasNoGrid : Picture → ShapeFault → Type 0
-HasNoGrid p fault = (fault ≡ Shape → ¬ HasShape p) × (fault ≡ Memory → HasShape p)
 
 -- the answer rests on what the desk held before, and nothing was saved
 abbrev pub is_held_again : Kind → Bool
@@ -249,33 +241,33 @@ rests_on_held (Err Full) = true
 rests_on_held (Err other) = false
 
 -- the desk would have answered so to the grid, but what it holds could not be settled
-abbrev pub IsUnsettled : Type 0 → GridView → StoreFault → DeskView → Type 0
-IsUnsettled A grid why desk = (reply : Result Accepted ScanFault) × (rests_on_held reply ≡ true)
-    × AcceptsGrid A grid desk reply desk × Settles desk.saved (Err why) desk.saved
+abbrev pub IsUnsettled : GridView → StoreFault → DeskView → Type 0
+IsUnsettled grid why desk = (reply : Result Accepted ScanFault) × (rests_on_held reply ≡ true)
+    × AcceptsGrid grid desk reply desk × Settles desk.saved (Err why) desk.saved
 
 -- What is said of a picture, and the desk and the standard error afterwards: its grid is handed to the desk, or it has
--- none; a refusal is noted. `A` is what the desk allocates in.
-pub data ScansPicture (A : Type 0) (number : ℕ) (p : Picture) (before : AtDesk) : Said → AtDesk → Type 0 where
+-- none; a refusal is noted.
+pub data ScansPicture (number : ℕ) (p : Picture) (before : AtDesk) : Said → AtDesk → Type 0 where
   accepted : {desk : DeskView} (grid : GridView) (reply : Accepted) → HasShape p → IsGridInside p grid
-      → AcceptsGrid A grid before.desk (Ok reply) desk → ScansPicture A number p before
+      → AcceptsGrid grid before.desk (Ok reply) desk → ScansPicture number p before
       (record { line = accepted_line reply.id reply.m reply.n (kind_name reply.kind); refused = false }) (record before { desk = desk })
   refused : {after : AtDesk} (grid : GridView) (fault : ScanFault) (id : Option ℕ) → HasShape p → IsGridInside p grid
-      → AcceptsGrid A grid before.desk (Err fault) after.desk → IfSome id (IsIdOn grid)
+      → AcceptsGrid grid before.desk (Err fault) after.desk → IfSome id (IsIdOn grid)
       → NotesPicture (is_of_image fault) p number id (scan_fault_name fault) before.errors after.errors
-      → ScansPicture A number p before (refusal_of (scan_fault_name fault)) after
+      → ScansPicture number p before (refusal_of (scan_fault_name fault)) after
   unsettled : {errors : OutputView} (grid : GridView) (why : StoreFault) → HasShape p → IsGridInside p grid
-      → IsUnsettled A grid why before.desk
+      → IsUnsettled grid why before.desk
       → NotesImage number None (move_fault_name (move_fault_of why)) [] before.errors errors
-      → ScansPicture A number p before (refusal_of (move_fault_name (move_fault_of why))) (record before { errors = errors })
-  no_grid : {errors : OutputView} (fault : ShapeFault) → HasNoGrid p fault
-      → NotesPicture (is_of_shape fault) p number None (shape_fault_name fault) before.errors errors
-      → ScansPicture A number p before (refusal_of (shape_fault_name fault)) (record before { errors = errors })
+      → ScansPicture number p before (refusal_of (move_fault_name (move_fault_of why))) (record before { errors = errors })
+  no_grid : {errors : OutputView} → ¬ HasShape p
+      → NotesPicture true p number None (shape_fault_name Shape) before.errors errors
+      → ScansPicture number p before (refusal_of (shape_fault_name Shape)) (record before { errors = errors })
 
 -- `scan` as a command over images: after a save that failed it reads no more
-abbrev pub scan_images : Type 0 → ImageCommand
-scan_images A = record {
+abbrev pub scan_images : ImageCommand
+scan_images = record {
   State = AtDesk;
-  Answers = λ number before p said after. ScansPicture A number p before said after;
+  Answers = λ number before p said after. ScansPicture number p before said after;
   SeesUnread = λ number before name after.
       (after.desk ≡ before.desk) × NotesImage number None name [] before.errors after.errors;
   has_ended = λ at. at.desk.is_failed;
@@ -284,15 +276,15 @@ scan_images A = record {
 -- A desk that was opened before anything was read has scanned all files, or the whole input where there is none. Or the
 -- output has refused a line, or a save has failed, and the images up to that were scanned. Either way each page that was
 -- held is held with the same bytes, and what the desk holds is in order with its set.
-abbrev pub ScansAll : Type 0 → List FileView → DeskView → StreamsView → ℕ → OnDesk → Type 0
-ScansAll A images desk old status new = (after : DeskView) × TellsInputs (scan_images A) images
+abbrev pub ScansAll : List FileView → DeskView → StreamsView → ℕ → OnDesk → Type 0
+ScansAll images desk old status new = (after : DeskView) × TellsInputs scan_images images
     (progress_at (record { desk = desk; errors = old.errors }) old.input old.output) status
     (progress_at (record { desk = after; errors = new.streams.errors }) new.streams.input new.streams.output)
     × KeepsPages desk.held after.held × DeskIsInOrder after × (new.files.set ≡ after.saved)
 
 -- how `scan` ends; if there is no desk, nothing was read
-abbrev pub EndsScan : Type 0 → ℕ → List FileView → OnDesk → ℕ → OnDesk → Type 0
-EndsScan A capacity images = EndsAtDesk RefusesOnOutput capacity (ScansAll A images)
+abbrev pub EndsScan : ℕ → List FileView → OnDesk → ℕ → OnDesk → Type 0
+EndsScan capacity images = EndsAtDesk RefusesOnOutput capacity (ScansAll images)
 
 -- ---- held
 

@@ -4,16 +4,16 @@ ghost use Rattle.std.specs.Prelude.{◌≡◌, map, false, true, IfOk, IfSome, M
 ghost use Rattle.std.specs.Io.KnownBytes.{Appends};
 ghost use Rattle.dm_assembly_desk.specs.Desk.{AcceptsGrid, Scans};
 ghost use Rattle.dm_assembly_desk.specs.Documents.{DeskView, KeepsPages, DeskIsInOrder};
-ghost use Rattle.dm_append_label.specs.declared.{fault.LabelFault.LabelFault, opening.Opened.Opened};
+ghost use Rattle.dm_append_label.specs.{Labels.PageView, declared.fault.LabelFault.LabelFault};
 ghost use Rattle.relay_streams.specs.Streams.{AppendsPart, refused_line};
 ghost use Rattle.relay_desk_commands.specs.Desks.{desk_at, EndsScan, IsIdOn, IsUnsettled, rests_on_held, scan_images};
 
 use crate::desk_opening::{OpenDesk, open_unsettled};
 use dm_append_label::LabelFault::{Block, Border};
-use dm_append_label::{FileId, open_label};
+use dm_append_label::{FileId, MOST_PAGE_BYTES, open_page};
 use dm_assembly_desk::{Accepted, Desk, Kind, MoveFault, ScanFault};
-use dm_finder_frame::Grid;
-use dm_pbm_io::{Image, ShapeFault, grid_of};
+use dm_finder_frame::LentGrid;
+use dm_pbm_io::{Image, ShapeFault, grid_in};
 use dm_store::{Store, StoreFault, StoreSet};
 use relay_shared::{
     Answered, DONE, EndedDesk, NamedFile, OnImages, REFUSED, Streams, each_input, note_ending,
@@ -24,11 +24,11 @@ use std::alloc::Allocator;
 use std::io::{Read, Write};
 
 // The ID of a label, if the grid opens as one.
-fn id_of_label<A: Allocator + Copy>(alloc: A, grid: &Grid<A>) -> Option<FileId>
+fn id_of_label(grid: &LentGrid) -> Option<FileId>
     ensures { IfSome result (IsIdOn grid.now) }
 {
-    match open_label(alloc, grid) {
-        Ok(opened) => Some(opened.page.id()),
+    match open_page(grid, &mut [0u8; MOST_PAGE_BYTES]) {
+        Ok(page) => Some(page.id),
         Err(_) => None,
     }
 }
@@ -61,7 +61,7 @@ impl<T: StoreSet, A: Allocator + Copy> Scanning<T, A> {
     // Whether an answer rests on what was held before. Then nothing was saved.
     fn rests_on_held(answer: &Result<Accepted, ScanFault>) -> bool
         ensures rests { result ≡ rests_on_held answer.now }
-        ensures nothing_saved { (opened : Result (Opened A) LabelFault) → (before after : DeskView)
+        ensures nothing_saved { (opened : Result PageView LabelFault) → (before after : DeskView)
             → Scans opened before answer.now after → result ≡ true → after ≡ before }
     {
         match answer {
@@ -72,16 +72,16 @@ impl<T: StoreSet, A: Allocator + Copy> Scanning<T, A> {
 
     // Hands a grid to the desk. An answer that rests on what was held before is given once that is settled: a page that
     // is told as held is never taken back by a stop of the machine. What a save has kept is settled by it.
-    fn accept(&mut self, grid: &Grid<A>) -> Result<Result<Accepted, ScanFault>, StoreFault>
+    fn accept(&mut self, grid: &LentGrid) -> Result<Result<Accepted, ScanFault>, StoreFault>
         requires { self.old.desk.is_failed ≡ false }
-        ensures answers { MatchResult result (λ answer. AcceptsGrid A grid.now self.old.desk answer self.new.desk)
-            (λ why. IsUnsettled A grid.now why self.old.desk × (self.new.desk ≡ self.old.desk)) }
+        ensures answers { MatchResult result (λ answer. AcceptsGrid grid.now self.old.desk answer self.new.desk)
+            (λ why. IsUnsettled grid.now why self.old.desk × (self.new.desk ≡ self.old.desk)) }
         ensures settled { IfOk result (λ answer. rests_on_held answer ≡ true → self.new.is_settled ≡ true) }
         ensures unsettled { OnErr result (self.new.is_settled ≡ self.old.is_settled) }
         ensures kept { KeepsPages self.old.desk.held self.new.desk.held }
         ensures order { DeskIsInOrder self.new.desk }
     {
-        let answer = self.desk.accept(grid);
+        let answer = self.desk.accept_lent(grid);
         if self.is_settled | !Self::rests_on_held(&answer) {
             return Ok(answer);
         }
@@ -92,7 +92,7 @@ impl<T: StoreSet, A: Allocator + Copy> Scanning<T, A> {
 }
 
 impl<T: StoreSet, A: Allocator + Copy> OnImages<A> for Scanning<T, A> {
-    ghost command = { scan_images A };
+    ghost command = { scan_images };
 
     ghost state = { λ scanning errors. record { desk = scanning.desk; errors = errors } };
 
@@ -107,14 +107,11 @@ impl<T: StoreSet, A: Allocator + Copy> OnImages<A> for Scanning<T, A> {
         number: u32,
         image: &Image<A>,
     ) -> Result<Answered, WriteFault> {
-        let grid = match grid_of(alloc, image) {
-            Ok(grid) => grid,
-            Err(shape) => {
-                let name = shape.name();
-                let ending = note_ending(alloc, image, matches!(shape, ShapeFault::Shape));
-                put_image_note(errors, number, None, name, &ending);
-                return put_refused(output, name, false);
-            }
+        let Some(grid) = grid_in(image) else {
+            let name = ShapeFault::Shape.name();
+            let ending = note_ending(alloc, image, true);
+            put_image_note(errors, number, None, name, &ending);
+            return put_refused(output, name, false);
         };
         let accepted = match self.accept(&grid) {
             Ok(accepted) => accepted,
@@ -131,7 +128,7 @@ impl<T: StoreSet, A: Allocator + Copy> OnImages<A> for Scanning<T, A> {
                 Ok(DONE)
             }
             Err(fault) => {
-                let id = id_of_label(alloc, &grid);
+                let id = id_of_label(&grid);
                 let name = fault.name();
                 let of_image = matches!(fault, ScanFault::Label(Border { .. }))
                     | matches!(fault, ScanFault::Label(Block { .. }));
@@ -183,7 +180,7 @@ pub fn scan_command<
     streams: &mut Streams<R, W, E>,
     capacity: u16,
 ) -> EndedDesk<S, T>
-    ensures { EndsScan A capacity (map F.known images.now) (desk_at (S.state store) (T.state set) streams.old)
+    ensures { EndsScan capacity (map F.known images.now) (desk_at (S.state store) (T.state set) streams.old)
         result.status (desk_at (S.state result.store) (T.state result.set) streams.new) }
 {
     let opened = match open_unsettled(alloc, store, set, &mut streams.output, capacity) {

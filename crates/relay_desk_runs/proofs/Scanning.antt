@@ -3,7 +3,6 @@ use Rattle.std.proofs.Common.{◌++◌, ℕ, Bool, List, [], ◌∷◌, Result, 
 use Rattle.std.specs.List.{AllByRecursion}
 use Rattle.dm_finder_frame.specs.Frame.{GridView}
 use Rattle.dm_append_label.specs.{Labels.PageView, Opening.LabelOpens, declared.fault.LabelFault.LabelFault}
-use Rattle.dm_append_label.specs.declared.opening.Opened.{Opened}
 use Rattle.dm_pbm_io.specs.Image.{Picture}
 use Rattle.dm_assembly_desk.specs.{Desk.Scans, Desk.lone, Desk.scan_of, Documents.DeskView}
 use Rattle.dm_assembly_desk.specs.declared.{adding.AddFault.AddFault, reply.Accepted.Accepted, reply.Imported.Imported}
@@ -45,7 +44,7 @@ page_clean : (labels : List Label) (page : PageView) → ArePrinted labels → I
 page_clean labels page printed l = subst (λ (p : PageView). IsCleanExport labels (lone_export p)) l.page_is
     (lone_clean labels l.number l.label l.there (printed l.number l.label l.there))
 
-module _ (A : Type 0) (labels : List Label) (printed : ArePrinted labels) where
+module _ (labels : List Label) (printed : ArePrinted labels) where
   -- ---- one grid
 
   -- it was taken in, or may have been
@@ -59,8 +58,8 @@ module _ (A : Type 0) (labels : List Label) (printed : ArePrinted labels) where
   may_be_in page (Err adds.Save) may = tt
   may_be_in page (Err fault) may = absurd may
 
-  near_page : (grid : GridView) (read : Opened A) → LabelOpens grid (Ok read) → IsNearPrinted labels grid →
-      IsOfLabel labels read.page
+  near_page : (grid : GridView) (read : PageView) → LabelOpens grid (Ok read) → IsNearPrinted labels grid →
+      IsOfLabel labels read
   near_page grid read label n = record {
     number = n.of_label.number;
     label = n.of_label.label;
@@ -69,12 +68,12 @@ module _ (A : Type 0) (labels : List Label) (printed : ArePrinted labels) where
   }
 
   by_read : (grid : GridView) (old new : DeskView) (answer : Result Accepted ScanFault)
-      (read : Result (Opened A) LabelFault) → LabelOpens grid read → ShowsPrinted labels old →
+      (read : Result PageView LabelFault) → LabelOpens grid read → ShowsPrinted labels old →
       (MayBeIn answer → IsNearPrinted labels grid) → Scans read old answer new → ShowsPrinted labels new
   by_read grid old new answer (Ok read) label clean near (added, is, does) =
-      adding labels old new clean printed read.page.id (lone read.page) added
-      (λ may. page_clean labels read.page printed (near_page grid read label
-      (near (subst MayBeIn (sym is) (may_be_in read.page added may))))) does
+      adding labels old new clean printed read.id (lone read) added
+      (λ may. page_clean labels read printed (near_page grid read label
+      (near (subst MayBeIn (sym is) (may_be_in read added may))))) does
   by_read grid old new answer (Err fault) label clean near (is, same) = subst (ShowsPrinted labels) (sym same) clean
 
   if_in : (grid : GridView) (fault : ScanFault) → AllByRecursion (IsNearPrinted labels) (if_saved fault grid) →
@@ -87,37 +86,37 @@ module _ (A : Type 0) (labels : List Label) (printed : ArePrinted labels) where
   abbrev Near : List GridView → Type 0
   Near grids = AllByRecursion (IsNearPrinted labels) grids
 
-  picture : {number : ℕ} {p : Picture} {before after : AtDesk} {said : Said} (scans : ScansPicture A number p before said after) →
+  picture : {number : ℕ} {p : Picture} {before after : AtDesk} {said : Said} (scans : ScansPicture number p before said after) →
       ShowsPrinted labels before.desk → Near (grids_of_picture scans) → ShowsPrinted labels after.desk
   picture {before = before} (accepted {desk} grid reply shape inside does) clean near =
       by_read grid before.desk desk (Ok reply) does.opened does.label clean (λ may. near.0) does.scans
   picture {before = before} {after = after} (refused grid fault id shape inside does is notes) clean near =
       by_read grid before.desk after.desk (Err fault) does.opened does.label clean (if_in grid fault near) does.scans
   picture (unsettled grid why shape inside is notes) clean near = clean
-  picture (no_grid fault has notes) clean near = clean
+  picture (no_grid has notes) clean near = clean
 
   come : {count : ℕ} {now after : AtDesk} {bytes : List ℕ} {rest : InputView} {said : Said} {last : Bool}
-      (comes : ImageComes (scan_images A) count now bytes rest said last after) → ShowsPrinted labels now.desk →
+      (comes : ImageComes scan_images count now bytes rest said last after) → ShowsPrinted labels now.desk →
       Near (grids_of_bytes comes) → ShowsPrinted labels after.desk
   come (image p few spells answers last_is) clean near = picture answers clean near
   come (unread fault few is sees) clean near = subst (ShowsPrinted labels) (sym sees.0) clean
   come (too_many all is) clean near = clean
 
-  before : {start now : Progress (scan_images A)} {count : ℕ} {any : Bool}
-      (all : AnswersImages (scan_images A) start count any now) → ShowsPrinted labels start.state.desk →
+  before : {start now : Progress scan_images} {count : ℕ} {any : Bool}
+      (all : AnswersImages scan_images start count any now) → ShowsPrinted labels start.state.desk →
       Near (grids_before all) → ShowsPrinted labels now.state.desk
   before none clean near = clean
   before (another one answers takes whole appends) clean near =
       let near = parts_so _ (grids_before answers) (grids_of_bytes takes.comes) near in
       come takes.comes (before answers clean near.0) near.1
 
-  at_end : {count : ℕ} {old new : Progress (scan_images A)} {said : Said}
-      (last : EndsImages (scan_images A) count old said new) → ShowsPrinted labels old.state.desk →
+  at_end : {count : ℕ} {old new : Progress scan_images} {said : Said}
+      (last : EndsImages scan_images count old said new) → ShowsPrinted labels old.state.desk →
       Near (grids_at_end last) → ShowsPrinted labels new.state.desk
   at_end (no_image few keeps ends) clean near = clean
   at_end (last_line takes) clean near = come takes.comes clean near
 
-  images : {start new : Progress (scan_images A)} {status : ℕ} (tells : TellsImages (scan_images A) start status new) →
+  images : {start new : Progress scan_images} {status : ℕ} (tells : TellsImages scan_images start status new) →
       ShowsPrinted labels start.state.desk → Near (grids_of_images tells) → ShowsPrinted labels new.state.desk
   images (ended said answers last reads appends is) clean near =
       let near = parts_so _ (grids_before answers) (grids_at_end last) near in
@@ -126,27 +125,27 @@ module _ (A : Type 0) (labels : List Label) (printed : ArePrinted labels) where
       let near = parts_so _ (grids_before answers) (grids_of_bytes takes.comes) near in
       come takes.comes (before answers clean near.0) near.1
 
-  file : (file : FileView) (old : AtImage (scan_images A)) (status : ℕ) (new : AtImage (scan_images A))
-      (tells : TellsFile (scan_images A) file old status new) → ShowsPrinted labels old.state.desk →
+  file : (file : FileView) (old : AtImage scan_images) (status : ℕ) (new : AtImage scan_images)
+      (tells : TellsFile scan_images file old status new) → ShowsPrinted labels old.state.desk →
       Near (grids_of_file file old status new tells) → ShowsPrinted labels new.state.desk
   file bytes old status new (was_opened rest tells) clean near = images tells clean near
   file bytes old status new (not_opened fault may same told) clean near =
       subst (λ (at : AtDesk). ShowsPrinted labels at.desk) (sym same) clean
 
-  inputs : {all : List FileView} {start new : Progress (scan_images A)} {status : ℕ}
-      (tells : TellsInputs (scan_images A) all start status new) → ShowsPrinted labels start.state.desk →
+  inputs : {all : List FileView} {start new : Progress scan_images} {status : ℕ}
+      (tells : TellsInputs scan_images all start status new) → ShowsPrinted labels start.state.desk →
       Near (grids_of_inputs tells) → ShowsPrinted labels new.state.desk
   inputs (of_input tells) clean near = images tells clean near
   inputs (of_files same tells) clean near = each_file_keeps grids_of_file
-      (λ (at : AtImage (scan_images A)). ShowsPrinted labels at.state.desk) (IsNearPrinted labels) file tells clean near
+      (λ (at : AtImage scan_images). ShowsPrinted labels at.state.desk) (IsNearPrinted labels) file tells clean near
 
 -- ---- the command
 
-pub each_scan_keeps : (A : Type 0) → EachScanKeeps A
-each_scan_keeps A labels capacity images old status new printed clean how near = by_desk how near
+pub each_scan_keeps : EachScanKeeps
+each_scan_keeps labels capacity images old status new printed clean how near = by_desk how near
   where
-    by_desk : (ends : EndsScan A capacity images old status new) →
+    by_desk : (ends : EndsScan capacity images old status new) →
         AllByRecursion (IsNearPrinted labels) (grids_scanned ends) → HasPrinted labels new
     by_desk (no_desk name has refuses) near = unopened_keeps labels capacity old new clean name has
     by_desk (opened desk opens rest) near = opened_keeps labels capacity old new clean desk opens
-        (λ o. subst (HoldsPrinted labels) (sym rest.4) (inputs A labels printed rest.1 o.shows near).set)
+        (λ o. subst (HoldsPrinted labels) (sym rest.4) (inputs labels printed rest.1 o.shows near).set)

@@ -37,46 +37,46 @@ abbrev pub if_saved : ScanFault → GridView → List GridView
 if_saved scans.Save grid = grid ∷ []
 if_saved fault grid = []
 
-abbrev pub grids_of_picture : {A : Type 0} {number : ℕ} {p : Picture} {before after : AtDesk} {said : Said} →
-    ScansPicture A number p before said after → List GridView
+abbrev pub grids_of_picture : {number : ℕ} {p : Picture} {before after : AtDesk} {said : Said} →
+    ScansPicture number p before said after → List GridView
 grids_of_picture (accepted grid reply shape inside accepts) = grid ∷ []
 grids_of_picture (refused grid fault id shape inside accepts is notes) = if_saved fault grid
 grids_of_picture (unsettled grid why shape inside is notes) = []
-grids_of_picture (no_grid fault has notes) = []
+grids_of_picture (no_grid has notes) = []
 
-abbrev pub grids_of_bytes : {A : Type 0} {count : ℕ} {now after : AtDesk} {bytes : List ℕ} {rest : InputView} {said : Said}
-    {last : Bool} → ImageComes (scan_images A) count now bytes rest said last after → List GridView
+abbrev pub grids_of_bytes : {count : ℕ} {now after : AtDesk} {bytes : List ℕ} {rest : InputView} {said : Said}
+    {last : Bool} → ImageComes scan_images count now bytes rest said last after → List GridView
 grids_of_bytes (image p few spells answers is) = grids_of_picture answers
 grids_of_bytes (unread fault few is sees) = []
 grids_of_bytes (too_many all is) = []
 
-abbrev pub grids_before : {A : Type 0} {start now : Progress (scan_images A)} {count : ℕ} {any : Bool} →
-    AnswersImages (scan_images A) start count any now → List GridView
+abbrev pub grids_before : {start now : Progress scan_images} {count : ℕ} {any : Bool} →
+    AnswersImages scan_images start count any now → List GridView
 grids_before none = []
 grids_before (another one answers takes whole appends) = grids_before answers ++ grids_of_bytes takes.comes
 
-abbrev pub grids_at_end : {A : Type 0} {count : ℕ} {old new : Progress (scan_images A)} {said : Said} →
-    EndsImages (scan_images A) count old said new → List GridView
+abbrev pub grids_at_end : {count : ℕ} {old new : Progress scan_images} {said : Said} →
+    EndsImages scan_images count old said new → List GridView
 grids_at_end (no_image few keeps at_end) = []
 grids_at_end (last_line takes) = grids_of_bytes takes.comes
 
-abbrev pub grids_of_images : {A : Type 0} {start new : Progress (scan_images A)} {status : ℕ} →
-    TellsImages (scan_images A) start status new → List GridView
+abbrev pub grids_of_images : {start new : Progress scan_images} {status : ℕ} →
+    TellsImages scan_images start status new → List GridView
 grids_of_images (ended said answers last reads appends is) = grids_before answers ++ grids_at_end last
 grids_of_images (stopped said answers takes failed part is) = grids_before answers ++ grids_of_bytes takes.comes
 
-abbrev pub grids_of_file : {A : Type 0} (file : FileView) (old : AtImage (scan_images A)) (status : ℕ)
-    (new : AtImage (scan_images A)) → TellsFile (scan_images A) file old status new → List GridView
+abbrev pub grids_of_file : (file : FileView) (old : AtImage scan_images) (status : ℕ)
+    (new : AtImage scan_images) → TellsFile scan_images file old status new → List GridView
 grids_of_file file old status new (was_opened rest tells) = grids_of_images tells
 grids_of_file file old status new (not_opened fault may same told) = []
 
-abbrev pub grids_of_inputs : {A : Type 0} {files : List FileView} {start new : Progress (scan_images A)}
-    {status : ℕ} → TellsInputs (scan_images A) files start status new → List GridView
+abbrev pub grids_of_inputs : {files : List FileView} {start new : Progress scan_images}
+    {status : ℕ} → TellsInputs scan_images files start status new → List GridView
 grids_of_inputs (of_input tells) = grids_of_images tells
 grids_of_inputs (of_files same tells) = of_each_file grids_of_file tells
 
-abbrev pub grids_scanned : {A : Type 0} {capacity : ℕ} {images : List FileView} {old new : OnDesk} {status : ℕ} →
-    EndsScan A capacity images old status new → List GridView
+abbrev pub grids_scanned : {capacity : ℕ} {images : List FileView} {old new : OnDesk} {status : ℕ} →
+    EndsScan capacity images old status new → List GridView
 grids_scanned (no_desk name has refuses) = []
 grids_scanned (opened desk opens rest) = grids_of_inputs rest.1
 
@@ -176,9 +176,9 @@ pub data GivesPrinted (labels : List Label) (text : List ℕ) (old : OnDesk) (st
 
 -- ---- laws
 
-abbrev pub EachScanKeeps : Type 0 → Type 0
-EachScanKeeps A = (labels : List Label) (capacity : ℕ) (images : List FileView) (old : OnDesk) (status : ℕ)
-    (new : OnDesk) → ArePrinted labels → HasPrinted labels old → (ends : EndsScan A capacity images old status new) →
+abbrev pub EachScanKeeps : Type 0
+EachScanKeeps = (labels : List Label) (capacity : ℕ) (images : List FileView) (old : OnDesk) (status : ℕ)
+    (new : OnDesk) → ArePrinted labels → HasPrinted labels old → (ends : EndsScan capacity images old status new) →
     AllByRecursion (IsNearPrinted labels) (grids_scanned ends) → HasPrinted labels new
 
 abbrev pub EachImportKeeps : Type 0

@@ -2,11 +2,9 @@
 
 ghost use Rattle.relay_desk_runs.specs.Answered.{EachCopyIsPrinted, EachDeliverIsPrinted, EachExportIsPrinted, EachForgetKeeps, EachImportKeeps, EachScanKeeps};
 
-use std::alloc::Allocator;
-
 /// A scan keeps it so, if each grid that it took in is near a label of such a page.
-pub fn scans<A: Allocator>()
-    ensures { EachScanKeeps A }
+pub fn scans()
+    ensures { EachScanKeeps }
 {}
 
 /// An import keeps it so, if each file that it took in has such pages alone.

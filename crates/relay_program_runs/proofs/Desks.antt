@@ -126,7 +126,7 @@ module _ (A : Type 0) (labels : List Label) (printed : ArePrinted labels) (one :
       AllByRecursion (IsPrintedFile labels) (passed_by A command inputs before status after does).imported →
       Clean labels command before status after (passed_by A command inputs before status after does)
   effect (Scan file capacity) does near sent = record {
-    set = (each_scan_keeps A labels capacity inputs before status after printed clean does near).set;
+    set = (each_scan_keeps labels capacity inputs before status after printed clean does near).set;
     exported = tt;
     copied = tt;
     delivered = tt;

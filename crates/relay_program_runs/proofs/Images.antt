@@ -121,7 +121,7 @@ consumed_known None b x bytes is consumed = cc (is)
 consumed_known (Some z) None x bytes is consumed = absurd consumed
 consumed_known (Some z) (Some y) x bytes is consumed = (y, refl, (let same : z ≡ x = cc (is) in sym same ∙ consumed))
 
-module _ (A : Type 0) (Q : GridView → Type 0) where
+module _ (Q : GridView → Type 0) where
   -- a whole grid of side 12 that is so
   pub record Is12 (g : GridView) : Type 0 where
     pub size : g.size ≡ Side12
@@ -140,7 +140,7 @@ module _ (A : Type 0) (Q : GridView → Type 0) where
       subst Q (sym (inside_alone g.modules grid (subst IsWholeGrid (sym own) is.whole) here ∙ own)) is.so
 
   picture_so : (g : GridView) (p : Picture) → Is12 g → image_with_quiet_zone g false ≡ p → {number : ℕ}
-      {before after : AtDesk} {said : Said} (scans : ScansPicture A number p before said after) →
+      {before after : AtDesk} {said : Said} (scans : ScansPicture number p before said after) →
       AllByRecursion Q (grids_of_picture scans)
   picture_so g p is same (accepted grid reply shape inside accepts) = (inside_so g grid p is same inside, tt)
   picture_so g p is same (refused grid fault id shape inside accepts is_id notes) =
@@ -150,7 +150,7 @@ module _ (A : Type 0) (Q : GridView → Type 0) where
       by_fault scan_fault.Save so = (so, tt)
       by_fault other so = tt
   picture_so g p is same (unsettled grid why shape inside unsettled_is notes) = tt
-  picture_so g p is same (no_grid fault has notes) = tt
+  picture_so g p is same (no_grid has notes) = tt
 
   -- what comes of the images of these labels
   record Came (last : Bool) (grids : List GridView) (y : List ℕ) : Type 0 where
@@ -158,7 +158,7 @@ module _ (A : Type 0) (Q : GridView → Type 0) where
     goes_on : last ≡ false → (more : List GridView) × AllByRecursion Is12 more × (y ≡ images_of more)
 
   come : {count : ℕ} {now after : AtDesk} {bytes : List ℕ} {input : InputView} {said : Said} {last : Bool}
-      (comes : ImageComes (scan_images A) count now bytes input said last after) (grids : List GridView) (y : List ℕ) →
+      (comes : ImageComes scan_images count now bytes input said last after) (grids : List GridView) (y : List ℕ) →
       AllByRecursion Is12 grids → images_of grids ≡ bytes ++ y → Came last (grids_of_bytes comes) y
   come {bytes = bytes} (image p few spells answers last_is) [] y are is = absurd (no_bytes bytes y p spells is)
   come {bytes = bytes} (image p few spells answers last_is) (g ∷ grids) y are is =
@@ -175,24 +175,24 @@ module _ (A : Type 0) (Q : GridView → Type 0) where
   both [] ys a b = b
   both (x ∷ xs) ys a b = (a.0, both xs ys a.1 b)
 
-  module _ (start : Progress (scan_images A)) (grids : List GridView) (are : AllByRecursion Is12 grids)
+  module _ (start : Progress scan_images) (grids : List GridView) (are : AllByRecursion Is12 grids)
       (known : start.input.remaining ≡ Some (images_of grids)) where
     -- so far
-    record Read (taken : List GridView) (now : Progress (scan_images A)) : Type 0 where
+    record Read (taken : List GridView) (now : Progress scan_images) : Type 0 where
       so : AllByRecursion Q taken
       more : List GridView
       are_more : AllByRecursion Is12 more
       left : now.input.remaining ≡ Some (images_of more)
 
-    takes_so : {count : ℕ} {old new : Progress (scan_images A)} {said : Said} {last : Bool} (taken : List GridView) →
-        Read taken old → (takes : TakesImage (scan_images A) count old said last new) →
+    takes_so : {count : ℕ} {old new : Progress scan_images} {said : Said} {last : Bool} (taken : List GridView) →
+        Read taken old → (takes : TakesImage scan_images count old said last new) →
         (y : List ℕ) × (new.input.remaining ≡ Some y) × Came last (grids_of_bytes takes.comes) y
     takes_so {old = old} {new = new} taken r takes =
         let c = consumed_known old.input.remaining new.input.remaining (images_of r.more) takes.bytes r.left takes.consumed in
         (c.0, c.1, come takes.comes r.more c.0 r.are_more c.2)
 
-    read_before : {count : ℕ} {any : Bool} {now : Progress (scan_images A)}
-        (all : AnswersImages (scan_images A) start count any now) → Read (grids_before all) now
+    read_before : {count : ℕ} {any : Bool} {now : Progress scan_images}
+        (all : AnswersImages scan_images start count any now) → Read (grids_before all) now
     read_before none = record { so = tt; more = grids; are_more = are; left = known }
     read_before (another one answers takes whole appends) =
         let r = read_before answers in
@@ -205,12 +205,12 @@ module _ (A : Type 0) (Q : GridView → Type 0) where
           left = t.1 ∙ ap Some on.2;
         }
 
-    at_end : {count : ℕ} {old new : Progress (scan_images A)} {said : Said} (taken : List GridView) → Read taken old →
-        (last : EndsImages (scan_images A) count old said new) → AllByRecursion Q (grids_at_end last)
+    at_end : {count : ℕ} {old new : Progress scan_images} {said : Said} (taken : List GridView) → Read taken old →
+        (last : EndsImages scan_images count old said new) → AllByRecursion Q (grids_at_end last)
     at_end taken r (no_image few keeps ends) = tt
     at_end taken r (last_line takes) = (takes_so taken r takes).2.so
 
-    read_all : {new : Progress (scan_images A)} {status : ℕ} (tells : TellsImages (scan_images A) start status new) →
+    read_all : {new : Progress scan_images} {status : ℕ} (tells : TellsImages scan_images start status new) →
         AllByRecursion Q (grids_of_images tells)
     read_all (ended said answers last reads appends is) =
         let r = read_before answers in
@@ -219,12 +219,12 @@ module _ (A : Type 0) (Q : GridView → Type 0) where
         let r = read_before answers in
         both (grids_before answers) (grids_of_bytes takes.comes) r.so (takes_so (grids_before answers) r takes).2.so
 
-    read_inputs : {new : Progress (scan_images A)} {status : ℕ}
-        (tells : TellsInputs (scan_images A) [] start status new) → AllByRecursion Q (grids_of_inputs tells)
+    read_inputs : {new : Progress scan_images} {status : ℕ}
+        (tells : TellsInputs scan_images [] start status new) → AllByRecursion Q (grids_of_inputs tells)
     read_inputs (of_input tells) = read_all tells
 
   -- a scan of the images of these labels takes in these alone
-  pub scanned_so : (capacity : ℕ) (old : OnDesk) (status : ℕ) (new : OnDesk) (ends : EndsScan A capacity [] old status new)
+  pub scanned_so : (capacity : ℕ) (old : OnDesk) (status : ℕ) (new : OnDesk) (ends : EndsScan capacity [] old status new)
       (grids : List GridView) → AllByRecursion Is12 grids → old.streams.input.remaining ≡ Some (images_of grids) →
       AllByRecursion Q (grids_scanned ends)
   scanned_so capacity old status new (no_desk name has refuses) grids are known = tt

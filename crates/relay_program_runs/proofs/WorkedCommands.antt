@@ -87,7 +87,7 @@ module _ {A : Type 0} {f1 f2 f3 f4 f5 f6 f7 f8 f9 f10 f11 f12 f13 f14 t i9 i10 i
   abbrev IsAmong : List ℕ → Type 0
   IsAmong path = IsTrue true
 
-  printed : PrintedWell A a2.joint (passed (ran r5)).printed o5
+  printed : PrintedWell a2.joint (passed (ran r5)).printed o5
   printed = print_done r5
 
   abbrev before_scan : List (Ran A)
@@ -97,10 +97,10 @@ module _ {A : Type 0} {f1 f2 f3 f4 f5 f6 f7 f8 f9 f10 f11 f12 f13 f14 t i9 i10 i
       (grids_scanned r8.does)
   scans = all_so (IsIn printed.it.labels) _ (grids_scanned r8.does) (λ grid is_in. near_one IsAmong before_scan 4 refl
       (inl (subst (λ (o : Option JobView). IsSomeAnd o (λ job. IsIn job.labels grid)) (sym printed.job_is) is_in)))
-      (scanned_so A (IsIn printed.it.labels) 10 (given no_files o5) 0 r8.after r8.does printed.it.labels printed.labels
+      (scanned_so (IsIn printed.it.labels) 10 (given no_files o5) 0 r8.after r8.does printed.it.labels printed.labels
       (ap Some printed.written))
 
-  copied : (grid : GridView) × ((passed (ran r11)).copied ≡ Some grid) × Is12 A (λ g. g ≡ grid) grid
+  copied : (grid : GridView) × ((passed (ran r11)).copied ≡ Some grid) × Is12 (λ g. g ≡ grid) grid
       × (o11 ≡ images_of (grid ∷ []))
   copied = copy_done r11
 
@@ -111,7 +111,7 @@ module _ {A : Type 0} {f1 f2 f3 f4 f5 f6 f7 f8 f9 f10 f11 f12 f13 f14 t i9 i10 i
       (grids_scanned r12.does)
   scans_copy = all_so (λ g. g ≡ copied.0) _ (grids_scanned r12.does)
       (λ g same. near_one IsAmong before_copy 10 refl (inr (copied.1 ∙ ap Some (sym same), refl)))
-      (scanned_so A (λ g. g ≡ copied.0) 10 (given no_files o11) 0 r12.after r12.does (copied.0 ∷ []) (copied.2, tt)
+      (scanned_so (λ g. g ≡ copied.0) 10 (given no_files o11) 0 r12.after r12.does (copied.0 ∷ []) (copied.2, tt)
       (ap Some copied.3))
 
   imports : AllByRecursion (λ bytes. SomeRan (λ other. LeavesFile bytes other × IsTrue true)

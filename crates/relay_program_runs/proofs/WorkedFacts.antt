@@ -108,28 +108,28 @@ abbrev pub IsIn : List GridView → GridView → Type 0
 IsIn labels grid = (i : ℕ) × (slice_get labels i ≡ Some grid)
 
 -- each label of the job is of the size, and so
-labels_12 : (A : Type 0) (Q : GridView → Type 0) (size : Size) (scheme : Scheme) (id n m : ℕ) (parts : List (List ℕ))
+labels_12 : (Q : GridView → Type 0) (size : Size) (scheme : Scheme) (id n m : ℕ) (parts : List (List ℕ))
     (labels : List GridView) → ((grid : GridView) → IsIn labels grid → Q grid) → size ≡ Side12 →
-    AreLabels size scheme id n m parts labels → AllByRecursion (Is12 A Q) labels
-labels_12 A Q size scheme id n m [] [] so is are = tt
-labels_12 A Q size scheme id n m [] (grid ∷ labels) so is are = absurd are
-labels_12 A Q size scheme id n m (part ∷ parts) [] so is are = absurd are
-labels_12 A Q size scheme id n m (part ∷ parts) (grid ∷ labels) so is are = (
+    AreLabels size scheme id n m parts labels → AllByRecursion (Is12 Q) labels
+labels_12 Q size scheme id n m [] [] so is are = tt
+labels_12 Q size scheme id n m [] (grid ∷ labels) so is are = absurd are
+labels_12 Q size scheme id n m (part ∷ parts) [] so is are = absurd are
+labels_12 Q size scheme id n m (part ∷ parts) (grid ∷ labels) so is are = (
   record {
     size = are.0.size_is ∙ is;
     whole = subst IsWholeGrid (sym are.0.carries.drawn) (grid_is_whole grid.size _);
     so = so grid (0, refl);
   },
-  labels_12 A Q size scheme id n (m + 1) parts labels (λ other at. so other (suc at.0, at.1)) is are.1,
+  labels_12 Q size scheme id n (m + 1) parts labels (λ other at. so other (suc at.0, at.1)) is are.1,
 )
 
 -- a print that ended well has a job, of the least ID that was free, and its labels are all that was written
-pub record PrintedWell (A : Type 0) (saved : Saved) (job : Option JobView) (out : List ℕ) : Type 0 where
+pub record PrintedWell (saved : Saved) (job : Option JobView) (out : List ℕ) : Type 0 where
   pub it : JobView
   pub job_is : job ≡ Some it
   pub id_is : (ledger : LedgerView) → KeepsLedger saved (Running ledger) → it.id ≡ least ledger.free
   pub written : out ≡ images_of it.labels
-  pub labels : AllByRecursion (Is12 A (IsIn it.labels)) it.labels
+  pub labels : AllByRecursion (Is12 (IsIn it.labels)) it.labels
 
 made_job : (ledger : LedgerView) (size : Size) (scheme : Scheme) (document : List ℕ) (cutting : Option (List ℕ))
     (job : JobView) → IsMade ledger size scheme document cutting job →
@@ -148,13 +148,13 @@ unfolding row
 is_12 size is = is
 
 pub print_done : {A : Type 0} {f : Bor (List ℕ)} {number : ℕ} {x y : DeskFiles} {input o : List ℕ}
-    (r : IsDone A (Print f number (OfSide 12) Ascii) x input 0 y o) → PrintedWell A x.joint (passed (ran r)).printed o
+    (r : IsDone A (Print f number (OfSide 12) Ascii) x input 0 y o) → PrintedWell x.joint (passed (ran r)).printed o
 print_done {A} {number = number} {x} {input = input} {o} r =
     by_ends (ledger_at r.after.files.joint r.after.streams) r.output_is r.does.0.0
   where
     by_ends : (new : OnLedger) → new.streams.output.contents ≡ Some o →
         (ends : EndsPrint number (OfSide 12) Ascii (ledger_at x.joint (streams_of_input input)) 0 new) →
-        PrintedWell A x.joint (job_ended ends) o
+        PrintedWell x.joint (job_ended ends) o
     by_ends new some (no_side side same told) = absurd (refused_one told.0)
     by_ends new some (not_read fault rest side failed same told) = absurd (refused_one told.0)
     by_ends new some (too_long document rest side is_read long same told) = absurd (refused_one told.0)
@@ -173,7 +173,7 @@ print_done {A} {number = number} {x} {input = input} {o} r =
               ∙ ap (λ (v : PrinterView). least v.ledger.free) (open_as x.joint (Running ledger) number before keeps opens).1;
           written = all_out new.streams.output.contents o (images_of job.labels) some
               (images_out job.labels _ (record (streams_of_input input) { input = rest }) new.streams told.0);
-          labels = labels_12 A (IsIn job.labels) size Ascii _ _ 1 made.0 job.labels (λ grid at. at)
+          labels = labels_12 (IsIn job.labels) size Ascii _ _ 1 made.0 job.labels (λ grid at. at)
               (same_size size Side12 (is_12 size chosen.suits)) made.1.labels;
         }
 
@@ -263,12 +263,12 @@ export_done {i = i} {x} {input = input} {o} r = by_ends r.after r.output_is r.do
 -- a copy that ended well wrote the image of its grid
 pub copy_done : {A : Type 0} {f i : Bor (List ℕ)} {page : ℕ} {x y : DeskFiles} {input o : List ℕ}
     (r : IsDone A (Copy f i page 12 Ascii) x input 0 y o) → (grid : GridView) × ((passed (ran r)).copied ≡ Some grid)
-    × Is12 A (λ g. g ≡ grid) grid × (o ≡ images_of (grid ∷ []))
+    × Is12 (λ g. g ≡ grid) grid × (o ≡ images_of (grid ∷ []))
 copy_done {A} {i = i} {page} {x} {input = input} {o} r = by_ends r.after r.output_is r.does
   where
     by_ends : (new : OnDesk) → new.streams.output.contents ≡ Some o →
         (ends : EndsCopy (record { id = i; page = page; side = 12; scheme = Ascii }) (given x input) 0 new) →
-        (grid : GridView) × (label_copied ends ≡ Some grid) × Is12 A (λ g. g ≡ grid) grid × (o ≡ images_of (grid ∷ []))
+        (grid : GridView) × (label_copied ends ≡ Some grid) × Is12 (λ g. g ≡ grid) grid × (o ≡ images_of (grid ∷ []))
     by_ends new some (no_id isnt same refuses) = absurd (refused_one refuses.0)
     by_ends new some (of_id id text_is (no_size isnt same refuses)) = absurd (refused_one refuses.0)
     by_ends new some (of_id id text_is (of_size size is (no_desk name has refuses))) = absurd (refused_one refuses.0)

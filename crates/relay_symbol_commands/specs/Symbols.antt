@@ -1,4 +1,4 @@
--- The names of refusals: each is that of its innermost fault.
+-- What `words`, `draw` and `read` write, and the names of their refusals: each is that of its innermost fault.
 use Rattle.std.specs.Prelude.{ℕ, ◌⊎◌, List, ◌≡◌, ◌<◌, ◌≤◌, true, [], ◌∷◌, ◌++◌, Bool, codes, ◌≢◌, false, Err}
 use Rattle.dm_append_label.specs.Labels.{PageView, id_words, head_at}
 use Rattle.dm_append_label.specs.Opening.{label_fault_name, symbol_fault, OpensAs, ReadsPage}
@@ -28,7 +28,6 @@ use Rattle.dm_pbm_io.specs.declared.fault.ShapeFault.TheVariants as shape_faults
 use Rattle.relay_shared.specs.declared.command.Refusal.TheVariants as refusals
 use Rattle.relay_symbol_commands.specs.declared.refusal.ReadRefusal.TheVariants as read_refusals
 use Rattle.relay_symbol_commands.specs.declared.refusal.SymbolRefusal.TheVariants as symbol_refusals
-use Rattle.dm_encodation.specs.declared.fault.DecodeFault.TheVariants as text_faults
 
 -- ---- refusals
 
@@ -129,14 +128,13 @@ pub data HasLine (grid : GridView) : List ℕ → Type 0 where
       → HasLine grid (symbol_line (side grid.size) (differ (words_of_grid grid) words) (wrong_frame_modules grid) bytes)
 
 -- Why a grid has no line: its codewords can't be corrected; they have the head of a label and no page; they have no
--- head and no text; or memory was refused for the text or the line that it has.
+-- head and no text; or memory was refused for the line that it has.
 pub data RefusesGrid (grid : GridView) : ReadRefusal → Type 0 where
   symbol : (fault : SymbolFault) → CorrectsGrid grid (Err fault) → RefusesGrid grid (Label (symbol_fault fault))
   page : (words : List ℕ) (fault : LabelFault) → IsReadAs grid words → fault ≢ NotAppended
       → ReadsPage (data_of grid.size words) (Err fault) → RefusesGrid grid (Label fault)
   text : (words : List ℕ) (fault : DecodeFault) → HasNoHead grid words
-      → (fault ≢ text_faults.Memory → StuckOnly 1 (data_of grid.size words) fault) → (fault ≡ text_faults.Memory
-      → (bytes : List ℕ) × ReadsOnly 1 (data_of grid.size words) bytes) → RefusesGrid grid (Text fault)
+      → StuckOnly 1 (data_of grid.size words) fault → RefusesGrid grid (Text fault)
   memory : (line : List ℕ) → HasLine grid line → RefusesGrid grid Memory
 
 -- ---- one image

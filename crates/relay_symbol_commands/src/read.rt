@@ -1,16 +1,17 @@
 //! `relay read`: what the symbols in images carry.
 
-ghost use Rattle.std.specs.Prelude.{◌≡◌, ◌++◌, map, string_bytes, IfOk, OnOk, false, MatchResult};
+ghost use Rattle.std.specs.Prelude.{◌≡◌, ◌≤◌, ◌++◌, length, map, string_bytes, IfOk, OnOk, false, MatchResult};
 ghost use Rattle.relay_shared.specs.Command.{NotesChange};
 ghost use Rattle.relay_shared.specs.Lines.{hexadecimal};
 ghost use Rattle.relay_symbol_commands.specs.Symbols.{label_line, line_tail, HasLine, HasNoHead, HasPictureLine, RefusesGrid, RefusesPicture, EndsRead, is_image_refusal, read_images, read_refusal_name};
 ghost use Rattle.dm_finder_frame.specs.Frame.{GridView};
+ghost use Rattle.dm_append_label.specs.Opening.{page_at_front};
 ghost use Rattle.dm_pbm_io.specs.Image.{picture};
 ghost use Rattle.dm_symbol.specs.Correction.{IsCorrectedAs};
 
 use crate::refusal::ReadRefusal;
-use dm_append_label::{LabelFault, Page, page_of};
-use dm_encodation::decode;
+use dm_append_label::{FoundPage, LabelFault, MOST_PAGE_BYTES, find_page};
+use dm_encodation::decode_to_slice;
 use dm_finder_frame::LentGrid;
 use dm_pbm_io::{Image, grid_in};
 use dm_symbol::{Corrected, correct_grid};
@@ -21,6 +22,9 @@ use relay_streams::{Output, WriteFault};
 use std::alloc::{AllocError, Allocator};
 use std::fmt::Write as _;
 use std::io::{Read, Write};
+
+// The most bytes of a text: 1,304 pairs of digits in the greatest symbol.
+const MOST_TEXT_BYTES: usize = 2608;
 
 fn hexadecimal_of<A: Allocator + Copy>(alloc: A, bytes: &[u8]) -> Result<String<A>, AllocError>
     ensures { IfOk result (λ text. string_bytes text ≡ hexadecimal bytes.now) }
@@ -51,19 +55,21 @@ fn push_line_end<A: Allocator + Copy>(
 
 fn line_of_label<A: Allocator + Copy>(
     alloc: A,
-    page: &Page<A>,
+    page: FoundPage,
+    room: &[u8],
     symbol: &Corrected,
 ) -> Result<String<A>, AllocError>
+    requires { page.count ≤ length room.now }
     ensures { IfOk result (λ line.
-        string_bytes line ≡ label_line page.now symbol.now.corrected symbol.now.wrong) }
+        string_bytes line ≡ label_line (page_at_front room.now page) symbol.now.corrected symbol.now.wrong) }
 {
-    let (first, second) = page.id().words();
+    let FoundPage { id, m, n, count } = page;
+    let (first, second) = id.words();
     let id = hex::encode(alloc, [first, second])?;
-    let (m, n) = (page.m(), page.n());
     let (corrected, wrong) = (symbol.corrected(), symbol.wrong());
     let mut line = String::new(alloc);
     write!(line, "label {id} {m}/{n}")?;
-    push_line_end(alloc, &mut line, corrected, wrong, page.bytes())?;
+    push_line_end(alloc, &mut line, corrected, wrong, &room[..count])?;
     Ok(line)
 }
 
@@ -75,15 +81,16 @@ fn line_of_no_label<A: Allocator + Copy>(
     ensures { (grid : GridView) → IsCorrectedAs grid symbol.now → HasNoHead grid symbol.now.words
         → MatchResult result (λ line. HasLine grid (string_bytes line)) (RefusesGrid grid) }
 {
-    let bytes = match decode(alloc, symbol.data(), 0) {
-        Ok(bytes) => bytes,
+    let mut room = [0u8; MOST_TEXT_BYTES];
+    let count = match decode_to_slice(symbol.data(), 0, &mut room) {
+        Ok(count) => count,
         Err(fault) => return Err(ReadRefusal::Text(fault)),
     };
     let (corrected, wrong) = (symbol.corrected(), symbol.wrong());
     let side = symbol.size().side();
     let mut line = String::new(alloc);
     write!(line, "symbol {side}")?;
-    push_line_end(alloc, &mut line, corrected, wrong, &bytes)?;
+    push_line_end(alloc, &mut line, corrected, wrong, &room[..count])?;
     Ok(line)
 }
 
@@ -95,8 +102,9 @@ fn line_of_grid<A: Allocator + Copy>(alloc: A, grid: &LentGrid) -> Result<String
         Ok(symbol) => symbol,
         Err(fault) => return Err(ReadRefusal::Label(LabelFault::from(fault))),
     };
-    match page_of(alloc, &symbol) {
-        Ok(page) => Ok(line_of_label(alloc, &page, &symbol)?),
+    let mut room = [0u8; MOST_PAGE_BYTES];
+    match find_page(&symbol, &mut room) {
+        Ok(page) => Ok(line_of_label(alloc, page, &room, &symbol)?),
         Err(LabelFault::NotAppended) => line_of_no_label(alloc, &symbol),
         Err(fault) => Err(ReadRefusal::Label(fault)),
     }

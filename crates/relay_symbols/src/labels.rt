@@ -7,7 +7,7 @@ ghost use Rattle.relay_symbols.specs.declared.refusal.Refusal.TheVariants.{NoPag
 
 use crate::images::{grid_from, grid_image};
 use crate::refusal::{Refusal, answer};
-use dm_append_label::{FileId, LabelFault, Page, SealFault, open_label, seal};
+use dm_append_label::{FileId, LabelFault, MOST_PAGE_BYTES, Page, SealFault, open_page, seal};
 use dm_encodation::Scheme;
 use dm_size::Size;
 use std::alloc::{Allocator, Global};
@@ -78,11 +78,11 @@ fn page_bytes<A: Allocator + Copy>(alloc: A, image: &[u8]) -> Result<Vec<u8, A>,
         (λ refusal. BeginsWithPage image.now (Err refusal)) }
 {
     let grid = grid_from(alloc, image)?;
-    match open_label(alloc, &grid) {
-        Ok(opened) => Ok(opened.page.into_bytes()),
+    let mut room = [0u8; MOST_PAGE_BYTES];
+    match open_page(&grid.lend(), &mut room) {
+        Ok(page) => Ok(room[..page.count].to_vec(alloc)?),
         Err(LabelFault::Border { .. } | LabelFault::Block { .. }) => Err(Refusal::TooManyWrong),
         Err(LabelFault::Content(_)) => Err(Refusal::NoText),
-        Err(LabelFault::Memory) => Err(Refusal::NoMemory),
         Err(_) => Err(Refusal::NoLabel),
     }
 }

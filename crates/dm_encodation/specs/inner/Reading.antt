@@ -1,5 +1,5 @@
 -- Reading codeword by codeword, with a mode, as the code does. Grammar.antt says what is read; lemmas join the two.
-use Rattle.std.specs.Prelude.{ℕ, zero, suc, ◌+◌, ◌-◌, ◌*◌, ◌/◌, ◌%◌, List, [], ◌∷◌, ◌++◌, Bool, true, false, ◌&&◌, not, Option, Some, None, Result, Ok, Err, ◌==◌, nat_lt, nat_le, if◌then◌else◌, ◌≡◌, ◌<◌, ◌≤◌}
+use Rattle.std.specs.Prelude.{ℕ, zero, suc, ◌+◌, ◌-◌, ◌*◌, ◌/◌, ◌%◌, List, [], ◌∷◌, ◌++◌, Bool, true, false, ◌&&◌, not, Option, Some, None, Result, Ok, Err, ◌==◌, nat_lt, nat_le, if◌then◌else◌, ◌≡◌, ◌<◌, ◌≤◌, length, take}
 use Rattle.dm_encodation.specs.declared.letters.Letters.{Letters, TheVariants.Capital, TheVariants.Small}
 use Rattle.dm_encodation.specs.declared.mode.{Set.Set, Pending.Pending, Mode.Mode, ValueFault.ValueFault}
 use Rattle.dm_encodation.specs.declared.mode.Set.TheVariants.{Basic, First, Second, Third}
@@ -199,7 +199,12 @@ abbrev pub fault_of : ValueFault → ℕ → ℕ → DecodeFault
 fault_of Fnc1 p w = Unsupported p w
 fault_of Missing p w = Reserved p w
 
--- the answer is the fault that is read, or whether all bytes that are read were written
-abbrev pub Collects : Result Bool DecodeFault → List ℕ → List ℕ → Result (List ℕ) DecodeFault → Type 0
-Collects (Ok is_whole) old new read = (bytes : List ℕ) × (read ≡ Ok bytes) × (is_whole ≡ true → new ≡ old ++ bytes)
-Collects (Err f) old new read = read ≡ Err f
+-- these bytes are the first of a room, and so many; or there is no room for all of them
+abbrev pub Holds : List ℕ → Option ℕ → List ℕ → Type 0
+Holds room (Some count) bytes = (count ≤ length room) × (take count room ≡ bytes)
+Holds room None bytes = length room < length bytes
+
+-- the answer is the fault that is read, or a room holds the bytes that are read
+abbrev pub Collects : List ℕ → Result (Option ℕ) DecodeFault → Result (List ℕ) DecodeFault → Type 0
+Collects room (Ok count) read = (bytes : List ℕ) × (read ≡ Ok bytes) × Holds room count bytes
+Collects room (Err f) read = read ≡ Err f

@@ -2,4 +2,4 @@ use Rattle.relay_desk_runs.proofs.Scanning.{each_scan_keeps}
 use Rattle.relay_desk_runs.proofs.laws.scans.Goals as goal
 
 pub returns : goal.returns
-returns g c = each_scan_keeps _
+returns c = each_scan_keeps

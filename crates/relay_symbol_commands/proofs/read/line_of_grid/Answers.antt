@@ -20,19 +20,19 @@ line_of_page {grid} {s} {page} is of_page = label page s.corrected s.wrong (reco
   wrong_is = is.wrong;
 })
 
-pub returns-in_err-line_of_label-in-Ok-page_of : goal.returns-in_err-line_of_label-in-Ok-page_of
-returns-in_err-line_of_label-in-Ok-page_of g c =
+pub returns-in_err-line_of_label-in-Ok-find_page : goal.returns-in_err-line_of_label-in-Ok-find_page
+returns-in_err-line_of_label-in-Ok-find_page g c =
     let p = err_from_is_err_and c.from_residual.result c.from_residual.ensures.1 in
-    rw (p.1, p.2) (memory _ (line_of_page c.in-Ok.ensures.corrects c.in-Ok-page_of.ensures.page))
+    rw (p.1, p.2) (memory _ (line_of_page c.in-Ok.ensures.corrects c.in-Ok-find_page.ensures.page))
 
-pub returns-in_ok-line_of_label-in-Ok-page_of : goal.returns-in_ok-line_of_label-in-Ok-page_of
-returns-in_ok-line_of_label-in-Ok-page_of g c = rw c.in_ok-line_of_label-in-Ok-page_of.ensures
-    (line_of_page c.in-Ok.ensures.corrects c.in-Ok-page_of.ensures.page)
+pub returns-in_ok-line_of_label-in-Ok-find_page : goal.returns-in_ok-line_of_label-in-Ok-find_page
+returns-in_ok-line_of_label-in-Ok-find_page g c = rw c.in_ok-line_of_label-in-Ok-find_page.ensures
+    (line_of_page c.in-Ok.ensures.corrects c.in-Ok-find_page.ensures.page)
 
-pub returns-in-Err-page_of : goal.returns-in-Err-page_of
-returns-in-Err-page_of g c =
+pub returns-in-Err-find_page : goal.returns-in-Err-find_page
+returns-in-Err-find_page g c =
     let s = c.in-Ok.symbol in
     let is = c.in-Ok.ensures.corrects in
-    let fault = c.in-Err-page_of.fault in
+    let fault = c.in-Err-find_page.fault in
     page s.words fault is.read (search rules)
-    (subst (λ (size : Size). ReadsPage (data_of size s.words) (Err fault)) is.same_size c.in-Err-page_of.ensures.page)
+    (subst (λ (size : Size). ReadsPage (data_of size s.words) (Err fault)) is.same_size c.in-Err-find_page.ensures.page)

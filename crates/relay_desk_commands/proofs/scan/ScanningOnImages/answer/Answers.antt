@@ -1,44 +1,39 @@
-use Rattle.std.proofs.Common.{◌≡◌, true, true≢false, Ok, Err, ap, refl, sym, ◌∙◌}
+use Rattle.std.proofs.Common.{rules, ◌≡◌, true, true≢false, Ok, Err, ap, refl, sym, ◌∙◌}
 use Rattle.std.proofs.lemmas.Result.{err_from_is_err_and}
-use Rattle.relay_desk_commands.specs.Desks.{ScansPicture.accepted, ScansPicture.no_grid, ScansPicture.refused, ScansPicture.unsettled, is_of_image, is_of_shape}
+use Rattle.relay_desk_commands.specs.Desks.{ScansPicture.accepted, ScansPicture.no_grid, ScansPicture.refused, ScansPicture.unsettled, is_of_image}
 use Rattle.dm_assembly_desk.specs.declared.fault.ScanFault.TheVariants.{Label}
 use Rattle.relay_desk_commands.proofs.ScanLaws.{after_scan, either, ends_note, no_save}
-use Rattle.relay_desk_commands.proofs.scan.ScanningOnImages.answer.Goals.{in-Shape, in_default, in-Label-Border, in_default-matches, in_default-matches-4, in-Label-Block, in_default-matches-2, in_default-matches-2-2, in-Save, in_default-matches-3}
+use Rattle.relay_desk_commands.proofs.scan.ScanningOnImages.answer.Goals.{in-Label-Border, in_default-matches, in_default-matches-4, in-Label-Block, in_default-matches-2, in_default-matches-2-2, in-Save, in_default-matches-3}
 use Rattle.relay_desk_commands.proofs.scan.ScanningOnImages.answer.Goals as goal
+
+pub returns-in_default-clause-answer : goal.returns-in_default-clause-answer
+returns-in_default-clause-answer g c = record {
+  said = _;
+  answers = no_grid (search rules) (
+    c.deref.result.now,
+    ends_note (λ e. e) c.deref.ensures c.note_ending-ending.ensures,
+    rw c.name-name.ensures at c.put_image_note.ensures,
+  );
+  told = rw c.requires.running (rw c.name-name.ensures at c.put_refused.ensures);
+}
 
 pub returns-in-Err-clause-answer : goal.returns-in-Err-clause-answer
 returns-in-Err-clause-answer g c =
-    let shape = c.in-Err.shape in
-    let may : c.match-matches.matches ≡ true → is_of_shape shape ≡ true = elim c.match-matches.branch [
-      | in-Shape w ↦ λ e. ap is_of_shape w.in-Shape.is
-      | in_default w ↦ λ e. absurd (true≢false (sym e ∙ w.matches-is))
-    ] in record {
-      said = _;
-      answers = no_grid shape (λ e. c.in-Err.ensures.shape (ap Err e), λ e. c.in-Err.ensures.memory (ap Err e)) (
-        c.deref.result.now,
-        ends_note may c.deref.ensures c.note_ending-ending.ensures,
-        rw c.name-name.ensures at c.put_image_note.ensures,
-      );
-      told = rw (c.requires.running, ← c.name-name.ensures) c.put_refused.ensures;
-    }
-
-pub returns-in-Err-accept-clause-answer : goal.returns-in-Err-accept-clause-answer
-returns-in-Err-accept-clause-answer g c =
-    let why = c.in-Err-accept.ensures.answers in
+    let why = c.in-Err.ensures.answers in
     rw why.1 record {
       said = _;
-      answers = unsettled c.in-Ok.grid c.in-Err-accept.fault c.in-Ok.ensures.grid.0 c.in-Ok.ensures.grid.1 why.0
-          (rw (c.name-name-in-Err-accept.ensures, c.from.ensures) at c.put_image_note-in-Err-accept.ensures);
-      told = rw (c.requires.running, ← c.from.ensures, ← c.name-name-in-Err-accept.ensures) c.put_refused-in-Err-accept.ensures;
+      answers = unsettled c.in-Some.grid c.in-Err.fault c.in-Some.ensures.0 c.in-Some.ensures.1 why.0
+          (rw (c.name-name-in-Err.ensures, c.from.ensures) at c.put_image_note-in-Err.ensures);
+      told = rw (c.requires.running, ← c.from.ensures, ← c.name-name-in-Err.ensures) c.put_refused-in-Err.ensures;
     }
 
-pub returns-in-Ok-accepted-clause-answer : goal.returns-in-Ok-accepted-clause-answer
-returns-in-Ok-accepted-clause-answer g c =
-    let accepts = rw c.in-Ok-accepted.is at c.in-Ok-accept.ensures.answers in
+pub returns-in_ok-put_accepted-in-Ok-accepted-clause-answer : goal.returns-in_ok-put_accepted-in-Ok-accepted-clause-answer
+returns-in_ok-put_accepted-in-Ok-accepted-clause-answer g c =
+    let accepts = rw c.in-Ok-accepted.is at c.in-Ok.ensures.answers in
     let reply = Ok c.in-Ok-accepted.accepted in
     let runs = after_scan accepts.opened _ reply c.accept.new.self.desk c.requires.running accepts.scans in record {
       said = _;
-      answers = accepted c.in-Ok.grid c.in-Ok-accepted.accepted c.in-Ok.ensures.grid.0 c.in-Ok.ensures.grid.1 accepts;
+      answers = accepted c.in-Some.grid c.in-Ok-accepted.accepted c.in-Some.ensures.0 c.in-Some.ensures.1 accepts;
       told = (rw c.name-kind.ensures at c.in_ok-put_accepted-in-Ok-accepted.ensures.written, refl, sym runs);
     }
 
@@ -47,35 +42,35 @@ returns-in_err-put_accepted-in-Ok-accepted-clause-answer g c =
     let last = err_from_is_err_and c.from_residual.result c.from_residual.ensures.1 in
     rw last.1 record {
       said = _;
-      answers = accepted c.in-Ok.grid c.in-Ok-accepted.accepted c.in-Ok.ensures.grid.0 c.in-Ok.ensures.grid.1
-          (rw c.in-Ok-accepted.is at c.in-Ok-accept.ensures.answers);
+      answers = accepted c.in-Some.grid c.in-Ok-accepted.accepted c.in-Some.ensures.0 c.in-Some.ensures.1
+          (rw c.in-Ok-accepted.is at c.in-Ok.ensures.answers);
       told = (rw c.name-kind.ensures at c.put_accepted.ensures.part, c.in_err-put_accepted-in-Ok-accepted.ensures.failed);
     }
 
-pub returns-clause-answer : goal.returns-clause-answer
-returns-clause-answer g c =
+pub returns-after-matches-3-clause-answer : goal.returns-after-matches-3-clause-answer
+returns-after-matches-3-clause-answer g c =
     let fault = c.in-Err-accepted.fault in
-    let accepts = rw c.in-Err-accepted.is at c.in-Ok-accept.ensures.answers in
+    let accepts = rw c.in-Err-accepted.is at c.in-Ok.ensures.answers in
     let ends = after_scan accepts.opened _ (Err fault) c.accept.new.self.desk c.requires.running accepts.scans in
-    let border : c.match-matches-2.matches ≡ true → is_of_image fault ≡ true = elim c.match-matches-2.branch [
+    let border : c.match-matches.matches ≡ true → is_of_image fault ≡ true = elim c.match-matches.branch [
       | in-Label-Border w ↦ λ e.
           (let is = w.in-Label-Border.is in ap is_of_image (is ∙ ap Label (rw is at w.in-Label-Border.field-0-is)))
       | in_default-matches w ↦ λ e. absurd (true≢false (sym e ∙ w.matches-is))
       | in_default-matches-4 w ↦ λ e. absurd (true≢false (sym e ∙ w.matches-is))
     ] in
-    let block : c.match-matches-3.matches ≡ true → is_of_image fault ≡ true = elim c.match-matches-3.branch [
+    let block : c.match-matches-2.matches ≡ true → is_of_image fault ≡ true = elim c.match-matches-2.branch [
       | in-Label-Block w ↦ λ e.
           (let is = w.in-Label-Block.is in ap is_of_image (is ∙ ap Label (rw is at w.in-Label-Block.field-0-is)))
       | in_default-matches-2 w ↦ λ e. absurd (true≢false (sym e ∙ w.matches-is))
       | in_default-matches-2-2 w ↦ λ e. absurd (true≢false (sym e ∙ w.matches-is))
     ] in
-    let may = either c.match-matches-2.matches c.match-matches-3.matches border block in
-    let last : c.match-matches-4.matches ≡ c.accept.new.self.desk.is_failed = elim c.match-matches-4.branch [
+    let may = either c.match-matches.matches c.match-matches-2.matches border block in
+    let last : c.match-matches-3.matches ≡ c.accept.new.self.desk.is_failed = elim c.match-matches-3.branch [
       | in-Save w ↦ w.matches-is ∙ sym (rw w.in-Save.is at ends)
       | in_default-matches-3 w ↦ w.matches-is ∙ sym (ends ∙ no_save fault w.in_default-matches-3.not-Save)
     ] in record {
       said = _;
-      answers = refused c.in-Ok.grid fault c.id_of_label-id.result c.in-Ok.ensures.grid.0 c.in-Ok.ensures.grid.1 accepts
+      answers = refused c.in-Some.grid fault c.id_of_label-id.result c.in-Some.ensures.0 c.in-Some.ensures.1 accepts
           c.id_of_label-id.ensures (
             c.deref-in-Err-accepted.result.now,
             ends_note may c.deref-in-Err-accepted.ensures c.note_ending-ending-in-Err-accepted.ensures,
