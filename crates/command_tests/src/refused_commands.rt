@@ -1,10 +1,7 @@
-//! Each command over memory that is refused, growth by growth. And the texts of refusals that no command writes.
+//! Each command over memory that is refused, growth by growth.
 
 use crate::calls::{CALLS, Call, NEW_LEDGER, Whole, alone, alone_whole, is_whole, streams_of};
-use dm_append_label::LabelFault;
-use dm_encodation::DecodeFault;
 use relay_printer_commands::audit_command;
-use relay_symbol_commands::{ReadRefusal, SymbolRefusal};
 use std::alloc::Global;
 use std::process::Abort;
 use std::test::Fail;
@@ -15,8 +12,9 @@ const MOST_GROWTHS: u64 = 1_000;
 
 const LINE: &[u8] = b"refused Memory\n";
 
-// What an audit says of a ledger that it is given twice.
-const TWICE: &str = "number ledger 1 of 0 ledger 2 of 0\nfree ledger 1 of 0 ledger 2 of 0\n";
+// What an audit says of a file that has no ledger, and then of a ledger that it is given twice.
+const TWICE: &str =
+    "file 1 NotALedger\nnumber ledger 2 of 0 ledger 3 of 0\nfree ledger 2 of 0 ledger 3 of 0\n";
 
 // Whether a print was refused after its save: its line is out, the ID is used, and the labels before the
 // refusal are out.
@@ -70,23 +68,24 @@ fn commands_are_refused_by_name(rt: HostRuntime) -> Result<(), Fail> {
     Ok(())
 }
 
-// What an audit writes of a ledger that it is given twice, over this memory; it is to name a refusal.
+// What an audit writes of these, over this memory; its status is to be 1.
 fn audited(memory: &Refusing<Global>, alloc: Global) -> Option<Vec<u8>> {
     let mut streams = streams_of(alloc, b"".as_slice());
-    let status = audit_command(memory, &[NEW_LEDGER, NEW_LEDGER], &mut streams);
+    let files = [b"".as_slice(), NEW_LEDGER, NEW_LEDGER];
+    let status = audit_command(memory, &files, &mut streams);
     (status == 1).then_some(streams.output.into_writer())
 }
 
-// Of an audit whose growth is refused the lines are whole, or say so: of a file, or of all.
+// An audit whose growth is refused says so in place of the lines that it can't write, and hides no fault before.
 #[test]
 fn an_audit_is_refused_by_name(rt: HostRuntime) -> Result<(), Fail> {
     for passes in 0..MOST_GROWTHS {
         let memory = Refusing::new(rt.alloc(), passes);
         let written = audited(&memory, rt.alloc()).ok_or("no refusal")?;
         let lines = str::from_utf8(written.as_slice()).unwrap_or("");
-        let is_whole = lines == TWICE;
+        let begins = passes == 0 || lines.starts_with("file 1 NotALedger\n");
         assert!(rt;
-            is_whole || memory.is_spent() && lines.contains(" Memory\n"),
+            lines == TWICE || memory.is_spent() && begins && lines.ends_with("refused Memory\n"),
             "{passes}"
         );
         if !memory.is_spent() {
@@ -94,26 +93,4 @@ fn an_audit_is_refused_by_name(rt: HostRuntime) -> Result<(), Fail> {
         }
     }
     Err("growths without end".into())
-}
-
-const TEXTS: &str = "\
-the side is not that of a symbol
-the input could not be read
-the document does not fit the symbol
-out of memory
-the image has not the shape of a symbol
-the symbol is not a label
-what begins at position 3 is cut off
-out of memory";
-
-#[rattlefmt::skip]
-#[test]
-fn refusals_say_what_is_wrong(rt: HostRuntime) -> Result<(), Fail> {
-    let texts = format!(in rt.alloc(); "{}\n{}\n{}\n{}\n{}\n{}\n{}\n{}",
-        SymbolRefusal::Side, SymbolRefusal::Read, SymbolRefusal::TooLong, SymbolRefusal::Memory,
-        ReadRefusal::Shape, ReadRefusal::Label(LabelFault::NotAppended),
-        ReadRefusal::Text(DecodeFault::Cut { at: 3 }), ReadRefusal::Memory,
-    )?;
-    assert!(rt; texts.as_str() == TEXTS);
-    Ok(())
 }

@@ -14,9 +14,9 @@
 //! has written the line of a refusal for which there was a reason, and nothing else, but for seven commands: `read`
 //! and `scan` have answered to the images before, and go on to those after a refusal that is of one image alone; so
 //! does `import` with the files that it is given; `world` goes on to the next event; `held` names the files that can't
-//! be used among its lines; `audit` has a line for each thing that is wrong; and `print` may have written its line and
-//! images. What a command does to its store and its files is what the call of the printer or of the desk says. `world`
-//! plays printers and desks in memory, and carries the headline.
+//! be used among its lines; `audit` has a line for each thing that is wrong, or for each fault before it is refused
+//! memory; and `print` may have written its line and images. What a command does to its store and its files is what the
+//! call of the printer or of the desk says. `world` plays printers and desks in memory, and carries the headline.
 #![tactic(auto)]
 
 mod closed_streams;

@@ -1,45 +1,112 @@
--- What an audit gathers, step by step, and what its silence says.
-use Rattle.std.proofs.Common.{◌≡◌, ◌<◌, ◌+◌, ◌++◌, ◌∙◌, ℕ, Bool, true, false, List, [], ◌∷◌, Option, Some, None, ap, get_or, inl, inr, subst, sym, length, map, refl}
-use Rattle.std.specs.Prelude.{◌==◌, IsTrue, MatchResult, Result, codes, if◌then◌else◌, option_map}
-use Rattle.std.specs.{Fmt.decimal, List.AllByRecursion, List.flat_map, Option.option_map_or}
-use Rattle.std.proofs.lemmas.Bool.{cases_Bool, cond-false, cond-true, eq-eqb, ne_eqb}
-use Rattle.std.proofs.lemmas.Option.{slice_get-get_or, slice_get-map}
+-- What an audit tells, gathers and keeps, step by step, and what its silence says.
+use Rattle.std.proofs.Common.{◌≡◌, ◌<◌, ◌+◌, ◌++◌, ◌∷◌, ◌∙◌, ℕ, Bool, Bor, true, false, List, [], Some, ap, append-nil, arith, get_or, inl, inr, sym, length, map, refl}
+use Rattle.std.specs.Prelude.{◌==◌, ◌||◌, ◌≢◌, ◌↔◌, IsTrue, MatchResult, Result, Ok, Err, codes, not, option_map, slice_get}
+use Rattle.std.specs.{List.AllByRecursion, List.flat_map}
+use Rattle.std.proofs.KnownBytes.{Appends-nil, Appends-trans}
+use Rattle.std.proofs.lemmas.{Bool.cases_Bool, Bool.cond-false, Bool.cond-true, Bool.eq-eqb, Bool.not-true, Bool.or_right, List.Concat.flat_map-append, List.Elements.filter-append, Option.slice_get-get_or, Option.slice_get-map}
 use Rattle.dm_print_ledger.specs.{Ledger.are_ranges, Verdicts.SilenceIsExact}
-use Rattle.relay_printer_commands.specs.Printers.{AreAllSound, EvidenceView, Gathers, IsSoundPair, ShowsFile, ShowsLine, are_same, audit_lines, breach_line, breach_lines, evidence_name, fault_line, Gathers.file, Gathers.line, IsSoundPair.same, IsSoundPair.beside}
-use Rattle.relay_shared.proofs.Telling.{told, told_else}
-use Rattle.relay_shared.specs.Command.{FileView, PutsText, Tells}
-use Rattle.relay_streams.specs.{Streams.OutputView, declared.fault.WriteFault.WriteFault}
+use Rattle.relay_printer_commands.specs.Printers.{AreAllSound, EvidenceView, Gathers, HasGathered, IsSoundPair, ShowsFile, ShowsLine, TellsAudit, TellsLines, are_same, audit_lines, breach_line, breach_lines, evidence_name, kept, pair_lines, shows_none, AuditSays.no_memory, Gathers.file, Gathers.line, IsSoundPair.beside, IsSoundPair.same}
+use Rattle.relay_shared.proofs.Telling.{told_else}
+use Rattle.relay_shared.specs.Command.{FileView, PutsText, Tells, refusal_name}
+use Rattle.relay_shared.specs.declared.command.Refusal.TheVariants as refusals
+use Rattle.relay_streams.proofs.Parts.{part_after, part_more}
+use Rattle.relay_streams.specs.{Streams.OutputView, Streams.StaysFailed, Streams.refused_line as line_of, declared.fault.WriteFault.WriteFault}
 
--- one more file, and one more line
+-- ---- lines one after another
 
-pub file_gathered : {F : Type 0} (known : F → FileView) (files : List F) (lines : List (List ℕ)) (i : ℕ) (d : F)
-    (before : List EvidenceView) (one : EvidenceView) → i < length files → Gathers (map known files) lines i 0 before →
-    ShowsFile (i + 1) (known (get_or files i d)) one → Gathers (map known files) lines (i + 1) 0 (before ++ one ∷ [])
-file_gathered known files lines i d before one there gathered shows = file (known (get_or files i d)) gathered
-    (slice_get-map known files i ∙ ap (option_map known) (slice_get-get_or files i d there)) shows
+pub nothing : (now : OutputView) → TellsLines [] now false now
+nothing now = (refl, inl (Appends-nil _, refl), λ failed. refl)
 
-pub line_gathered : {L : Type 0} (text : L → List ℕ) (files : List FileView) (lines : List L) (n i : ℕ) (d : L)
-    (before : List EvidenceView) (one : EvidenceView) → i < length lines → Gathers files (map text lines) n i before →
-    ShowsLine before (i + 1) (text (get_or lines i d)) one → Gathers files (map text lines) n (i + 1) (before ++ one ∷ [])
-line_gathered text files lines n i d before one there gathered shows = line (text (get_or lines i d)) gathered
-    (slice_get-map text lines i ∙ ap (option_map text) (slice_get-get_or lines i d there)) shows
+any_both : (a b : List ℕ) → (not (length a == 0) || not (length b == 0)) ≡ not (length (a ++ b) == 0)
+any_both [] b = refl
+any_both (x ∷ a) b = grind arith
 
--- the lines are out, or a part of them is
+told_both : {a b : List ℕ} (old mid new : OutputView) → Tells a 1 old 1 mid → Tells b 1 mid 1 new →
+    (mid.has_failed ≡ true → new ≡ mid) → Tells (a ++ b) 1 old 1 new
+told_both old mid new (inl first) (inl next) stuck = inl (Appends-trans _ _ _ _ _ first.0 next.0, refl)
+told_both old mid new (inl first) (inr next) stuck = inr (next.0, part_after _ _ _ _ _ first.0 next.1, refl)
+told_both old mid new (inr first) next stuck = rw (stuck first.0) (inr (first.0, part_more _ _ _ _ first.1, refl))
 
-pub none_told : (lines : List ℕ) {text : List ℕ} {old new : OutputView} {status : ℕ} (put : Result (Unit {0}) WriteFault) →
-    PutsText text old put new → text ≡ lines → length text ≡ 0 → MatchResult put (λ _. status ≡ 0) (λ _. status ≡ 1) →
-    Tells lines (if length lines == 0 then 0 else 1) old status new
-none_told lines {text} {old} {new} {status} put puts e none is =
-    let zero : length lines ≡ 0 = sym (ap length e) ∙ none in
-    rw (cond-true {A = ℕ} (length lines == 0) 0 1 (eq-eqb _ _ zero))
-    (told put (subst (λ (t : List ℕ). PutsText t old put new) e puts) is)
+pub both : {a b : List ℕ} {x y : Bool} (old mid new : OutputView) → TellsLines a old x mid → TellsLines b mid y new →
+    TellsLines (a ++ b) old (x || y) new
+both {a} {b} old mid new first next = (rw (first.0, next.0) (any_both a b), told_both old mid new first.1 next.1 next.2, λ failed. next.2 (rw (first.2 failed) failed) ∙ first.2 failed)
 
-pub some_told : (lines : List ℕ) {text : List ℕ} {old new : OutputView} (put : Result (Unit {0}) WriteFault) →
-    PutsText text old put new → text ≡ lines → (length text ≡ 0 → ⊥) →
-    Tells lines (if length lines == 0 then 0 else 1) old 1 new
-some_told lines {text} {old} {new} put puts e some =
-    rw (cond-false {A = ℕ} (length lines == 0) 0 1 (ne_eqb _ _ (λ none. some (ap length e ∙ none))))
-    (told_else put (subst (λ (t : List ℕ). PutsText t old put new) e puts))
+pub put_once : (text : List ℕ) (old new : OutputView) (put : Result (Unit {0}) WriteFault) → PutsText text old put new →
+    StaysFailed old put new → TellsLines text old (not (length text == 0)) new
+put_once text old new put puts stuck = (refl, told_else put puts, λ failed. (stuck failed).1)
+
+abbrev pub is_kept : EvidenceView → Bool
+is_kept one = length one.fault == 0
+
+-- ---- one more
+
+-- what a file or a line shows was kept, or why it shows nothing was told, or that memory was refused
+abbrev pub Tries : {E : Type 0} → List ℕ → ℕ → Result EvidenceView (Bor (List ℕ)) → List EvidenceView → OutputView
+    → Result Bool E → List EvidenceView → OutputView → Type 0
+Tries list place seen sound mid result grown new = MatchResult seen
+    (λ one. MatchResult result (λ more. (more ≡ false) × (grown ≡ sound ++ one ∷ []) × (new ≡ mid))
+    (λ _. TellsLines (line_of (refusal_name refusals.Memory)) mid true new))
+    (λ name. (result ≡ Ok true) × (grown ≡ sound) × TellsLines (shows_none list place name.now).fault mid true new)
+
+told_more : (all : List EvidenceView) (one : EvidenceView) {told more : Bool} (old mid new : OutputView) →
+    TellsLines (flat_map (λ one. one.fault) all) old told mid → TellsLines one.fault mid more new →
+    TellsLines (flat_map (λ one. one.fault) (all ++ one ∷ [])) old (told || more) new
+told_more all one old mid new before next = rw (flat_map-append (λ one. one.fault) all (one ∷ []), append-nil one.fault)
+    (both old mid new before next)
+
+pub one_more : {E : Type 0} (files : List FileView) (lines : List (List ℕ)) (n k m j : ℕ) (list : List ℕ) (place : ℕ)
+    (seen : Result EvidenceView (Bor (List ℕ))) (sound grown : List EvidenceView) (told : Bool) (old mid new : OutputView)
+    (result : Result Bool E) (Shows : EvidenceView → Type 0) →
+    ((one : EvidenceView) → Shows one → (all : List EvidenceView) → Gathers files lines n k all → sound ≡ kept all →
+    Gathers files lines m j (all ++ one ∷ [])) → HasGathered files lines n k sound old told mid →
+    MatchResult seen (λ one. (one.fault ≡ []) × Shows one) (λ name. Shows (shows_none list place name.now)) →
+    Tries list place seen sound mid result grown new →
+    MatchResult result (λ more. HasGathered files lines m j grown old (told || more) new) (λ _. TellsAudit files lines old true new)
+one_more files lines n k m j list place (Ok one) sound grown told old mid new (Ok more) Shows next before shows does =
+    let here : sound ++ one ∷ [] ≡ kept (before.0 ++ one ∷ []) = rw (
+      filter-append is_kept before.0 (one ∷ []),
+      cond-true (is_kept one) (one ∷ []) [] (eq-eqb _ _ (ap length shows.0)),
+    ) (ap (λ some. some ++ one ∷ []) before.2) in
+    (_, next one shows.1 before.0 before.1 before.2, does.1 ∙ here, rw (does.0, does.2) (told_more before.0 one old mid mid before.3 (rw shows.0 (nothing mid))))
+one_more files lines n k m j list place (Ok one) sound grown told old mid new (Err refused) Shows next before shows does =
+    (_, no_memory before.0 one (next one shows.1 before.0 before.1 before.2) shows.0, rw (or_right told true refl) at (both old mid new before.3 does))
+one_more files lines n k m j list place (Err name) sound grown told old mid new (Ok more) Shows next before shows does =
+    let none = shows_none list place name.now in
+    let so : more ≡ true = cc does.0 in
+    let left : sound ≡ kept (before.0 ++ none ∷ []) = before.2 ∙ rw (
+      filter-append is_kept before.0 (none ∷ []),
+      cond-false (is_kept none) (none ∷ []) [] (not-true _ (sym does.2.0)),
+      append-nil (kept before.0),
+    ) refl in
+    (_, next none shows before.0 before.1 before.2, does.1 ∙ left, rw so (told_more before.0 none old mid new before.3 does.2))
+one_more files lines n k m j list place (Err name) sound grown told old mid new (Err refused) Shows next before shows does = absurd (cc does.0)
+
+pub one_more_file : {E F : Type 0} (known : F → FileView) (files : List F) (lines : List (List ℕ)) (i : ℕ) (given : F)
+    (seen : Result EvidenceView (Bor (List ℕ))) (sound grown : List EvidenceView) (told : Bool) (old mid new : OutputView)
+    (result : Result Bool E) → i < length files → given ≡ get_or files i given →
+    HasGathered (map known files) lines i 0 sound old told mid →
+    MatchResult seen (λ one. (one.fault ≡ []) × ShowsFile (i + 1) (known given) one)
+    (λ name. ShowsFile (i + 1) (known given) (shows_none (codes "file") (i + 1) name.now)) →
+    Tries (codes "file") (i + 1) seen sound mid result grown new →
+    MatchResult result (λ more. HasGathered (map known files) lines (i + 1) 0 grown old (told || more) new)
+    (λ _. TellsAudit (map known files) lines old true new)
+one_more_file known files lines i given seen sound grown told old mid new result there is = one_more (map known files) lines i 0 (i + 1) 0
+    (codes "file") (i + 1) seen sound grown told old mid new result (ShowsFile (i + 1) (known given)) (λ one shows all gathers kept_is.
+    file (known given) gathers (slice_get-map known files i ∙
+    ap (option_map known) (slice_get-get_or files i given there ∙ ap (λ x. Some x) (sym is))) shows)
+
+pub one_more_line : {E : Type 0} (files : List FileView) (lines : List (List ℕ)) (k : ℕ) (text : List ℕ)
+    (seen : Result EvidenceView (Bor (List ℕ))) (sound grown : List EvidenceView) (told : Bool) (old mid new : OutputView)
+    (result : Result Bool E) → slice_get lines k ≡ Some text → length text ≢ 0 →
+    HasGathered files lines (length files) k sound old told mid →
+    MatchResult seen (λ one. (one.fault ≡ []) × ShowsLine sound (k + 1) text one)
+    (λ name. ShowsLine sound (k + 1) text (shows_none (codes "line") (k + 1) name.now)) →
+    Tries (codes "line") (k + 1) seen sound mid result grown new →
+    MatchResult result (λ more. HasGathered files lines (length files) (k + 1) grown old (told || more) new)
+    (λ _. TellsAudit files lines old true new)
+one_more_line files lines k text seen sound grown told old mid new result at some = one_more files lines (length files) k (length files)
+    (k + 1) (codes "line") (k + 1) seen sound grown told old mid new result (ShowsLine sound (k + 1) text)
+    (λ one shows all gathers kept_is. line text gathers at some (rw kept_is at shows))
 
 -- ---- silence
 
@@ -57,15 +124,10 @@ no_breach true kind one other e =
     let none : 32 ∷ (evidence_name one ++ (32 ∷ (evidence_name other ++ 10 ∷ []))) ≡ [] = (both_none kind _ e).1 in
     absurd (cc)
 
-no_line : (is : Bool) (kind : List ℕ) (one other : EvidenceView) → is ≡ false → breach_line is kind one other ≡ []
-no_line is kind one other e = cond-false is _ _ e
-
-no_fault : (word name : List ℕ) (place : ℕ) (fault : Option (List ℕ)) →
-    option_map_or (λ name. word ++ (decimal place ++ (32 ∷ (name ++ 10 ∷ [])))) fault [] ≡ [] → fault ≡ None
-no_fault word name place None e = refl
-no_fault word name place (Some why) e =
-    let none : 32 ∷ (why ++ 10 ∷ []) ≡ [] = (both_none (decimal place) _ (both_none word _ e).1).1 in
-    absurd (cc)
+none_faulty : (evidence : List EvidenceView) → flat_map (λ one. one.fault) evidence ≡ [] → kept evidence ≡ evidence
+none_faulty [] none = refl
+none_faulty (one ∷ later) none = let fault = both_none one.fault _ none in
+    cond-true (is_kept one) _ _ (eq-eqb _ _ (ap length fault.0)) ∙ ap (λ some. one ∷ some) (none_faulty later fault.1)
 
 module _ (exact : SilenceIsExact) where
   -- two of which nothing is said
@@ -74,16 +136,16 @@ module _ (exact : SilenceIsExact) where
   sound_pair one other ranges its e = elim (cases_Bool (are_same one other)) [
     | inl is ↦ same is
     | inr is ↦
-        let n = both_none _ _ (sym (cond-false (are_same one other) _ _ is) ∙ e) in
-        let f = both_none _ _ n.1 in
-        let a = both_none _ _ f.1 in
-        let b = both_none _ _ a.1 in
+        let b = both_none _ _ (sym (cond-false (are_same one other) _ _ is) ∙ e) in
+        let a = both_none _ _ b.0 in
+        let g = both_none _ _ a.0 in
+        let f = both_none _ _ g.0 in
         beside ((exact one.shown other.shown ranges its).0.0 (record {
-          numbers = no_breach _ (codes "number") one other n.0;
-          apart = no_breach _ (codes "free") one other f.0;
-          ahead = no_breach _ (codes "behind") one other b.0;
+          numbers = no_breach _ (codes "number") one other f.0;
+          apart = no_breach _ (codes "free") one other f.1;
+          ahead = no_breach _ (codes "behind") one other a.1;
           other_ahead = no_breach _ (codes "behind") other one b.1;
-        })) (no_breach _ (codes "again") one other a.0)
+        })) (no_breach _ (codes "again") one other g.1)
   ]
 
   silent_pair : (one other : EvidenceView) → IsTrue (are_ranges one.shown.free) → IsTrue (are_ranges other.shown.free) →
@@ -92,42 +154,36 @@ module _ (exact : SilenceIsExact) where
   silent_pair one other ranges its (beside sound again) = elim (cases_Bool (are_same one other)) [
     | inl is ↦ cond-true (are_same one other) _ _ is
     | inr is ↦
-        let silent = (exact one.shown other.shown ranges its).0.1 sound in
-        cond-false (are_same one other) _ _ is ∙
-        none_both _ _ (no_line _ (codes "number") one other silent.numbers)
-        (none_both _ _ (no_line _ (codes "free") one other silent.apart)
-        (none_both _ _ (no_line _ (codes "again") one other again)
-        (none_both _ _ (no_line _ (codes "behind") one other silent.ahead)
-        (no_line _ (codes "behind") other one silent.other_ahead))))
+        let none = (exact one.shown other.shown ranges its).0.1 sound in
+        cond-false (are_same one other) _ _ is ∙ none_both _ _ (none_both _ _ (none_both _ _ (none_both _ _
+        (cond-false _ _ _ none.numbers) (cond-false _ _ _ none.apart)) (cond-false _ _ _ again))
+        (cond-false _ _ _ none.ahead)) (cond-false _ _ _ none.other_ahead)
   ]
 
-  sound_pairs : (one : EvidenceView) (later : List EvidenceView) → IsTrue (are_ranges one.shown.free) →
+  pairs : (one : EvidenceView) (later : List EvidenceView) → IsTrue (are_ranges one.shown.free) →
       AllByRecursion (λ other. IsTrue (are_ranges other.shown.free)) later →
-      flat_map (breach_lines one) later ≡ [] → AllByRecursion (IsSoundPair one) later
-  sound_pairs one [] ranges its e = tt
-  sound_pairs one (other ∷ later) ranges its e = let parts = both_none (breach_lines one other) _ e in
-      (sound_pair one other ranges its.0 parts.0, sound_pairs one later ranges its.1 parts.1)
+      (flat_map (breach_lines one) later ≡ []) ↔ AllByRecursion (IsSoundPair one) later
+  pairs one [] ranges its = (λ e. tt, λ sound. refl)
+  pairs one (other ∷ later) ranges its = (
+    λ e. let two = both_none (breach_lines one other) _ e in
+        (sound_pair one other ranges its.0 two.0, (pairs one later ranges its.1).0 two.1),
+    λ sound. none_both _ _ (silent_pair one other ranges its.0 sound.0) ((pairs one later ranges its.1).1 sound.1),
+  )
 
-  silent_pairs : (one : EvidenceView) (later : List EvidenceView) → IsTrue (are_ranges one.shown.free) →
-      AllByRecursion (λ other. IsTrue (are_ranges other.shown.free)) later →
-      AllByRecursion (IsSoundPair one) later → flat_map (breach_lines one) later ≡ []
-  silent_pairs one [] ranges its sound = refl
-  silent_pairs one (other ∷ later) ranges its sound = none_both _ _ (silent_pair one other ranges its.0 sound.0)
-      (silent_pairs one later ranges its.1 sound.1)
+  all : (evidence : List EvidenceView) → AllByRecursion (λ one. IsTrue (are_ranges one.shown.free)) evidence →
+      ((flat_map (λ one. one.fault) evidence ≡ []) × (pair_lines evidence ≡ [])) ↔ AreAllSound evidence
+  all [] ranges = (λ e. tt, λ sound. (refl, refl))
+  all (one ∷ later) ranges = (
+    λ e. let fault = both_none one.fault _ e.0 in let pair = both_none (flat_map (breach_lines one) later) _ e.1 in
+        (fault.0, (pairs one later ranges.0 ranges.1).0 pair.0, (all later ranges.1).0 (fault.1, pair.1)),
+    λ sound. let rest = (all later ranges.1).1 sound.2 in
+        (none_both one.fault _ sound.0 rest.0, none_both _ _ ((pairs one later ranges.0 ranges.1).1 sound.1) rest.1),
+  )
 
-  pub sound : (evidence : List EvidenceView) → AllByRecursion (λ one. IsTrue (are_ranges one.shown.free)) evidence →
-      audit_lines evidence ≡ [] → AreAllSound evidence
-  sound [] ranges e = tt
-  sound (one ∷ later) ranges e =
-      let first = both_none (fault_line one) _ e in
-      let next = both_none (flat_map (breach_lines one) later) _ first.1 in
-      (no_fault _ [] one.place one.fault first.0, sound_pairs one later ranges.0 ranges.1 next.0, sound later ranges.1 next.1)
-
-  pub silent : (evidence : List EvidenceView) → AllByRecursion (λ one. IsTrue (are_ranges one.shown.free)) evidence →
-      AreAllSound evidence → audit_lines evidence ≡ []
-  silent [] ranges all = refl
-  silent (one ∷ later) ranges all = none_both (fault_line one) _
-      (ap (λ fault. option_map_or (λ name. (if one.is_ledger then codes "file " else codes "line ")
-      ++ (decimal one.place ++ (32 ∷ (name ++ 10 ∷ [])))) fault []) all.0)
-      (none_both (flat_map (breach_lines one) later) _ (silent_pairs one later ranges.0 ranges.1 all.1)
-      (silent later ranges.1 all.2))
+  pub exactly : (evidence : List EvidenceView) → AllByRecursion (λ one. IsTrue (are_ranges one.shown.free)) evidence →
+      (audit_lines evidence ≡ []) ↔ AreAllSound evidence
+  exactly evidence ranges = (
+    λ e. let none = both_none (flat_map (λ one. one.fault) evidence) _ e in
+        (all evidence ranges).0 (none.0, rw (none_faulty evidence none.0) at none.1),
+    λ sound. let none = (all evidence ranges).1 sound in none_both _ _ none.0 (rw (none_faulty evidence none.0) none.1),
+  )

@@ -1,28 +1,23 @@
 -- What the commands of printers do to ledgers and streams, and the lines that they write: what these show is this project's own rule.
 use Rattle.std.specs.Prelude.{ℕ, List, [], ◌∷◌, ◌++◌, codes, zero, suc, Option, Some, None, take, drop, ◌≡◌, ◌⊎◌, ◌<◌, ◌+◌, ◌*◌, ◌/◌, Ok, length, map, slice_index, Result, Err, ◌↔◌, ◌≤◌, ◌≢◌, true, false, Bool, ◌&&◌, ◌||◌, ◌==◌, not, nat_eq, if◌then◌else◌, slice_get, IfSome}
-use Rattle.std.specs.{Borrow.Bor, Fmt.decimal, Option.option_map_or, Cmp.Lexicographic.pointwise, Io.KnownBytes.Appends}
-use Rattle.std.specs.List.{flat_map, All, range_with_len, AllPairs, Contains, list_any, slice_split, AllByRecursion}
+use Rattle.std.specs.{Fmt.decimal, Option.option_map_or, Cmp.Lexicographic.pointwise, Io.KnownBytes.Appends}
+use Rattle.std.specs.List.{flat_map, All, range_with_len, AllPairs, Contains, list_any, slice_split, AllByRecursion, filter}
 use Rattle.hex.specs.Hex.{encode_lower, decode_sized}
 use Rattle.dm_print_ledger.specs.Ledger.{ticket_bytes, TicketView, free_count, ShownView, AreOfTicket, PrinterView, JobView, read_ledger}
-use Rattle.dm_print_ledger.specs.declared.{giver.Giver.Giver, range.Range.Range, fault.CreateFault.CreateFault}
-use Rattle.relay_shared.specs.{Lines.id_text, declared.command.Refusal.Refusal}
-use Rattle.relay_printer_commands.specs.declared.lines.PlannedSide.{PlannedSide}
+use Rattle.relay_shared.specs.Lines.{id_text}
 use Rattle.dm_gf256.specs.Field.{IsSoundBlock}
 use Rattle.relay_shared.specs.Command.{FileView, GivesNothing, refusal_name, RefusesOnOutput, StreamsView, TellsOnOutput, OnlyOutput, TellsAnswer, HasInputFault, ReadsDocument, ReadsNothing, RefusesOnErrors, TellsRefusal, Tells, PutsText}
-use Rattle.relay_shared.specs.declared.command.Refusal.TheVariants.{Ticket, Memory, Output, Side, TooMany}
+use Rattle.relay_shared.specs.declared.command.Refusal.{Refusal, TheVariants.Ticket, TheVariants.Memory, TheVariants.Output, TheVariants.Side, TheVariants.TooMany}
 use Rattle.dm_store.specs.Saved.{Saved}
 use Rattle.dm_print_ledger.specs.Verdicts.{Creates, create_fault_name, open_fault_name, give_fault_name, take_fault_name, PrinterOpens, GivesTicket, TakesTicket, LoadsLedger, show_verdict, print_fault_name, Prints, HasLabels, AreBeside, AreLastFree, IsLongest, are_of_one, is_behind, is_of, lacks_ticket, share_numbers, share_ticket, shown_of_none, shown_of_ticket}
-use Rattle.dm_print_ledger.specs.declared.fault.GiveFault.{GiveFault, TheVariants.NotFree}
-use Rattle.dm_print_ledger.specs.declared.fault.{OpenFault.OpenFault, TakeFault.TakeFault, PrintFault.PrintFault}
+use Rattle.dm_print_ledger.specs.declared.{fault.CreateFault.CreateFault, fault.GiveFault.GiveFault, fault.GiveFault.TheVariants.NotFree, fault.OpenFault.OpenFault, fault.PrintFault.PrintFault, fault.PrintFault.TheVariants.TooLong, fault.TakeFault.TakeFault, giver.Giver.Giver, range.Range.Range}
 use Rattle.dm_size.specs.{declared.size.Size.Size, Sizes.IsSide, Sizes.side}
 use Rattle.dm_encodation.specs.declared.scheme.Scheme.{Scheme}
 use Rattle.dm_finder_frame.specs.Frame.{GridView}
 use Rattle.dm_pbm_io.specs.Image.{p4}
-use Rattle.dm_print_ledger.specs.declared.fault.PrintFault.TheVariants.{TooLong}
 use Rattle.relay_command.specs.declared.command.Labels.{Labels, TheVariants.OfSide, TheVariants.AtMost}
-use Rattle.relay_streams.specs.Streams.{input_fault_name, AppendsPart, InputView, OutputView, ReadsFirst}
-use Rattle.relay_streams.specs.declared.fault.{InputFault.InputFault, WriteFault.WriteFault}
-use Rattle.relay_printer_commands.specs.declared.audit.TheConstants.{LEDGER_BYTES, TICKETS_BYTES}
+use Rattle.relay_streams.specs.{Streams.input_fault_name, Streams.AppendsPart, Streams.InputView, Streams.OutputView, Streams.ReadsFirst, Streams.refused_line, declared.fault.InputFault.InputFault, declared.fault.WriteFault.WriteFault}
+use Rattle.relay_printer_commands.specs.declared.{audit.TheConstants.LEDGER_BYTES, audit.TheConstants.TICKETS_BYTES, lines.PlannedSide.PlannedSide}
 
 -- ---- lines
 
@@ -320,54 +315,53 @@ pub data EndsPlan (scheme : Scheme) (old : StreamsView) (status : ℕ) (new : St
 
 -- ---- audit: what it gathers of ledgers and tickets, and the lines in which it says what breaks what printers rely on
 
--- What a ledger or a ticket shows, its place among the files or the lines, from 1, and the ticket; or why it shows nothing.
+-- What a ledger or a ticket shows, its place among the files or the lines, from 1, and the ticket; or the line of its fault.
 pub record EvidenceView : Type 0 where
-  pub is_ledger : Bool
   pub place : ℕ
-  pub fault : Option (List ℕ)
+  pub fault : List ℕ
   pub ticket : Option TicketView
   pub shown : ShownView
 
-abbrev pub shows_none : Bool → ℕ → Option (List ℕ) → EvidenceView
-shows_none is_ledger place fault =
-    record { is_ledger = is_ledger; place = place; fault = fault; ticket = None; shown = shown_of_none }
+-- nothing is shown, for a fault of this name
+abbrev pub shows_none : List ℕ → ℕ → List ℕ → EvidenceView
+shows_none list place name =
+    let line = list ++ (32 ∷ (decimal place ++ (32 ∷ (name ++ 10 ∷ [])))) in
+    record { place = place; fault = line; ticket = None; shown = shown_of_none }
 
 -- a file shows what its bytes say of a ledger, if these are its first bytes; or it is refused
 pub data ShowsFile (place : ℕ) (file : FileView) : EvidenceView → Type 0 where
   read : (bytes : List ℕ) (shown : ShownView) → IfSome file.remaining (λ all. bytes ≡ take LEDGER_BYTES all)
-      → read_ledger bytes ≡ Ok shown → ShowsFile place file (record (shows_none true place None) { shown = shown })
+      → read_ledger bytes ≡ Ok shown → ShowsFile place file (record { place = place; fault = []; ticket = None; shown = shown })
   refused : (bytes : List ℕ) (fault : OpenFault) → IfSome file.remaining (λ all. bytes ≡ take LEDGER_BYTES all)
-      → read_ledger bytes ≡ Err fault → ShowsFile place file (shows_none true place (Some (open_fault_name fault)))
+      → read_ledger bytes ≡ Err fault → ShowsFile place file (shows_none (codes "file") place (open_fault_name fault))
   not_read : (fault : InputFault) → GivesNothing file fault
-      → ShowsFile place file (shows_none true place (Some (input_fault_name fault)))
+      → ShowsFile place file (shows_none (codes "file") place (input_fault_name fault))
 
 -- a line shows its ticket, which is open if the ledger of its receiver is before it, and has not taken it
 pub data ShowsLine (before : List EvidenceView) (place : ℕ) (line : List ℕ) : EvidenceView → Type 0 where
-  empty : length line ≡ 0 → ShowsLine before place line (shows_none false place None)
-  ticket : (ticket : TicketView) → HasTicket line → IsTextOf line ticket → ShowsLine before place line
-      (record (shows_none false place None) {
+  ticket : (ticket : TicketView) → HasTicket line → IsTextOf line ticket
+      → ShowsLine before place line (record {
+        place = place;
+        fault = [];
         ticket = Some ticket;
         shown = shown_of_ticket ticket (list_any (λ one. lacks_ticket one.shown ticket) before);
       })
-  refused : ¬ HasTicket line → ShowsLine before place line (shows_none false place (Some (refusal_name Ticket)))
+  refused : ¬ HasTicket line → ShowsLine before place line (shows_none (codes "line") place (refusal_name Ticket))
 
--- what the first files show, and then the first lines
+-- those that have no fault
+abbrev pub kept : List EvidenceView → List EvidenceView
+kept evidence = filter (λ one. length one.fault == 0) evidence
+
+-- what the first files show, and then the first lines that are not empty
 pub data Gathers (files : List FileView) (lines : List (List ℕ)) : ℕ → ℕ → List EvidenceView → Type 0 where
   begun : Gathers files lines 0 0 []
   file : {n : ℕ} {before : List EvidenceView} {one : EvidenceView} (file : FileView) → Gathers files lines n 0 before
       → slice_get files n ≡ Some file → ShowsFile (n + 1) file one → Gathers files lines (n + 1) 0 (before ++ one ∷ [])
-  line : {n k : ℕ} {before : List EvidenceView} {one : EvidenceView} (line : List ℕ) → Gathers files lines n k before
-      → slice_get lines k ≡ Some line → ShowsLine before (k + 1) line one
-      → Gathers files lines n (k + 1) (before ++ one ∷ [])
-
--- the texts that are referred to
-abbrev pub line_texts : List (Bor (List ℕ)) → List (List ℕ)
-line_texts lines = map (λ line. line.now) lines
-
--- what all files show, and all lines of these bytes
-abbrev pub GathersAll : List FileView → List ℕ → List EvidenceView → Type 0
-GathersAll files bytes evidence = let lines = slice_split (λ byte. byte == 10) bytes in
-    Gathers files lines (length files) (length lines) evidence
+  line : {k : ℕ} {before : List EvidenceView} {one : EvidenceView} (line : List ℕ) → Gathers files lines (length files) k before
+      → slice_get lines k ≡ Some line → length line ≢ 0 → ShowsLine (kept before) (k + 1) line one
+      → Gathers files lines (length files) (k + 1) (before ++ one ∷ [])
+  empty : {k : ℕ} {before : List EvidenceView} (line : List ℕ) → Gathers files lines (length files) k before
+      → slice_get lines k ≡ Some line → length line ≡ 0 → Gathers files lines (length files) (k + 1) before
 
 -- they are the same ticket
 abbrev pub are_same : EvidenceView → EvidenceView → Bool
@@ -384,47 +378,62 @@ is_again one other = share_ticket one.shown other.shown && not (is_receiver one 
 
 -- a ledger, its place, and the number of its printer, or a hyphen for none; or a ticket and its place
 abbrev pub evidence_name : EvidenceView → List ℕ
-evidence_name one = if one.is_ledger
-    then codes "ledger " ++ (decimal one.place ++ (codes " of " ++ option_map_or decimal one.shown.number (codes "-")))
-    else codes "ticket " ++ decimal one.place
-
--- why a file or a line shows nothing
-abbrev pub fault_line : EvidenceView → List ℕ
-fault_line one = option_map_or (λ name. (if one.is_ledger then codes "file " else codes "line ")
-    ++ (decimal one.place ++ (32 ∷ (name ++ 10 ∷ [])))) one.fault []
+evidence_name one = option_map_or (λ _. codes "ticket " ++ decimal one.place)
+    one.ticket (codes "ledger " ++ (decimal one.place ++ (codes " of " ++ option_map_or decimal one.shown.number (codes "-"))))
 
 -- what is wrong between two, if it is
 abbrev pub breach_line : Bool → List ℕ → EvidenceView → EvidenceView → List ℕ
-breach_line is kind one other =
-    if is then kind ++ (32 ∷ (evidence_name one ++ (32 ∷ (evidence_name other ++ 10 ∷ [])))) else []
+breach_line is kind one other = if is then kind ++ (32 ∷ (evidence_name one ++ (32 ∷ (evidence_name other ++ 10 ∷ [])))) else []
 
 abbrev pub breach_lines : EvidenceView → EvidenceView → List ℕ
 breach_lines one other = if are_same one other then [] else
     breach_line (are_of_one one.shown other.shown) (codes "number") one other
-    ++ (breach_line (share_numbers one.shown other.shown) (codes "free") one other
-    ++ (breach_line (is_again one other) (codes "again") one other
-    ++ (breach_line (is_behind one.shown other.shown) (codes "behind") one other
-    ++ breach_line (is_behind other.shown one.shown) (codes "behind") other one)))
+    ++ breach_line (share_numbers one.shown other.shown) (codes "free") one other
+    ++ breach_line (is_again one other) (codes "again") one other
+    ++ breach_line (is_behind one.shown other.shown) (codes "behind") one other
+    ++ breach_line (is_behind other.shown one.shown) (codes "behind") other one
 
--- of each, why it shows nothing, and what is wrong between it and each later one
+-- what is wrong between each and each later one
+abbrev pub pair_lines : List EvidenceView → List ℕ
+pair_lines [] = []
+pair_lines (one ∷ later) = flat_map (breach_lines one) later ++ pair_lines later
+
+-- all faults; and then what is wrong between two
 abbrev pub audit_lines : List EvidenceView → List ℕ
-audit_lines [] = []
-audit_lines (one ∷ later) = fault_line one ++ (flat_map (breach_lines one) later ++ audit_lines later)
+audit_lines evidence = flat_map (λ one. one.fault) evidence ++ pair_lines (kept evidence)
 
--- How `audit` ends: the tickets could not be read, or are too many; memory was refused; or the lines were written, and the
--- status is 0 if there is none.
+-- What `audit` says: all lines; or, if memory was refused for what one shows, the faults of those before it, and `Memory`.
+pub data AuditSays (files : List FileView) (lines : List (List ℕ)) : List ℕ → Type 0 where
+  all : (evidence : List EvidenceView) → Gathers files lines (length files) (length lines) evidence
+      → AuditSays files lines (audit_lines evidence)
+  no_memory : {n k : ℕ} (before : List EvidenceView) (one : EvidenceView) → Gathers files lines n k (before ++ one ∷ [])
+      → one.fault ≡ [] → AuditSays files lines (flat_map (λ one. one.fault) before ++ refused_line (refusal_name Memory))
+
+-- The lines were told, and whether there are any; or the output has failed, with a part of them, and takes no more.
+abbrev pub TellsLines : List ℕ → OutputView → Bool → OutputView → Type 0
+TellsLines text old some new = (some ≡ not (length text == 0)) × Tells text 1 old 1 new × (old.has_failed ≡ true → new ≡ old)
+
+-- so many were gathered, of which these have no fault, and it was told which faults the others have
+abbrev pub HasGathered : List FileView → List (List ℕ) → ℕ → ℕ → List EvidenceView → OutputView → Bool → OutputView
+    → Type 0
+HasGathered files lines n k sound old told new = (all : List EvidenceView) × Gathers files lines n k all × (sound ≡ kept all)
+    × TellsLines (flat_map (λ one. one.fault) all) old told new
+
+-- all that `audit` says was told
+abbrev pub TellsAudit : List FileView → List (List ℕ) → OutputView → Bool → OutputView → Type 0
+TellsAudit files lines old told new = (text : List ℕ) × AuditSays files lines text × TellsLines text old told new
+
+-- How `audit` ends: the tickets could not be read, or are too many; or what it says was told, and the status is 0 if that is nothing.
 pub data EndsAudit (files : List FileView) (old : StreamsView) (status : ℕ) (new : StreamsView) : Type 0 where
   not_read : (fault : InputFault) (rest : InputView) → HasInputFault old.input rest fault
       → RefusesOnOutput (input_fault_name fault) (record old { input = rest }) status new → EndsAudit files old status new
   too_many : (bytes : List ℕ) (rest : InputView) → ReadsFirst old.input rest TICKETS_BYTES bytes
       → length bytes ≡ TICKETS_BYTES → RefusesOnOutput (refusal_name TooMany) (record old { input = rest }) status new
       → EndsAudit files old status new
-  no_memory : (bytes : List ℕ) (rest : InputView) → ReadsFirst old.input rest TICKETS_BYTES bytes
-      → length bytes < TICKETS_BYTES → RefusesOnOutput (refusal_name Memory) (record old { input = rest }) status new → EndsAudit files old status new
-  audited : (bytes : List ℕ) (rest : InputView) (evidence : List EvidenceView) → ReadsFirst old.input rest TICKETS_BYTES bytes
-      → length bytes < TICKETS_BYTES → GathersAll files bytes evidence
-      → Tells (audit_lines evidence) (if length (audit_lines evidence) == 0 then 0 else 1) old.output status new.output
-      → new ≡ record old { input = rest; output = new.output } → EndsAudit files old status new
+  audited : (bytes : List ℕ) (rest : InputView) (told : Bool) → ReadsFirst old.input rest TICKETS_BYTES bytes
+      → length bytes < TICKETS_BYTES → TellsAudit files (slice_split (λ byte. byte == 10) bytes) old.output told new.output
+      → status ≡ (if told then 1 else 0) → new ≡ record old { input = rest; output = new.output }
+      → EndsAudit files old status new
 
 -- What is shown breaks nothing that printers rely on: one ticket twice; or two that are beside one another, which show no
 -- ticket both, but for one and the ledger of the printer that it is for.
@@ -435,4 +444,4 @@ pub data IsSoundPair (one other : EvidenceView) : Type 0 where
 -- each was read, and breaks nothing with any later one
 abbrev pub AreAllSound : List EvidenceView → Type 0
 AreAllSound [] = Unit {0}
-AreAllSound (one ∷ later) = (one.fault ≡ None) × AllByRecursion (IsSoundPair one) later × AreAllSound later
+AreAllSound (one ∷ later) = (one.fault ≡ []) × AllByRecursion (IsSoundPair one) later × AreAllSound later

@@ -1,16 +1,18 @@
 //! `relay audit`: what ledgers and tickets show that breaks what printers rely on.
 
-ghost use Rattle.std.specs.Prelude.{◌≡◌, ◌==◌, ◌++◌, ℕ, List, Option, IfOk, OnOk, length, map, option_map, string_bytes};
+ghost use Rattle.std.specs.Prelude.{◌≡◌, ◌==◌, ◌++◌, ◌∷◌, ◌<◌, ◌^◌, false, true, ℕ, List, [], Bool, MatchResult, Ok, codes, length, map};
+ghost use Rattle.std.specs.Iterator.{AlwaysYields, IsFinite};
 ghost use Rattle.std.specs.List.{flat_map, list_any, slice_split};
 ghost use Rattle.dm_print_ledger.specs.Verdicts.{lacks_ticket};
-ghost use Rattle.relay_shared.specs.Command.{FileView};
-ghost use Rattle.relay_streams.specs.Streams.{TakesPart};
-ghost use Rattle.relay_printer_commands.specs.Printers.{EndsAudit, EvidenceView, Gathers, GathersAll, ShowsFile, ShowsLine, are_same, audit_lines, breach_line, breach_lines, evidence_name, fault_line, is_again, is_receiver as test_of_receiver, shows_none, line_texts};
+ghost use Rattle.relay_shared.specs.Command.{FileView, refusal_name};
+ghost use Rattle.relay_streams.specs.Streams.{OutputView, TakesPart, refused_line};
+ghost use Rattle.relay_printer_commands.specs.Printers.{EndsAudit, EvidenceView, HasGathered, ShowsFile, ShowsLine, TellsAudit, TellsLines, are_same, breach_line, breach_lines, evidence_name, is_again, is_receiver as test_of_receiver, pair_lines, shows_none};
 
 use crate::tickets::ticket_on;
 use dm_print_ledger::{MOST_BYTES, Shown, Ticket};
-use relay_shared::{NamedFile, Refusal, Streams, refuse, status_after};
-use relay_streams::Input;
+use itoa::Buffer;
+use relay_shared::{NamedFile, Refusal, Streams, refuse};
+use relay_streams::{Input, Output};
 use std::alloc::{AllocError, Allocator};
 use std::io::{Read, Write};
 use std::marker::Model;
@@ -21,12 +23,10 @@ pub const LEDGER_BYTES: usize = MOST_BYTES + 1;
 /// One byte more than the tickets of an audit have at most.
 pub const TICKETS_BYTES: usize = 1_048_577;
 
-// What a ledger or a ticket shows, or why it shows nothing.
+// What a ledger or a ticket shows.
 #[derive(Drop)]
 struct Evidence {
-    is_ledger: bool,
     place: usize,
-    fault: Option<&'static str>,
     ticket: Option<Ticket>,
     shown: Shown,
 }
@@ -34,71 +34,48 @@ struct Evidence {
 impl Model for Evidence {
     ghost Value = { EvidenceView };
 
-    ghost view = { λ one. record {
-      is_ledger = one.is_ledger;
-      place = one.place;
-      fault = option_map (λ name. name.now) one.fault;
-      ticket = one.ticket;
-      shown = one.shown;
-    } };
+    ghost view = { λ one. record { place = one.place; fault = []; ticket = one.ticket; shown = one.shown } };
 }
 
 impl Evidence {
-    fn none(is_ledger: bool, place: usize, fault: Option<&'static str>) -> Evidence
-        ensures { result ≡ shows_none is_ledger place (option_map (λ name. name.now) fault.entry) }
+    // What a file shows, or the name of its fault.
+    fn of_file<F: NamedFile>(file: &F, place: usize) -> Result<Evidence, &'static str>
+        ensures { MatchResult result (λ one. (one.fault ≡ []) × ShowsFile place (F.known file.now) one)
+            (λ name. ShowsFile place (F.known file.now) (shows_none (codes "file") place name.now)) }
     {
-        Evidence {
-            is_ledger,
-            place,
-            fault,
-            ticket: None,
-            shown: Shown::none(),
-        }
-    }
-
-    // What a file shows, which is read into this room.
-    fn of_file<F: NamedFile>(file: &F, room: &mut [u8], place: usize) -> Evidence
-        requires { length room.old ≡ LEDGER_BYTES }
-        ensures { ShowsFile place (F.known file.now) result }
-    {
+        let mut room = [0u8; LEDGER_BYTES];
         let reader = match file.open() {
             Ok(reader) => reader,
-            Err(fault) => return Evidence::none(true, place, Some(fault.name())),
+            Err(fault) => return Err(fault.name()),
         };
-        let count = match Input::new(reader).fill(room) {
+        let count = match Input::new(reader).fill(&mut room) {
             Ok(count) => count,
-            Err(fault) => return Evidence::none(true, place, Some(fault.name())),
+            Err(fault) => return Err(fault.name()),
         };
         match Shown::read(&room[..count]) {
-            Ok(shown) => Evidence {
-                is_ledger: true,
+            Ok(shown) => Ok(Evidence {
                 place,
-                fault: None,
                 ticket: None,
                 shown,
-            },
-            Err(fault) => Evidence::none(true, place, Some(fault.name())),
+            }),
+            Err(fault) => Err(fault.name()),
         }
     }
 
-    // What a line shows.
-    fn of_line(before: &[Evidence], line: &[u8], place: usize) -> Evidence
-        ensures { ShowsLine before.now place line.now result }
+    // What a line shows, or the name of its fault.
+    fn of_line(before: &[Evidence], line: &[u8], place: usize) -> Result<Evidence, &'static str>
+        ensures { MatchResult result (λ one. (one.fault ≡ []) × ShowsLine before.now place line.now one)
+            (λ name. ShowsLine before.now place line.now (shows_none (codes "line") place name.now)) }
     {
-        if line.is_empty() {
-            return Evidence::none(false, place, None);
-        }
         let Some(ticket) = ticket_on(line) else {
-            return Evidence::none(false, place, Some(Refusal::Ticket.name()));
+            return Err(Refusal::Ticket.name());
         };
         let is_open = is_lacked(before, ticket);
-        Evidence {
-            is_ledger: false,
+        Ok(Evidence {
             place,
-            fault: None,
             ticket: Some(ticket),
             shown: Shown::of_ticket(ticket, is_open),
-        }
+        })
     }
 
     // Whether they are the same ticket.
@@ -128,29 +105,20 @@ impl Evidence {
             && !(self.is_receiver(other) || other.is_receiver(self))
     }
 
-    fn name<A: Allocator + Copy>(&self, alloc: A) -> Result<String<A>, AllocError>
-        ensures { IfOk result (λ name. string_bytes name ≡ evidence_name self.now) }
+    // Tells its name after a space.
+    fn tell<W: Write>(&self, output: &mut Output<W>)
+        ensures { TellsLines (32 ∷ evidence_name self.now) output.old true output.new }
     {
-        let place = self.place;
-        if !self.is_ledger {
-            return format!(in alloc; "ticket {place}");
-        }
-        match self.shown.number() {
-            Some(number) => format!(in alloc; "ledger {place} of {number}"),
-            None => format!(in alloc; "ledger {place} of -"),
-        }
-    }
-
-    // Why it shows nothing.
-    fn fault_line<A: Allocator + Copy>(&self, alloc: A) -> Result<String<A>, AllocError>
-        ensures { IfOk result (λ line. string_bytes line ≡ fault_line self.now) }
-    {
-        let Some(name) = self.fault else {
-            return Ok(String::new(alloc));
+        let (mut placed, mut numbered) = (Buffer::new(), Buffer::new());
+        let place = placed.format(self.place).as_bytes();
+        let _ = match (self.ticket, self.shown.number()) {
+            (Some(_), _) => output.put_all(&[b" ticket ", place]),
+            (None, None) => output.put_all(&[b" ledger ", place, b" of -"]),
+            (None, Some(number)) => {
+                let number = numbered.format(number).as_bytes();
+                output.put_all(&[b" ledger ", place, b" of ", number])
+            }
         };
-        let list = if self.is_ledger { "file" } else { "line" };
-        let place = self.place;
-        format!(in alloc; "{list} {place} {name}\n")
     }
 }
 
@@ -161,130 +129,164 @@ fn is_lacked(evidence: &[Evidence], ticket: Ticket) -> bool
     evidence.iter().any(|one| one.shown.lacks(ticket))
 }
 
-// Gathers what files show.
-fn gather_files<A: Allocator + Copy, F: NamedFile>(
-    alloc: A,
-    files: &[F],
-) -> Result<Vec<Evidence, A>, AllocError>
-    ensures { IfOk result (λ evidence. (lines : List (List ℕ))
-        → Gathers (map F.known files.now) lines (length (map F.known files.now)) 0 evidence.items) }
-{
-    let mut room = vec![in alloc; 0u8; LEDGER_BYTES]?;
-    let mut evidence = Vec::new(alloc);
-    for (i, file) in files.iter().enumerate() {
-        evidence.push(Evidence::of_file(file, &mut room, i + 1))?;
-    }
-    Ok(evidence)
-}
-
-// The lines of a text.
-fn lines_in<'a, A: Allocator>(alloc: A, text: &'a [u8]) -> Result<Vec<&'a [u8], A>, AllocError>
-    ensures { IfOk result (λ lines. line_texts lines.items ≡ slice_split (λ byte. byte == 10) text.now) }
-{
-    text.split(|byte| *byte == b'\n').collect(alloc)
-}
-
-// Gathers what lines show.
-fn gather_lines<A: Allocator + Copy>(
+// Keeps what a file or a line shows, or tells why it shows nothing and gives true; or tells that memory was refused.
+fn gather<A: Allocator, W: Write>(
     evidence: &mut Vec<Evidence, A>,
-    lines: &[&[u8]],
-) -> Result<(), AllocError>
-    ensures { (files : List FileView) (n : ℕ) → Gathers files (line_texts lines.now) n 0 evidence.old.items
-        → OnOk result (Gathers files (line_texts lines.now) n (length (line_texts lines.now)) evidence.new.items) }
+    output: &mut Output<W>,
+    list: &str,
+    place: usize,
+    seen: Result<Evidence, &str>,
+) -> Result<bool, AllocError>
+    ensures { MatchResult seen.entry
+        (λ one. MatchResult result
+        (λ told. (told ≡ false) × (evidence.new.items ≡ evidence.old.items ++ one ∷ []) × (output.new ≡ output.old))
+        (λ _. TellsLines (refused_line (refusal_name Refusal.Memory)) output.old true output.new))
+        (λ name. (result ≡ Ok true) × (evidence.new.items ≡ evidence.old.items)
+        × TellsLines (shows_none list.now place name.now).fault output.old true output.new) }
 {
-    for (i, line) in lines.iter().enumerate() {
-        let shown = Evidence::of_line(evidence.as_slice(), *line, i + 1);
-        evidence.push(shown)?;
+    match seen {
+        Ok(one) => {
+            if let Err(fault) = evidence.push(one) {
+                let _ = output.put_refusal(Refusal::Memory.name());
+                return Err(fault.into());
+            }
+            Ok(false)
+        }
+        Err(name) => {
+            let mut digits = Buffer::new();
+            let place = digits.format(place).as_bytes();
+            let _ = output.put_all(&[list.as_bytes(), b" ", place, b" ", name.as_bytes(), b"\n"]);
+            Ok(true)
+        }
     }
-    Ok(())
 }
 
-// Appends the line of what is wrong between two, if it is.
-fn push_breach<A: Allocator + Copy>(
-    alloc: A,
-    text: &mut Vec<u8, A>,
+// Gathers what files show, and says whether any shows nothing.
+fn gather_files<A: Allocator, F: NamedFile, W: Write>(
+    evidence: &mut Vec<Evidence, A>,
+    output: &mut Output<W>,
+    files: &[F],
+) -> Result<bool, AllocError>
+    requires { evidence.old.items ≡ [] }
+    ensures { (lines : List (List ℕ)) → let known : List FileView = map F.known files.now in MatchResult result
+        (λ told. HasGathered known lines (length known) 0 evidence.new.items output.old told output.new)
+        (λ _. TellsAudit known lines output.old true output.new) }
+{
+    let mut told = false;
+    for (i, file) in files.iter().enumerate() {
+        let seen = Evidence::of_file(file, i + 1);
+        told |= gather(evidence, output, "file", i + 1, seen)?;
+    }
+    Ok(told)
+}
+
+// Gathers what lines show, but for empty ones, and says whether any fault was told, of a file or of a line.
+fn gather_lines<'a, A: Allocator, W: Write, I: Iterator<Item = &'a [u8]> + Drop>(
+    evidence: &mut Vec<Evidence, A>,
+    output: &mut Output<W>,
+    lines: I,
+    told: bool,
+) -> Result<bool, AllocError>
+    requires can_next { I.can_next lines × IsFinite (I.remaining lines) }
+    requires few { (all : List (List ℕ)) × AlwaysYields I.next_gives (λ line. line.now) lines all × (length all < 2 ^ 64) }
+    ensures { (all : List (List ℕ)) → AlwaysYields I.next_gives (λ line. line.now) lines all
+        → (files : List FileView) (old : OutputView)
+        → HasGathered files all (length files) 0 evidence.old.items old told output.old → MatchResult result
+        (λ told. HasGathered files all (length files) (length all) evidence.new.items old told output.new)
+        (λ _. TellsAudit files all old true output.new) }
+{
+    let (mut place, mut told) = (0, told);
+    for line in lines {
+        place += 1;
+        if !line.is_empty() {
+            let seen = Evidence::of_line(evidence.as_slice(), line, place);
+            told |= gather(evidence, output, "line", place, seen)?;
+        }
+    }
+    Ok(told)
+}
+
+// Tells what is wrong between two, if it is.
+fn tell_breach<W: Write>(
+    output: &mut Output<W>,
     is: bool,
     kind: &str,
     one: &Evidence,
     other: &Evidence,
-) -> Result<(), AllocError>
-    ensures { OnOk result (text.new.items ≡ text.old.items ++ breach_line is kind.now one.now other.now) }
+) -> bool
+    ensures { TellsLines (breach_line is kind.now one.now other.now) output.old result output.new }
 {
-    if !is {
-        return Ok(());
+    if is {
+        let _ = output.put(kind.as_bytes());
+        one.tell(output);
+        other.tell(output);
+        let _ = output.put(b"\n");
     }
-    let (one, other) = (one.name(alloc)?, other.name(alloc)?);
-    let (one, other) = (one.as_str(), other.as_str());
-    let line = format!(in alloc; "{kind} {one} {other}\n")?;
-    text.extend_from_slice(line.as_bytes())
+    is
 }
 
-// Appends the lines of all that is wrong between two.
-fn push_breaches<A: Allocator + Copy>(
-    alloc: A,
-    text: &mut Vec<u8, A>,
-    one: &Evidence,
-    other: &Evidence,
-) -> Result<(), AllocError>
-    ensures { OnOk result (text.new.items ≡ text.old.items ++ breach_lines one.now other.now) }
+// Tells all that is wrong between two.
+fn tell_breaches<W: Write>(output: &mut Output<W>, one: &Evidence, other: &Evidence) -> bool
+    ensures { TellsLines (breach_lines one.now other.now) output.old result output.new }
 {
     if one.is_same(other) {
-        return Ok(());
+        return false;
     }
     let (shown, its) = (&one.shown, &other.shown);
-    push_breach(alloc, text, shown.is_of_one_with(its), "number", one, other)?;
-    push_breach(alloc, text, shown.shares_numbers(its), "free", one, other)?;
-    push_breach(alloc, text, one.is_again(other), "again", one, other)?;
-    push_breach(alloc, text, shown.is_behind(its), "behind", one, other)?;
-    push_breach(alloc, text, its.is_behind(shown), "behind", other, one)
+    tell_breach(output, shown.is_of_one_with(its), "number", one, other)
+        | tell_breach(output, shown.shares_numbers(its), "free", one, other)
+        | tell_breach(output, one.is_again(other), "again", one, other)
+        | tell_breach(output, shown.is_behind(its), "behind", one, other)
+        | tell_breach(output, its.is_behind(shown), "behind", other, one)
 }
 
-// Appends the lines of all that is wrong between one and each later one.
-fn push_all<A: Allocator + Copy>(
-    alloc: A,
-    text: &mut Vec<u8, A>,
-    one: &Evidence,
-    later: &[Evidence],
-) -> Result<(), AllocError>
-    ensures { OnOk result (text.new.items ≡ text.old.items ++ flat_map (breach_lines one.now) later.now) }
+// Tells all that is wrong between one and each later one.
+fn tell_later<W: Write>(output: &mut Output<W>, one: &Evidence, later: &[Evidence]) -> bool
+    ensures { TellsLines (flat_map (breach_lines one.now) later.now) output.old result output.new }
 {
+    let mut told = false;
     for other in later {
-        push_breaches(alloc, text, one, other)?;
+        told |= tell_breaches(output, one, other);
     }
-    Ok(())
+    told
 }
 
-// The lines of an audit.
-fn lines_of<A: Allocator + Copy>(alloc: A, evidence: &[Evidence]) -> Result<Vec<u8, A>, AllocError>
-    ensures { IfOk result (λ text. text.items ≡ audit_lines evidence.now) }
+// Tells all that is wrong between any two.
+fn tell_pairs<W: Write>(output: &mut Output<W>, evidence: &[Evidence]) -> bool
+    ensures { TellsLines (pair_lines evidence.now) output.old result output.new }
 {
-    let mut text = Vec::new(alloc);
+    let mut told = false;
     for (i, one) in evidence.iter().enumerate() {
-        text.extend_from_slice(one.fault_line(alloc)?.as_bytes())?;
-        push_all(alloc, &mut text, one, &evidence[i + 1..])?;
+        told |= tell_later(output, one, &evidence[i + 1..]);
     }
-    Ok(text)
+    told
 }
 
-// The lines of an audit of these files, and of the tickets in these bytes.
-fn audit<A: Allocator + Copy, F: NamedFile>(
+// Tells what these files, and the tickets in these bytes, show that is wrong, and says whether anything is.
+fn audit<A: Allocator, F: NamedFile, W: Write>(
     alloc: A,
+    output: &mut Output<W>,
     files: &[F],
     bytes: &[u8],
-) -> Result<Vec<u8, A>, AllocError>
-    ensures { IfOk result (λ text. (evidence : List EvidenceView)
-        × GathersAll (map F.known files.now) bytes.now evidence × (text.items ≡ audit_lines evidence)) }
+) -> bool
+    ensures { TellsAudit (map F.known files.now) (slice_split (λ byte. byte == 10) bytes.now)
+        output.old result output.new }
 {
-    let lines = lines_in(alloc, bytes)?;
-    let mut evidence = gather_files(alloc, files)?;
-    gather_lines(&mut evidence, lines.as_slice())?;
-    let text = lines_of(alloc, evidence.as_slice())?;
-    Ok(text)
+    let mut evidence = Vec::new(alloc);
+    let Ok(told) = gather_files(&mut evidence, output, files) else {
+        return true;
+    };
+    let lines = bytes.split(|byte| *byte == b'\n');
+    let Ok(told) = gather_lines(&mut evidence, output, lines, told) else {
+        return true;
+    };
+    told | tell_pairs(output, evidence.as_slice())
 }
 
-/// Reads ledgers from files, and tickets from the lines of the input, at most 1,048,576 bytes of them. Prints a line
-/// for each two of them that break what printers rely on, one for each file that gives no ledger, and one for each line
-/// that has no ticket and is not empty. The exit status is 0 where it prints none. Nothing is saved or locked.
+/// Reads ledgers from files, and tickets from the lines of the input, at most 1,048,576 bytes of them. Prints a line for
+/// each file that gives no ledger, and each line that has no ticket and is not empty, as it is read; and then one for
+/// each two that break what printers rely on. Where memory is refused for what a file or a line shows, `refused Memory`
+/// is the last line, and no more is read. The exit status is 0 where it prints none. Nothing is saved or locked.
 pub fn audit_command<A: Allocator + Copy, F: NamedFile, R: Read, W: Write, E: Write>(
     alloc: A,
     files: &[F],
@@ -300,9 +302,5 @@ pub fn audit_command<A: Allocator + Copy, F: NamedFile, R: Read, W: Write, E: Wr
     if bytes.len() == TICKETS_BYTES {
         return refuse(&mut streams.output, Refusal::TooMany.name());
     }
-    let Ok(text) = audit(alloc, files, &bytes) else {
-        return refuse(&mut streams.output, Refusal::Memory.name());
-    };
-    let status = status_after(streams.output.put(&text));
-    if text.is_empty() { status } else { 1 }
+    u8::from(audit(alloc, &mut streams.output, files, &bytes))
 }

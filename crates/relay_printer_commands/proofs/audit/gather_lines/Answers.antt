@@ -1,17 +1,63 @@
-use Rattle.std.proofs.Common.{◌≡◌, ◌++◌, ◌∷◌, [], arith, length}
-use Rattle.std.proofs.lemmas.{Grind.common_steps, List.length-map}
-use Rattle.relay_printer_commands.specs.Printers.{line_texts}
-use Rattle.relay_printer_commands.proofs.AuditSteps.{line_gathered}
+use Rattle.std.proofs.Common.{◌≡◌, ◌<◌, ◌∙◌, ℕ, Bor, List, Option, Some, ap, arith, length, rules, sym}
+use Rattle.std.proofs.lemmas.{Grind.common_steps, Iterator.Consumers.YieldsList-at, Iterator.Consumers.YieldsList-end, Iterator.Consumers.YieldsList-turn}
+use Rattle.std.proofs.lemmas.{Option.slice_get-get_or, Result.err_from_is_err_and, Bool.eqb-false, Bool.eqb-true}
+use Rattle.std.specs.{Prelude.slice_get, Iterator.AlwaysYields, Iterator.Yields}
+use Rattle.relay_printer_commands.specs.Printers.{Gathers.empty}
+use Rattle.relay_printer_commands.proofs.AuditSteps.{one_more_line}
 use Rattle.relay_printer_commands.proofs.audit.gather_lines.Goals as goal
 
-pub loop-i-preserved : goal.loop-i-preserved
-loop-i-preserved g c = λ files n begun.
-    let grown : c.push.new.self.items ≡ c.loop-i.evidence.items ++ c.of_line-shown.result ∷ [] = grind (arith, common_steps) in
-    rw grown (line_gathered _ files c.args.lines.now n c.loop-i.i _ _ _ c.loop-i-test.true
-    (c.loop-i.invariant files n begun) (rw c.as_slice.ensures.value at c.of_line-shown.ensures))
+-- where the next line stands
+line_at : {S : Type 0} (steps : S → Option (Bor (List ℕ)) → S → Type 0) (all : List (List ℕ)) {start first now next : S}
+    {item : Option (Bor (List ℕ))} {line : Bor (List ℕ)} (yielded : List (Bor (List ℕ))) →
+    AlwaysYields steps (λ line. line.now) start all → first ≡ start → Yields steps first yielded now → item ≡ Some line →
+    steps now item next → (length yielded < length all) × (slice_get all (length yielded) ≡ Some line.now)
+line_at steps all yielded yields same so_far is step =
+    let turn = YieldsList-turn {steps = steps} {v = λ line. line.now} (YieldsList-at same (record { runs = yields })) yielded _ so_far _ _ _ is step in
+    (turn.0, slice_get-get_or all (length yielded) _ turn.0 ∙ ap (λ x. Some x) (sym turn.1))
+
+pub overflow_add-place : goal.overflow_add-place
+overflow_add-place g c =
+    let (all, yields, few) = c.requires.few in
+    let (can, finite, place, so_far) = c.loop-line.invariant in
+    let at = line_at g.I.Iterator.next_gives all c.loop-line.yielded yields c.into_iter-line-iterator.ensures.into_iter_gives c.loop-line.yielded_by c.in-Some.is c.next.ensures.steps in
+    omega (arith, place, at.0, few)
+
+pub loop-line-preserved-then-not-is_empty : goal.loop-line-preserved-then-not-is_empty
+loop-line-preserved-then-not-is_empty g c =
+    let (can, finite, place, so_far) = c.loop-line.invariant in (
+      search rules,
+      search rules,
+      grind (arith, common_steps, place),
+      λ files all old gathered yields.
+          let at = line_at g.I.Iterator.next_gives all c.loop-line.yielded yields c.into_iter-line-iterator.ensures.into_iter_gives c.loop-line.yielded_by c.in-Some.is c.next.ensures.steps in
+          rw (c.in_ok-told.was) at (one_more_line files all c.loop-line.place c.in-Some.line.now c.of_line-seen.result _ _ _ _ _ _ c.gather.result
+          (rw (← place) at at.1) (eqb-false _ _ (sym c.is_empty.ensures ∙ c.if-not-is_empty.true)) (so_far files all old gathered yields)
+          (rw c.as_slice.ensures.value at c.of_line-seen.ensures) c.gather.ensures),
+    )
+
+pub loop-line-preserved : goal.loop-line-preserved
+loop-line-preserved g c =
+    let (can, finite, place, so_far) = c.loop-line.invariant in (
+      search rules,
+      search rules,
+      grind (arith, common_steps, place),
+      λ files all old gathered yields.
+          let at = line_at g.I.Iterator.next_gives all c.loop-line.yielded yields c.into_iter-line-iterator.ensures.into_iter_gives c.loop-line.yielded_by c.in-Some.is c.next.ensures.steps in
+          let kept = so_far files all old gathered yields in
+          (kept.0, empty c.in-Some.line.now kept.1 (rw (← place) at at.1) (eqb-true _ _ (sym c.if-not-is_empty.ensures)), kept.2, kept.3),
+    )
 
 pub returns : goal.returns
-returns g c = λ files n begun.
-    let all : c.loop-i.i
-    ≡ length (line_texts c.args.lines.now) = omega (arith, length-map c.args.lines.now (λ line. line.now)) in
-    rw all at (c.loop-i.invariant files n begun)
+returns g c = λ all yields files old gathered.
+    let (can, finite, place, so_far) = c.loop-line.invariant in
+    let end = YieldsList-end {steps = g.I.Iterator.next_gives} {v = λ line. line.now} (YieldsList-at c.into_iter-line-iterator.ensures.into_iter_gives (record { runs = yields })) c.loop-line.yielded _ c.loop-line.yielded_by _ _ c.in-None.is c.next.ensures.steps in
+    rw (place, end.1) at (so_far files all old gathered yields)
+
+pub returns-in_err-told : goal.returns-in_err-told
+returns-in_err-told g c = λ all yields files old gathered.
+    let (can, finite, place, so_far) = c.loop-line.invariant in
+    let at = line_at g.I.Iterator.next_gives all c.loop-line.yielded yields c.into_iter-line-iterator.ensures.into_iter_gives c.loop-line.yielded_by c.in-Some.is c.next.ensures.steps in
+    rw (err_from_is_err_and c.from_residual.result c.from_residual.ensures.1).1
+    (rw (c.in_err-told.was) at (one_more_line files all c.loop-line.place c.in-Some.line.now c.of_line-seen.result _ _ _ _ _ _ c.gather.result
+    (rw (← place) at at.1) (eqb-false _ _ (sym c.is_empty.ensures ∙ c.if-not-is_empty.true)) (so_far files all old gathered yields)
+    (rw c.as_slice.ensures.value at c.of_line-seen.ensures) c.gather.ensures))

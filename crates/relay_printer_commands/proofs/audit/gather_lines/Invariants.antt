@@ -1,9 +1,15 @@
-use Rattle.std.proofs.Common.{ℕ, List}
+use Rattle.std.proofs.Common.{◌≡◌, ℕ, List, length}
+use Rattle.std.specs.Iterator.{AlwaysYields}
+use Rattle.relay_printer_commands.specs.Printers.{HasGathered}
 use Rattle.relay_shared.specs.Command.{FileView}
-use Rattle.relay_printer_commands.specs.Printers.{Gathers, line_texts}
+use Rattle.relay_streams.specs.Streams.{OutputView}
 use Rattle.relay_printer_commands.proofs.audit.gather_lines.Given as goal
 
-abbrev pub invariant-loop-i : goal.invariant-loop-i
-invariant-loop-i g l = (files : List FileView) (n : ℕ)
-    → Gathers files (line_texts l.lines) n 0 l.initial.evidence.items
-    → Gathers files (line_texts l.lines) n l.i l.evidence.items
+-- the lines before are gathered
+abbrev pub invariant-loop-line : goal.invariant-loop-line
+invariant-loop-line g l = (goal.iterator-loop-line g).can_next l.line-iterator
+    × (goal.iterator-loop-line g).is_finite l.line-iterator
+    × (l.place ≡ length l.yielded) × ((files : List FileView) (all : List (List ℕ)) (old : OutputView)
+    → HasGathered files all (length files) 0 l.initial.evidence.items old l.fn.told l.initial.output
+    → AlwaysYields g.I.Iterator.next_gives (λ line. line.now) l.fn.lines all
+    → HasGathered files all (length files) l.place l.evidence.items old l.told l.output)

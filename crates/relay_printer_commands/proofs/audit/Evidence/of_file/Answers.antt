@@ -5,24 +5,21 @@ use Rattle.relay_printer_commands.specs.Printers.ShowsFile.{not_read, read, refu
 use Rattle.relay_printer_commands.proofs.audit.Evidence.of_file.Goals as goal
 
 pub returns-in-Err : goal.returns-in-Err
-returns-in-Err g c =
-    rw (c.none.ensures, c.name.ensures) (not_read c.in-Err.fault (inl c.in-Err.ensures.refused))
+returns-in-Err g c = rw c.name.ensures (not_read c.in-Err.fault (inl c.in-Err.ensures.refused))
 
 pub returns-in-Err-fill : goal.returns-in-Err-fill
 returns-in-Err-fill g c =
-    rw (c.none-in-Err-fill.ensures, c.name-in-Err-fill.ensures, read_named c.in-Err-fill.fault)
-    (not_read input_faults.Read (inr refl))
+    rw (c.name-in-Err-fill.ensures, read_named c.in-Err-fill.fault) (not_read input_faults.Read (inr refl))
 
 pub returns-in-Ok-read : goal.returns-in-Ok-read
 returns-in-Ok-read g c =
-    let first = first_of_file (c.new.ensures.remaining ∙ c.in-Ok.ensures.opened) (c.fill.auto.buffer ∙ c.requires)
+    let first = first_of_file (c.new.ensures.remaining ∙ c.in-Ok.ensures.opened) c.fill.auto.buffer
     c.in-Ok-fill.ensures.filled in
-    read (take c.in-Ok-fill.count c.fill.new.buffer) c.in-Ok-read.shown first (sym c.read.ensures ∙ c.in-Ok-read.is)
+    (refl, read (take c.in-Ok-fill.count c.fill.new.buffer) c.in-Ok-read.shown first (sym c.read.ensures ∙ c.in-Ok-read.is))
 
 pub returns-in-Err-read : goal.returns-in-Err-read
 returns-in-Err-read g c =
-    let first = first_of_file (c.new.ensures.remaining ∙ c.in-Ok.ensures.opened) (c.fill.auto.buffer ∙ c.requires)
+    let first = first_of_file (c.new.ensures.remaining ∙ c.in-Ok.ensures.opened) c.fill.auto.buffer
     c.in-Ok-fill.ensures.filled in
-    rw (c.none-in-Err-read.ensures, c.name-in-Err-read.ensures)
-    (refused (take c.in-Ok-fill.count c.fill.new.buffer) c.in-Err-read.fault first
+    rw c.name-in-Err-read.ensures (refused (take c.in-Ok-fill.count c.fill.new.buffer) c.in-Err-read.fault first
     (sym c.read.ensures ∙ c.in-Err-read.is))
