@@ -1,14 +1,10 @@
 //! Each command over readers and writers that fail, or are interrupted, after each number of bytes.
 
-use crate::calls::{
-    BOTH, CALLS, Call, CallEnd, Whole, alone, alone_whole, is_whole, made, made_over, streams_of,
-};
-use crate::machine::Machine;
-use dm_store::Kept;
+use crate::calls::{CALLS, Call, CallEnd, Whole, alone, alone_whole, is_whole, streams_of};
 use relay_shared::Streams;
 use std::alloc::Global;
 use std::test::Fail;
-use test_helpers::{Faulty, FaultyWriter, MemDisk};
+use test_helpers::{Faulty, FaultyWriter};
 
 // Whether a command whose read is interrupted ends as over its whole input.
 fn reads_again(alloc: Global, call: Call, passes: usize, whole: &Whole) -> Result<bool, Fail> {
@@ -76,36 +72,6 @@ fn writers_are_interrupted_or_fail(rt: HostRuntime) -> Result<(), Fail> {
                 && has_prefix(&cut, &whole, call, passes);
             assert!(rt; is_right, "{call:?} {passes}");
         }
-    }
-    Ok(())
-}
-
-// A text that is no ID is refused before any file is looked at: of a disk that does one call this is left.
-#[test]
-fn no_id_is_refused_before_any_file(rt: HostRuntime) -> Result<(), Fail> {
-    let alloc = rt.alloc();
-    for text in ["", "0001", "ff01", "01fg"] {
-        for call in [Call::Forget(text), Call::Export(text)] {
-            let machine = Machine::new(alloc, MemDisk::new(alloc), 1, Kept::Old)?;
-            let ended = made(alloc, machine, call)?;
-            let is_refused = ended.is_refused(call, b"refused FileId\n");
-            assert!(rt; is_refused && !ended.has_stopped, "{text}");
-        }
-    }
-    Ok(())
-}
-
-// So is an import whose input fails.
-#[test]
-fn an_unread_import_is_refused_before_any_file(rt: HostRuntime) -> Result<(), Fail> {
-    let alloc = rt.alloc();
-    for passes in 0..BOTH.len() {
-        let machine = Machine::new(alloc, MemDisk::new(alloc), 1, Kept::Old)?;
-        let call = Call::Import(BOTH);
-        let streams = streams_of(alloc, Faulty::failing(BOTH, passes));
-        let ended = made_over(alloc, alloc, machine, streams, call)?;
-        let is_refused = ended.is_refused(call, b"refused Read\n");
-        assert!(rt; is_refused && !ended.has_stopped, "{passes}");
     }
     Ok(())
 }

@@ -1,9 +1,6 @@
-//! Inputs and outputs over readers and writers that fail in mid-stream, and over one that is interrupted; and the texts
-//! of the faults of stores, streams and images.
+//! Inputs and outputs over readers and writers that fail in mid-stream, and over one that is interrupted.
 
-use dm_pbm_io::{PbmFault, ShapeFault};
-use dm_store::StoreFault;
-use relay_streams::{Input, InputFault, Output, ReadFault, WriteFault};
+use relay_streams::{Input, InputFault, Output, ReadFault};
 use std::test::Fail;
 use test_helpers::Faulty;
 
@@ -64,27 +61,4 @@ fn a_failed_write_is_remembered(rt: HostRuntime) {
         let written = output.writer().taken();
         assert!(rt; written.len() == passes.min(13) && b"refused Read\n".starts_with(written));
     }
-}
-
-const TEXTS: &str = "\
-the device failed, out of memory
-the input could not be read
-the input could not be read, out of memory
-the output could not be written
-the input does not begin with P1 or P4, the header is invalid, the image is too large
-the input ends inside the image, the raster has a byte that is no pixel
-the input could not be read, out of memory
-the image has not the shape of a symbol, out of memory";
-
-#[rattlefmt::skip]
-#[test]
-fn faults_say_what_is_wrong(rt: HostRuntime) -> Result<(), Fail> {
-    let texts = format!(in rt.alloc();
-        "{}, {}\n{}\n{}, {}\n{}\n{}, {}, {}\n{}, {}\n{}, {}\n{}, {}", StoreFault::Device, StoreFault::Memory,
-        ReadFault::Read, InputFault::Read, InputFault::Memory, WriteFault::Write, PbmFault::Magic,
-        PbmFault::Header, PbmFault::TooLarge, PbmFault::Cut, PbmFault::Pixel, PbmFault::Read,
-        PbmFault::Memory, ShapeFault::Shape, ShapeFault::Memory,
-    )?;
-    assert!(rt; texts.as_str() == TEXTS);
-    Ok(())
 }
