@@ -1,4 +1,5 @@
--- What the creation of a printer does to a store.
+-- Printers: how one is created and opened, the verdicts on a print, a give and a take, what ledgers and tickets show
+-- of one another, and the names of the faults.
 use Rattle.std.specs.Prelude.{◌≡◌, ◌⊎◌, ℕ, [], ◌∷◌, None, Result, Ok, Err, IsTrue, IsSome, IfOk, MatchBool, ◌+◌, ◌≤◌, ◌↔◌, ◌&&◌, ◌||◌, not, true, false, List, Some, ◌==◌, if◌then◌else◌, length, nat_lt, Bool, ◌-◌, ◌++◌, nat_le, min, max, Option, unwrap_or, IsSomeAnd, is_some, codes, ◌<◌, ◌≢◌, MatchOption}
 use Rattle.std.specs.{Option.option_map_or, Option.option_or, List.list_any, List.Contains}
 use Rattle.dm_store.specs.Saved.{Saved, Replaces, LoadsOpen}
