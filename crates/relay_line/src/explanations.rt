@@ -23,30 +23,31 @@ pub static EXPLANATIONS: [&str; 45] = [
     "Read\n  From: all that read input.\n  The input or a named file could not be read.\n  \
     What to do: check the file, and try again. A `scan` or `import` has kept the\n  pages that it reported.\n",
     "Memory\n  From: all.\n  Memory was refused.\n  \
-    What to do: free some memory, and try again. If `print` had written its\n  line, the ID stays used.\n",
+    What to do: free some memory, and try again. If `print` had written its\n  \
+    line, the ID stays used; what `audit` said before it holds.\n",
     "Magic\n  The next bytes aren't `P1` or `P4`; often there is a stray line end after a\n  packed image.\n  \
     What to do: give PBM images, one right after another; `relay-find` makes\n  \
-    them from pictures, `pngtopnm` and `pamthreshold` from a PNG.\n",
+    them from pictures, `pngtopnm`, `pamthreshold` and `pamtopnm` from a PNG.\n",
     "Header\n  The PBM header is malformed, or longer than 4,096 bytes.\n  \
     What to do: make the image again, with a header of `P4`, width and height.\n",
     "TooLarge\n  The image is wider or higher than 1,024 pixels, or its plain raster has more\n  \
     than 4,194,304 bytes.\n  What to do: give one pixel per module, as `relay-find` does.\n",
     "Pixel\n  A plain image has a byte that is not a pixel.\n  \
-    What to do: make the image again; after its header only 0, 1 and white space\n  may follow.\n",
+    What to do: make the image again, with only 0, 1 and white space after its\n  header.\n",
     "Cut\n  The input ends inside an image; or a symbol's text ends inside a character\n  \
     or a counted run of bytes.\n  What to do: give the whole image; a symbol with such a text can't be read.\n",
     "Shape\n  The image is not square, or its width less two is not a side.\n  \
     What to do: crop and shrink it to one pixel per module with a quiet zone of\n  \
     one pixel, or use `relay-find`.\n",
     "Border\n  Over an eighth of the finder patterns' modules are wrong, for example\n  \
-    because the image is turned, mirrored or inverted.\n  \
+    because the image is turned, mirrored or inverted, or its quiet zone isn't\n  one pixel wide.\n  \
     What to do: make the changes that the note names (RECIPES.md); or give the\n  \
     picture to `relay-find`; or scan the label or a copy again.\n",
     "Block\n  A block has more wrong codewords than can be corrected; the image may be\n  mirrored.\n  \
     What to do: make the changes that the note names, or scan the label again.\n  \
     If that fails, `copy` it at a desk that holds its page, or print the\n  document again.\n",
     "NotAppended\n  The symbol that `scan` got is not a label.\n  \
-    What to do: set it aside; `read` prints its text.\n",
+    What to do: set it aside; `read` prints its text, if it can.\n",
     "Sequence\n  The label's number, its number of labels or its ID is impossible.\n  \
     What to do: set it aside: another program made it, or it was misread.\n",
     "Unsupported\n  The symbol uses a feature that `relay` does not read (ECI, FNC1, X12 and\n  others).\n  \
@@ -58,9 +59,11 @@ pub static EXPLANATIONS: [&str; 45] = [
     system: LIMITS.md), or one was misread. `forget` drops what is held.\n",
     "Full\n  The desk of `scan` or `import` may hold no further document.\n  \
     What to do: `deliver` and `forget` complete documents, or give a larger\n  `--capacity`, up to 1,024.\n",
-    "TooMany\n  More follows after 65,536 images, or `audit` gets more than 1,048,576 bytes\n  of tickets.\n  \
-    What to do: use two commands.\n\n  From: the commands of desks but `held`.\n  \
-    The desk holds more documents than its capacity, which is 1,024 for commands\n  without `--capacity`.\n  \
+    "TooMany\n  More follows in one file after 65,536 images, or `audit` gets more than\n  \
+    1,048,576 bytes of tickets.\n  What to do: split the file; `audit` compares only tickets of one run, so try\n  \
+    every two parts together.\n\n  From: the commands of desks but `held`.\n  \
+    The desk holds more documents than its capacity (without `--capacity` 64 for\n  \
+    `scan` and `import`, 1,024 for others).\n  \
     What to do: give a larger `--capacity`, up to 1,024. Beyond that, while no\n  \
     command runs, move files to another desk's folder that has none of these\n  names.\n",
     "Absent\n  From: `print`, `give`, `take`, `left`.\n  There is no ledger at this path.\n  \
@@ -69,7 +72,8 @@ pub static EXPLANATIONS: [&str; 45] = [
     What to do: a ledger is made only once; use another path.\n",
     "Device\n  From: commands with `--file`.\n  \
     A file could not be used: it can't be read, is not a plain file, has a\n  \
-    second name, is in use by another program, can't be locked, or its folder is\n  missing or can't be synced.\n  \
+    second name or a reserved ending (LIMITS.md), is in use by another program,\n  \
+    can't be locked, or its folder is missing or can't be synced.\n  \
     What to do: read the line `relay: PATH: WHY`. Correct what it names, or wait\n  \
     for the other program. After `ledger` check with `left`: the ledger may be\n  there.\n",
     "Save\n  From: all that save but `ledger`.\n  \
@@ -77,7 +81,7 @@ pub static EXPLANATIONS: [&str; 45] = [
     removed. The ID or the range may be used up, the page held, the document\n  \
     forgotten; nothing was printed or given.\n  \
     What to do: read the line `relay: PATH: WHY`, mend that, and run the command\n  \
-    again; a file that `--to` names must not be there yet.\n",
+    again; a file of `--to` or `--all` must not be there yet.\n",
     "Write\n  From: all; `read` and `scan` write no line.\n  \
     The output refused a write. What was saved stays saved: the ledger is made,\n  \
     the ID used, the range given or taken, the pages held, the document\n  forgotten.\n  \
@@ -91,8 +95,8 @@ pub static EXPLANATIONS: [&str; 45] = [
     A file of the desk, or one for `import`, is not a file of pages, is damaged,\n  or belongs to another ID.\n  \
     What to do: read the line `relay: FILE: NAME`. Move the desk's file away,\n  \
     and scan its labels again; meanwhile `held` lists the other documents.\n  Export the one for `import` anew.\n",
-    "Version\n  From: the commands of files.\n  The file's version is unknown to this program.\n  \
-    What to do: use the program that wrote it.\n",
+    "Version\n  From: the commands of files.\n  This command reads no such version.\n  \
+    What to do: use the program that wrote it; `export` pages of version 1.\n",
     "Number\n  From: `print`, `give`, `take`.\n  The ledger is another printer's.\n  \
     What to do: check `--number` and `--file`.\n",
     "NotPages\n  From: the commands of desks.\n  \

@@ -77,7 +77,7 @@ looked at. Each image gives a line:
   refused NAME    none that can be read
 C codewords were wrong and were corrected, W modules of the finder patterns
 are wrong, and HEX is the bytes in hexadecimal, or `-` for none.
-Files that are named are read in turn, up to the end of each.
+Files that are named are read in turn.
 
 Example:
   relay read < symbol.pbm",
@@ -93,7 +93,7 @@ static OF_PRINTERS: [Page; 4] = [
         more: "\
 A ledger is what a printer remembers: which IDs are free. No two ledgers may
 share a number or an ID. Prints `left N`, how many are free. A refusal goes to
-standard output, and what is at LEDGER stays as it is.
+standard output, and a file that was at LEDGER stays as it was.
 
 Example:
   relay ledger --file north.ledger --first 0 --last 9999 --number 1",
@@ -206,8 +206,9 @@ Example:
         usage: "relay audit [LEDGERS ..] < TICKETS",
         rows: &[LEDGERS],
         more: "\
-Reads ledgers, and from standard input tickets, one a line, in either form. For
-each pair that breaks what printers rely on, it prints a line:
+Reads ledgers, and from standard input tickets, one a line, in either form and
+without the word `ticket`. For each pair that breaks what printers rely on, it
+prints a line:
   number A B        two ledgers are of one printer
   free A B          an ID is free in both; a ticket's IDs are free on it until
                     its receiver, whose ledger must be given, has taken it
@@ -215,9 +216,10 @@ each pair that breaks what printers rely on, it prints a line:
   behind A B        ledger A is an older state: by B its printer has given more,
                     or, in another ledger of that printer, has taken more
 A and B are `ledger I of P`, with its place on the line and its printer, and
-`ticket K`, with its line. `file I NAME` stands for a file that gives no ledger,
-`line K Ticket` for a line that is no ticket. Give it all ledgers of a site and
-all tickets that were given: it is silent, with status 0, while all is well.
+`ticket K`, with its line. First come `file I NAME` for each file that gives no
+ledger and `line K Ticket` for each line that is no ticket. Give it all ledgers
+of a site and all tickets that were given: it is silent, with status 0, while
+all is well.
 Nothing is saved, and another program may save meanwhile.
 
 Example:
@@ -242,7 +244,7 @@ After `refused Save` nothing more is read; the page may be held. A desk keeps a
 document until it is forgotten. Pages that disagree with those that are held are
 refused, and never joined. An old file of pages at DESK is moved first.
 
-A desk that is not there is made. The capacity is not remembered: a desk that
+A desk is made with its first page. The capacity is not remembered: a desk that
 holds more documents is refused `TooMany`. Give it at each `scan` and `import`;
 other commands take up to 1024.
 
@@ -288,7 +290,7 @@ so, as DIR/IIII; DIR must be there. One that is refused keeps no other back. If
 and no document is saved.
 
 Examples:
-  relay export --file desk --id 0101 > 0101.pages
+  relay export --file desk --id 0101 > 0101.export
   relay export --file desk --all folder",
     },
     Page {
@@ -305,7 +307,7 @@ are named are taken in one after another, with a line for each, but none after
 `refused Save`. `relay scan --help` says more of --capacity.
 
 Example:
-  relay import --file other-desk 0101.pages",
+  relay import --file other-desk 0101.export",
     },
     Page {
         name: "held",
