@@ -77,7 +77,7 @@ impl<T: StoreSet, A: Allocator + Copy> Scanning<T, A> {
         ensures answers { MatchResult result (λ answer. AcceptsGrid grid.now self.old.desk answer self.new.desk)
             (λ why. IsUnsettled grid.now why self.old.desk × (self.new.desk ≡ self.old.desk)) }
         ensures settled { IfOk result (λ answer. rests_on_held answer ≡ true → self.new.is_settled ≡ true) }
-        ensures unsettled { OnErr result (self.new.is_settled ≡ self.old.is_settled) }
+        ensures unsettled { OnErr result ((self.old.is_settled ≡ false) × (self.new.is_settled ≡ false)) }
         ensures kept { KeepsPages self.old.desk.held self.new.desk.held }
         ensures order { DeskIsInOrder self.new.desk }
     {
