@@ -72,8 +72,8 @@ pub static EXPLANATIONS: [&str; 45] = [
     What to do: a ledger is made only once; use another path.\n",
     "Device\n  From: commands with `--file`.\n  \
     A file could not be used: it can't be read, is not a plain file, has a\n  \
-    second name or a reserved ending (LIMITS.md), is in use by another program,\n  \
-    can't be locked, or its folder is missing or can't be synced.\n  \
+    second name (hard link) or a reserved ending (LIMITS.md), is in use by\n  \
+    another program, can't be locked, or its folder is missing or can't be\n  synced.\n  \
     What to do: read the line `relay: PATH: WHY`. Correct what it names, or wait\n  \
     for the other program. After `ledger` check with `left`: the ledger may be\n  there.\n",
     "Save\n  From: all that save but `ledger`.\n  \

@@ -213,13 +213,13 @@ prints a line:
   free A B          an ID is free in both; a ticket's IDs are free on it until
                     its receiver, whose ledger must be given, has taken it
   again A B         one serial of a printer was given twice
-  behind A B        ledger A is an older state: by B its printer has given more,
-                    or, in another ledger of that printer, has taken more
+  behind A B        ledger A is an older state: B shows that its printer gave
+                    more or, if B is another ledger of it, took more
 A and B are `ledger I of P`, with its place on the line and its printer, and
 `ticket K`, with its line. First come `file I NAME` for each file that gives no
-ledger and `line K Ticket` for each line that is no ticket. Give it all ledgers
-of a site and all tickets that were given: it is silent, with status 0, while
-all is well.
+ledger and `line K Ticket` for each line, unless empty, that is no ticket. Give
+it all ledgers of a site and all tickets given: it is silent, with status 0,
+while all is well.
 Nothing is saved, and another program may save meanwhile.
 
 Example:
@@ -234,15 +234,15 @@ static OF_DESKS: [Page; 7] = [
         usage: "relay scan --file DESK [--capacity N] [IMAGES ..] < IMAGES",
         rows: &[DESK, CAPACITY, IMAGES],
         more: "\
-An image has one pixel per module, as for `read`. Its page is saved, and then a
-line says what it was:
+An image has one pixel per module; `relay-find` makes such images of pictures.
+Its page is saved, and then a line says what it was:
   IIII m/n new       page m of n, with the ID IIII, is held now
   IIII m/n again     it was held already
   IIII m/n complete  it is held now, and so are all other pages
   refused NAME       nothing was changed
 After `refused Save` nothing more is read; the page may be held. A desk keeps a
-document until it is forgotten. Pages that disagree with those that are held are
-refused, and never joined. An old file of pages at DESK is moved first.
+document until it is forgotten. Pages that disagree with held ones are refused.
+An old file of pages at DESK is moved first.
 
 A desk is made with its first page. The capacity is not remembered: a desk that
 holds more documents is refused `TooMany`. Give it at each `scan` and `import`;
