@@ -60,13 +60,13 @@ no_first_fault content held fault h first = grind (arith, there_is, no_fault)
 not_open : LoadsFine ≡ LoadsOpen → ⊥
 not_open e = cc (e)
 
-module _ (saved : SavedSet) (room : ℕ) (held : Documents) (honest : IsTrue saved.is_honest)
-    (h : HoldsFiles saved.content held) (is_room : IsCapacity room) (few : len held ≤ room)
+module _ (saved : SavedSet) (capacity : ℕ) (held : Documents) (honest : IsTrue saved.is_honest)
+    (h : HoldsFiles saved.content held) (is_capacity : IsCapacity capacity) (few : len held ≤ capacity)
     (fine : saved.load_plan ≡ LoadsFine) where
-  pub only_memory : (fault : DeskFault) → HasDeskFault saved room fault → fault ≡ opens.Memory
+  pub only_memory : (fault : DeskFault) → HasDeskFault saved capacity fault → fault ≡ opens.Memory
   only_memory opens.Memory f = refl
   only_memory opens.Device f = absurd (not_open (sym fine ∙ f.1))
-  only_memory opens.Capacity f = absurd (f is_room)
+  only_memory opens.Capacity f = absurd (f is_capacity)
   only_memory opens.TooMany f = absurd (omega (arith, f.1 honest, as_many saved.content held h, few))
   only_memory opens.NotPages f = absurd (no_first_fault saved.content held NotPages h (f.1 honest).1)
   only_memory opens.Version f = absurd (no_first_fault saved.content held Version h (f.1 honest).1)

@@ -311,7 +311,7 @@ Exports list id found result = GivesByVerdict list exports.Memory (export_verdic
 
 -- a running desk over the unchanged set, which holds what an honest set has the files of
 pub record DeskOpens (saved : SavedSet) (capacity : ℕ) (desk : DeskView) : Type 0 where
-  pub room : IsCapacity capacity
+  pub is_capacity : IsCapacity capacity
   pub same : desk.saved ≡ saved
   pub running : desk.is_failed ≡ false
   pub capacity_is : desk.capacity ≡ capacity

@@ -198,7 +198,7 @@ pub record IsCapacity (capacity : ℕ) : Type 0 where
 -- Each document has an entry, no more are held than there is room for, and unless a save failed an honest set holds
 -- their files and nothing else.
 pub record DeskIsInOrder (desk : DeskView) : Type 0 where
-  pub room : IsCapacity desk.capacity
+  pub is_capacity : IsCapacity desk.capacity
   pub few : map.len desk.held ≤ desk.capacity
   pub entries : AreEntries desk.held
   pub saved : desk.is_failed ≡ false → IsTrue desk.saved.is_honest → HoldsFiles desk.saved.content desk.held

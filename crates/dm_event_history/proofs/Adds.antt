@@ -16,13 +16,13 @@ use Rattle.dm_event_history.proofs.{Deciding.same_or_other, MergedPages.Differs,
 abbrev pub Answer : Type 0
 Answer = Result imported_type.Imported AddFault
 
-pub by_verdict : (P : Verdict Answer → Type 0) (room : ℕ) (held : Documents) (id : ℕ) (pages : Pages) →
-    ((fault : AddFault) → add_kind room held id pages ≡ Err fault → P (Stays (Err fault))) →
-    (add_kind room held id pages ≡ Ok Again → P (Stays (Ok (reply_of held id pages Again)))) →
-    ((kind : Kind) → kind ≢ Again → add_kind room held id pages ≡ Ok kind →
+pub by_verdict : (P : Verdict Answer → Type 0) (capacity : ℕ) (held : Documents) (id : ℕ) (pages : Pages) →
+    ((fault : AddFault) → add_kind capacity held id pages ≡ Err fault → P (Stays (Err fault))) →
+    (add_kind capacity held id pages ≡ Ok Again → P (Stays (Ok (reply_of held id pages Again)))) →
+    ((kind : Kind) → kind ≢ Again → add_kind capacity held id pages ≡ Ok kind →
     P (Becomes (with_pages held id pages) (Ok (reply_of held id pages kind)))) →
-    P (add_verdict room held id pages)
-by_verdict P room held id pages refused again adds = grind arith
+    P (add_verdict capacity held id pages)
+by_verdict P capacity held id pages refused again adds = grind arith
 
 -- ---- why pages are refused
 
@@ -30,24 +30,24 @@ no_join : (o : Option Pages) (pages : Pages) → may_join o pages ≡ false →
     (own : Pages) × (o ≡ Some own) × ((length own ≢ length pages) ⊎ Differs own pages)
 no_join o pages is = grind (arith, differs, eq-eqb)
 
-no_room : (o : Option Pages) (room count : ℕ) → (is_none o && leb room count) ≡ true → (o ≡ None) × (room ≤ count)
-no_room o room count is = grind arith
+no_room : (o : Option Pages) (capacity count : ℕ) → (is_none o && leb capacity count) ≡ true → (o ≡ None) × (capacity ≤ count)
+no_room o capacity count is = grind arith
 
 -- they disagree with those that are held, or there is no room
-pub add_refuses : (P : AddFault → Type 0) (room : ℕ) (held : Documents) (id : ℕ) (pages : Pages) (fault : AddFault) →
+pub add_refuses : (P : AddFault → Type 0) (capacity : ℕ) (held : Documents) (id : ℕ) (pages : Pages) (fault : AddFault) →
     ((own : Pages) → get held id ≡ Some own → (length own ≢ length pages) ⊎ Differs own pages → P adds.Conflict) →
-    (get held id ≡ None → room ≤ len held → P adds.Full) → add_kind room held id pages ≡ Err fault → P fault
-add_refuses P room held id pages fault conflicts full is = grind (arith, no_join, no_room)
+    (get held id ≡ None → capacity ≤ len held → P adds.Full) → add_kind capacity held id pages ≡ Err fault → P fault
+add_refuses P capacity held id pages fault conflicts full is = grind (arith, no_join, no_room)
 
 -- ---- pages that are added
 
 -- where nothing is added each page that is given is held
-pub held_all : (room : ℕ) (held : Documents) (id : ℕ) (pages : Pages) →
-    add_kind room held id pages ≡ Ok Again → (m : ℕ) → IsSome (page pages m) → IsSome (page_at held id m)
-held_all room held id pages is m some =
+pub held_all : (capacity : ℕ) (held : Documents) (id : ℕ) (pages : Pages) →
+    add_kind capacity held id pages ≡ Ok Again → (m : ℕ) → IsSome (page pages m) → IsSome (page_at held id m)
+held_all capacity held id pages is m some =
     by_named (page_at held id m) (page pages m) some
     (sym (names_added (own_pages held id) pages m) ∙
-    ap (λ (bits : ℕ). names bits m) (kind_says room held id pages Again is) ∙ none_named m)
+    ap (λ (bits : ℕ). names bits m) (kind_says capacity held id pages Again is) ∙ none_named m)
   where
     by_named : (o p : Option (List ℕ)) → IsSome p → (is_none o && is_some p) ≡ false → IsSome o
     by_named (Some x) p some none = refl

@@ -75,14 +75,14 @@ printer_sends old new printer Acts reply p each g =
 
 desk_sends : {A : Type 0} (old new : Relay) (number : ℕ) (Acts : ℕ → Actor Documents → Ending A Documents → Type 0)
     (reply : Reply A) → AreAllClean old →
-    ((room : ℕ) (actor : Actor Documents) (end : Ending A Documents) → IsCleanActor old.labels actor →
-    Acts room actor end → Sends old.labels end.goods) → DeskGoes old number Acts reply new →
+    ((capacity : ℕ) (actor : Actor Documents) (end : Ending A Documents) → IsCleanActor old.labels actor →
+    Acts capacity actor end → Sends old.labels end.goods) → DeskGoes old number Acts reply new →
     AreClean new.labels new.exports
 desk_sends old new number Acts reply all each g =
     subst (λ (r : Relay). AreClean r.labels r.exports) (sym g.new_is)
     (more_clean old.labels g.end.goods.labels (old.exports ++ g.end.goods.exports)
     (both_clean old.labels old.exports g.end.goods.exports all.exports
-    (each g.desk.room g.desk.actor g.end (all.desks number g.desk g.was) g.acts)))
+    (each g.desk.capacity g.desk.actor g.end (all.desks number g.desk g.was) g.acts)))
 
 acts_send : {A : Type 0} (old new : Relay) (event : Event A) (reply : Reply A) → AreAllClean old →
     Acts old event reply new → AreClean new.labels new.exports
@@ -101,23 +101,23 @@ acts_send old new (RestartPrinter printer) reply all acts =
     printer_sends old new printer _ reply all.exports (restarts_leave (Sends old.labels) (closed old.labels) _) acts
 acts_send old new (Scan desk number flips stop) reply all acts =
     desk_sends old new desk _ reply all
-    (λ room actor end clean. scan_leaves (Sends old.labels) (closed old.labels) _ stop room (flipped acts.0.grid flips)
+    (λ capacity actor end clean. scan_leaves (Sends old.labels) (closed old.labels) _ stop capacity (flipped acts.0.grid flips)
     actor end) acts.2
 acts_send old new (Forget desk id stop) reply all acts =
     desk_sends old new desk _ reply all
-    (λ room actor end clean. forget_leaves (Sends old.labels) (closed old.labels) _ stop id actor end) acts
+    (λ capacity actor end clean. forget_leaves (Sends old.labels) (closed old.labels) _ stop id actor end) acts
 acts_send old new (Import desk number stop) reply all acts =
     desk_sends old new desk _ reply all
-    (λ room actor end clean. import_leaves (Sends old.labels) (closed old.labels) _ stop room acts.0 actor end) acts.2
+    (λ capacity actor end clean. import_leaves (Sends old.labels) (closed old.labels) _ stop capacity acts.0 actor end) acts.2
 acts_send old new (Ask desk id) reply all acts =
     desk_sends old new desk _ reply all
-    (λ room actor end clean. ask_leaves (Sends old.labels) (closed old.labels) id actor end) acts
+    (λ capacity actor end clean. ask_leaves (Sends old.labels) (closed old.labels) id actor end) acts
 acts_send old new (Export desk id) reply all acts =
     desk_sends old new desk _ reply all
-    (λ room actor end clean. export_sends old.labels (length old.exports) id actor end clean) acts
+    (λ capacity actor end clean. export_sends old.labels (length old.exports) id actor end clean) acts
 acts_send old new (RestartDesk desk) reply all acts =
     desk_sends old new desk _ reply all
-    (λ room actor end clean. restarts_leave (Sends old.labels) (closed old.labels) _ actor end) acts
+    (λ capacity actor end clean. restarts_leave (Sends old.labels) (closed old.labels) _ actor end) acts
 
 -- a fair event of what is there does no harm where all is clean
 harmless : {A : Type 0} (old : Relay) (event : Event A) (desk : ℕ) → AreAllClean old → IsFairEvent old event →
@@ -139,10 +139,10 @@ all_stay_clean old new event reply printed all fair (inr none) = grind arith
 
 -- what a scan that was answered so comes to is not kept
 pub unsaved_course : {A : Type 0} (Q : Documents → Type 0) (desk number : ℕ) (flips : List (ℕ × ℕ)) (stop : Stop)
-    (reply : Reply A) (held : Documents) (k : Result PageView LabelFault) (room : ℕ) (course : Course A Documents) →
-    ¬ (may_save (Scan desk number flips stop) reply ≡ true) → MayBe (scan_course room held k) course →
+    (reply : Reply A) (held : Documents) (k : Result PageView LabelFault) (capacity : ℕ) (course : Course A Documents) →
+    ¬ (may_save (Scan desk number flips stop) reply ≡ true) → MayBe (scan_course capacity held k) course →
     reply ≡ (ends scan_faults stop course (Running held)).reply → CourseHas Q stop course
-unsaved_course {A} Q desk number flips stop reply held k room course unsaved lack is = grind arith
+unsaved_course {A} Q desk number flips stop reply held k capacity course unsaved lack is = grind arith
 
 unsaved_clean : {A : Type 0} (old new : Relay) (desk number : ℕ) (flips : List (ℕ × ℕ)) (stop : Stop) (reply : Reply A) →
     AreAllClean old → ¬ (may_save (Scan desk number flips stop) reply ≡ true) →
@@ -157,18 +157,18 @@ unsaved_clean {A} old new desk number flips stop reply all unsaved acts = record
 }
   where
     g : DeskGoes old desk
-        (λ room. MayLackFirst (Calls scan_faults stop (ScanComes room (flipped acts.0.grid flips)))) reply new
+        (λ capacity. MayLackFirst (Calls scan_faults stop (ScanComes capacity (flipped acts.0.grid flips)))) reply new
     g = acts.2
 
     kept : HasAll (HaveLeft old.labels) g.end.actor
     kept =
         let before = all.desks desk g.desk g.was in
-        may_lack_has (HaveLeft old.labels) (Calls scan_faults stop (ScanComes g.desk.room (flipped acts.0.grid flips)))
+        may_lack_has (HaveLeft old.labels) (Calls scan_faults stop (ScanComes g.desk.capacity (flipped acts.0.grid flips)))
         g.desk.actor g.end before
         (λ called. calls_have (HaveLeft old.labels) (HaveLeft old.labels) scan_faults stop
-        (ScanComes g.desk.room (flipped acts.0.grid flips)) g.desk.actor g.end before (λ held h. h)
+        (ScanComes g.desk.capacity (flipped acts.0.grid flips)) g.desk.actor g.end before (λ held h. h)
         (λ held course h comes is. unsaved_course (HaveLeft old.labels) desk number flips stop reply held comes.0
-        g.desk.room course unsaved comes.2 (g.reply_is ∙ ap (λ (e : Ending A Documents). e.reply) is)) called) g.acts
+        g.desk.capacity course unsaved comes.2 (g.reply_is ∙ ap (λ (e : Ending A Documents). e.reply) is)) called) g.acts
 
 -- all stays clean where a scan that may have saved is fair
 pub all_stay_so : {A : Type 0} (old new : Relay) (event : Event A) (reply : Reply A) → ArePrinted old.labels →

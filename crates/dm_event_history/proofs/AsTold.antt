@@ -102,7 +102,7 @@ printer_tells {A} old new event printer Acts reply earlier named each b g =
 
 desk_tells : {A : Type 0} (old new : Relay) (event : Event A) (number : ℕ)
     (Acts : ℕ → Actor Documents → Ending A Documents → Type 0) (reply : Reply A) (earlier : List (Moment A)) →
-    actor_of event ≡ DeskAt number → ((room : ℕ) → Tells (Acts room)) → AreAsTold earlier old →
+    actor_of event ≡ DeskAt number → ((capacity : ℕ) → Tells (Acts capacity)) → AreAsTold earlier old →
     DeskGoes old number Acts reply new →
     AreAsTold (record { before = old; event = event; reply = reply } ∷ earlier) new
 desk_tells {A} old new event number Acts reply earlier named each b g =
@@ -134,6 +134,6 @@ fresh_runs from (range ∷ ranges) zero actor is = (opening from range, cc (is))
 fresh_runs from (range ∷ ranges) (suc p) actor is = fresh_runs (from + 1) ranges p actor is
 
 pub each_run_is_as_told : (A : Type 0) → EachRunIsAsTold A
-each_run_is_as_told A ranges rooms [] end run = grind (arith, empty_there, fresh_runs)
-each_run_is_as_told A ranges rooms (moment ∷ earlier) end run =
-    grind (arith, step_tells, (each_run_is_as_told A ranges rooms earlier moment.before run.0))
+each_run_is_as_told A ranges capacities [] end run = grind (arith, empty_there, fresh_runs)
+each_run_is_as_told A ranges capacities (moment ∷ earlier) end run =
+    grind (arith, step_tells, (each_run_is_as_told A ranges capacities earlier moment.before run.0))

@@ -88,11 +88,11 @@ fresh_number from [] p actor is = cc
 fresh_number from (range ∷ ranges) zero actor is = grind arith
 fresh_number from (range ∷ ranges) (suc p) actor is = (let h = fresh_number (from + 1) ranges p actor is in omega arith)
 
-pub start_sound : (ranges : List Range) (rooms : List ℕ) → AreDisjoint ranges → RelayIsSound (start ranges rooms)
-start_sound ranges rooms apart = grind (arith, free_once, fresh_number)
+pub start_sound : (ranges : List Range) (capacities : List ℕ) → AreDisjoint ranges → RelayIsSound (start ranges capacities)
+start_sound ranges capacities apart = grind (arith, free_once, fresh_number)
 
-pub start_printed : (ranges : List Range) (rooms : List ℕ) → ArePrinted (start ranges rooms).labels
-start_printed ranges rooms i label is = absurd (cc (is))
+pub start_printed : (ranges : List Range) (capacities : List ℕ) → ArePrinted (start ranges capacities).labels
+start_printed ranges capacities i label is = absurd (cc (is))
 
 -- ---- desks
 
@@ -119,11 +119,11 @@ nothing_at id m some =
     no_some None none some = cc
     no_some (Some x) none some = cc
 
-pub empty_there : (rooms : List ℕ) (d : ℕ) (desk : Desk) → slice_get (map empty_desk rooms) d ≡ Some desk →
+pub empty_there : (capacities : List ℕ) (d : ℕ) (desk : Desk) → slice_get (map empty_desk capacities) d ≡ Some desk →
     Running none_held ≡ desk.actor
 empty_there [] d desk is = cc
-empty_there (room ∷ rooms) zero desk is = grind arith
-empty_there (room ∷ rooms) (suc d) desk is = empty_there rooms d desk is
+empty_there (capacity ∷ capacities) zero desk is = grind arith
+empty_there (capacity ∷ capacities) (suc d) desk is = empty_there capacities d desk is
 
-pub start_clean : (ranges : List Range) (rooms : List ℕ) → AreAllClean (start ranges rooms)
-start_clean ranges rooms = grind (arith, empty_left, empty_there)
+pub start_clean : (ranges : List Range) (capacities : List ℕ) → AreAllClean (start ranges capacities)
+start_clean ranges capacities = grind (arith, empty_left, empty_there)

@@ -66,20 +66,20 @@ module _ (A : Type 0) (before : Relay) (event : Event A) (stop : Stop) (faults :
   added held reply saved takes b = grind (arith, next, with_pages_has, with_pages_keeps, with_pages_only)
 
   -- it is answered that they were added, or were all held
-  pub answered : (room : ℕ) (held : Documents) (reply : Reply A) (end : Actor Documents) → may_save event reply ≡ true →
-      TakesThese reply → IsBetween earlier desk held → AddTold tells room held id pages reply end →
+  pub answered : (capacity : ℕ) (held : Documents) (reply : Reply A) (end : Actor Documents) → may_save event reply ≡ true →
+      TakesThese reply → IsBetween earlier desk held → AddTold tells capacity held id pages reply end →
       HasAll (IsBetween (after before event reply earlier) desk) end
-  answered room held reply end saved takes b told = by_kind told.kind told.kind_is told.after_is
+  answered capacity held reply end saved takes b told = by_kind told.kind told.kind_is told.after_is
     where
       known : (held : Documents) → IsBetween (after before event reply earlier) desk held → end ≡ Running held →
           HasAll (IsBetween (after before event reply earlier) desk) end
       known held new is = grind arith
 
-      by_kind : (kind : Kind) → add_kind room held id pages ≡ Ok kind → IsAfter kind held (with_pages held id pages) end →
+      by_kind : (kind : Kind) → add_kind capacity held id pages ≡ Ok kind → IsAfter kind held (with_pages held id pages) end →
           HasAll (IsBetween (after before event reply earlier) desk) end
       by_kind kinds.Again at is = known held
           (next before event reply earlier desk held held b (λ i m has _. has)
-          (λ i m t. let o = takes i m t in subst (λ (k : ℕ). Has held k m) o.0 (held_all room held id pages at m o.1))
+          (λ i m t. let o = takes i m t in subst (λ (k : ℕ). Has held k m) o.0 (held_all capacity held id pages at m o.1))
           (λ i m has. inr (forgets reply i, has))) is
       by_kind kinds.New at is = known (with_pages held id pages) (added held reply saved takes b) is
       by_kind kinds.Complete at is = known (with_pages held id pages) (added held reply saved takes b) is
@@ -95,7 +95,7 @@ not_scanned : {A : Type 0} (before : Relay) (desk number : ℕ) (flips : List (�
     ¬ TakesPage before (Scan desk number flips stop) reply at id m
 not_scanned before desk number flips stop reply never at id m took = grind arith
 
-module _ (A : Type 0) (before : Relay) (desk number room : ℕ) (flips : List (ℕ × ℕ)) (stop : Stop) (label : Label)
+module _ (A : Type 0) (before : Relay) (desk number capacity : ℕ) (flips : List (ℕ × ℕ)) (stop : Stop) (label : Label)
     (earlier : List (Moment A)) (there : slice_get before.labels number ≡ Some label)
     (head : IsHead (head_of label.page)) where
   -- where it may have saved it was fair
@@ -110,16 +110,16 @@ module _ (A : Type 0) (before : Relay) (desk number room : ℕ) (flips : List (�
   -- a scan that was answered with a page
   scanned_so : (actor end : Actor Documents) (a : Accepted) → IsFairlyRead (Scanned a) →
       HasAll (IsBetween earlier desk) actor →
-      IsAnswered {A = A} (ScanComes room (flipped label.grid flips)) actor (Scanned a) end →
+      IsAnswered {A = A} (ScanComes capacity (flipped label.grid flips)) actor (Scanned a) end →
       HasAll (IsBetween (after before (Scan desk number flips stop) (Scanned a) earlier) desk) end
   scanned_so actor end a near between ans =
       let read = ans.comes.0 in
-      let told = scan_told room label.page ans.held a end read (near refl read ans.comes.1)
-      (was_wanted (scan_course room ans.held read) ans.course ans.held (Scanned a) end ans.comes.2 ans.ended) in
+      let told = scan_told capacity label.page ans.held a end read (near refl read ans.comes.1)
+      (was_wanted (scan_course capacity ans.held read) ans.course ans.held (Scanned a) end ans.comes.2 ans.ended) in
       let same : record { id = label.page.id; m = label.page.m; n = label.page.n; kind = told.kind } ≡ a =
       scanned_is told.told in
       answered A before (Scan desk number flips stop) stop scan_faults (page_reply label.page) desk
-      label.page.id (lone label.page) earlier (λ reply i f. f) may room ans.held (Scanned a) end refl
+      label.page.id (lone label.page) earlier (λ reply i f. f) may capacity ans.held (Scanned a) end refl
       (λ i m t. (
         ap (λ (x : Accepted). x.id) same ∙ t.1,
         subst (λ (k : ℕ). IsSome (page (lone label.page) k)) (ap (λ (x : Accepted). x.m) same ∙ t.2)
@@ -132,32 +132,32 @@ module _ (A : Type 0) (before : Relay) (desk number room : ℕ) (flips : List (�
 
   -- one that was not
   unscanned : (reply : Reply A) → ((a : Accepted) → reply ≢ Scanned a) → IsFairlyRead reply → (held : Documents)
-      (course : Course A Documents) → IsBetween earlier desk held → ScanComes room (flipped label.grid flips) held course →
+      (course : Course A Documents) → IsBetween earlier desk held → ScanComes capacity (flipped label.grid flips) held course →
       reply ≡ (ends scan_faults stop course (Running held)).reply →
       CourseHas (IsBetween (after before (Scan desk number flips stop) reply earlier) desk) stop course
   unscanned reply never near held course b comes is = grind (arith, added, held_all, may, unsaved_course)
 
   pub scan_between : (actor : Actor Documents) (end : Ending A Documents) → IsFairlyRead end.reply →
       HasAll (IsBetween earlier desk) actor →
-      MayLackFirst (Calls scan_faults stop (ScanComes room (flipped label.grid flips))) actor end →
+      MayLackFirst (Calls scan_faults stop (ScanComes capacity (flipped label.grid flips))) actor end →
       HasAll (IsBetween (after before (Scan desk number flips stop) end.reply earlier) desk) end.actor
   scan_between actor end near b acts = elim (is_scanned end.reply) [
     | inl told ↦
-        let called = is_made (Calls scan_faults stop (ScanComes room (flipped label.grid flips))) actor end (Scanned told.0)
+        let called = is_made (Calls scan_faults stop (ScanComes capacity (flipped label.grid flips))) actor end (Scanned told.0)
         (λ e. cc (e)) acts told.1 in
         subst (λ (r : Reply A). HasAll (IsBetween (after before (Scan desk number flips stop) r earlier) desk) end.actor)
         (sym told.1)
         (scanned_so actor end.actor told.0 (subst (λ (r : Reply A). IsFairlyRead r) told.1 near) b
-        (is_answered scan_faults stop (ScanComes room (flipped label.grid flips)) actor end (Scanned told.0)
+        (is_answered scan_faults stop (ScanComes capacity (flipped label.grid flips)) actor end (Scanned told.0)
         (own_scan told.0) called told.1))
     | inr never ↦
         let Old : Documents → Type 0 = IsBetween earlier desk in
         let Q : Documents → Type 0 = IsBetween (after before (Scan desk number flips stop) end.reply earlier) desk in
         let keep : (held : Documents) → Old held → Q held = stays before (Scan desk number flips stop) end.reply earlier desk
         (λ id m t. not_scanned before desk number flips stop end.reply never desk id m t) (λ id f. f) in
-        may_lack_has Q (Calls scan_faults stop (ScanComes room (flipped label.grid flips))) actor end
+        may_lack_has Q (Calls scan_faults stop (ScanComes capacity (flipped label.grid flips))) actor end
         (has_map Old Q keep actor b)
-        (λ called. calls_have Old Q scan_faults stop (ScanComes room (flipped label.grid flips)) actor end b keep
+        (λ called. calls_have Old Q scan_faults stop (ScanComes capacity (flipped label.grid flips)) actor end b keep
         (λ held course old comes is. unscanned end.reply never near held course old comes
         (ap (λ (e : Ending A Documents). e.reply) is)) called) acts
   ]
@@ -178,7 +178,7 @@ module _ (A : Type 0) (before : Relay) (desk name : ℕ) (stop : Stop) (earlier 
 
 -- ---- imports
 
-module _ (A : Type 0) (before : Relay) (desk number room : ℕ) (stop : Stop) (export : relays.Export)
+module _ (A : Type 0) (before : Relay) (desk number capacity : ℕ) (stop : Stop) (export : relays.Export)
     (earlier : List (Moment A)) (there : slice_get before.exports number ≡ Some export) where
   -- the export that was taken is this
   own : (reply : Reply A) (id m : ℕ) → TakesPage before (Import desk number stop) reply desk id m →
@@ -186,7 +186,7 @@ module _ (A : Type 0) (before : Relay) (desk number room : ℕ) (stop : Stop) (e
   own reply id m took = grind arith
 
   pub import_between : (actor : Actor Documents) (end : Ending A Documents) → HasAll (IsBetween earlier desk) actor →
-      Calls import_faults stop (ImportComes room export) actor end →
+      Calls import_faults stop (ImportComes capacity export) actor end →
       HasAll (IsBetween (after before (Import desk number stop) end.reply earlier) desk) end.actor
   import_between actor end b acts = grind (arith, added, held_all, own)
 
@@ -210,8 +210,8 @@ module _ (A : Type 0) (old new : Relay) (event : Event A) (reply : Reply A) (ear
   desk_between : (number : ℕ) (Acts : ℕ → Actor Documents → Ending A Documents → Type 0) →
       ((at : ℕ) → number ≢ at → (held : Documents) → IsBetween earlier at held →
       IsBetween (after old event reply earlier) at held) →
-      ((room : ℕ) (actor : Actor Documents) (end : Ending A Documents) → HasAll (IsBetween earlier number) actor →
-      reply ≡ end.reply → Acts room actor end → HasAll (IsBetween (after old event reply earlier) number) end.actor) →
+      ((capacity : ℕ) (actor : Actor Documents) (end : Ending A Documents) → HasAll (IsBetween earlier number) actor →
+      reply ≡ end.reply → Acts capacity actor end → HasAll (IsBetween (after old event reply earlier) number) end.actor) →
       DeskGoes old number Acts reply new → AreBetween (after old event reply earlier) new
   desk_between number Acts others own g = grind (arith, has_map, own, set_at)
 
@@ -241,9 +241,9 @@ acts_between A old new (Scan desk number flips stop) reply earlier p fair b acts
     desk_between A old new _ reply earlier b desk _
     (λ at away held x. stays old (Scan desk number flips stop) reply earlier at
     (λ id m t. away (scan_here old desk number flips stop reply at id m t)) (λ id f. f) held x)
-    (λ room actor end h is called.
+    (λ capacity actor end h is called.
     subst (λ (r : Reply A). HasAll (IsBetween (after old (Scan desk number flips stop) r earlier) desk) end.actor) (sym is)
-    (scan_between A old desk number room flips stop acts.0 earlier acts.1 printed.carries.is_head actor end
+    (scan_between A old desk number capacity flips stop acts.0 earlier acts.1 printed.carries.is_head actor end
     (λ saved read opens. opens.near acts.0.grid acts.0.page printed.carries
     (fair (ap (λ (r : Reply A). may_save (Scan desk number flips stop) r) is ∙ saved)
     (named number flips desk stop refl) acts.0 acts.1)) h called)) acts.2
@@ -251,27 +251,27 @@ acts_between A old new (Forget desk id stop) reply earlier p fair b acts named =
     desk_between A old new _ reply earlier b desk _
     (λ at away held x. stays old (Forget desk id stop) reply earlier at (λ i m t. t)
     (λ i f. away (forget_here desk id stop reply at i f)) held x)
-    (λ room actor end h is called.
+    (λ capacity actor end h is called.
     subst (λ (r : Reply A). HasAll (IsBetween (after old (Forget desk id stop) r earlier) desk) end.actor) (sym is)
     (forget_between A old desk id stop earlier actor end h called)) acts
 acts_between A old new (Import desk number stop) reply earlier p fair b acts named =
     desk_between A old new _ reply earlier b desk _
     (λ at away held x. stays old (Import desk number stop) reply earlier at
     (λ id m t. away (import_here old desk number stop reply at id m t)) (λ id f. f) held x)
-    (λ room actor end h is called.
+    (λ capacity actor end h is called.
     subst (λ (r : Reply A). HasAll (IsBetween (after old (Import desk number stop) r earlier) desk) end.actor) (sym is)
-    (import_between A old desk number room stop acts.0 earlier acts.1 actor end h called)) acts.2
+    (import_between A old desk number capacity stop acts.0 earlier acts.1 actor end h called)) acts.2
 acts_between A old new (Ask desk id) reply earlier p fair b acts named =
     let still = quiet old (Ask desk id) reply earlier (λ at i m t. t) (λ at i f. f) in
     desk_between A old new _ reply earlier b desk _ (λ at away. still at)
-    (λ room actor end h is called. looks_have (IsBetween (after old (Ask desk id) reply earlier) desk)
+    (λ capacity actor end h is called. looks_have (IsBetween (after old (Ask desk id) reply earlier) desk)
     (AskTells {A = A} id) actor end
     (has_map (IsBetween earlier desk) (IsBetween (after old (Ask desk id) reply earlier) desk) (still desk) actor h)
     called) acts
 acts_between A old new (Export desk id) reply earlier p fair b acts named =
     let still = quiet old (Export desk id) reply earlier (λ at i m t. t) (λ at i f. f) in
     desk_between A old new _ reply earlier b desk _ (λ at away. still at)
-    (λ room actor end h is called.
+    (λ capacity actor end h is called.
     let own = has_map (IsBetween earlier desk) (IsBetween (after old (Export desk id) reply earlier) desk) (still desk)
     actor h in
     may_lack_has (IsBetween (after old (Export desk id) reply earlier) desk)
@@ -281,7 +281,7 @@ acts_between A old new (Export desk id) reply earlier p fair b acts named =
 acts_between A old new (RestartDesk desk) reply earlier p fair b acts named =
     let still = quiet old (RestartDesk desk) reply earlier (λ at i m t. t) (λ at i f. f) in
     desk_between A old new _ reply earlier b desk _ (λ at away. still at)
-    (λ room actor end h is called. restarts_have (IsBetween (after old (RestartDesk desk) reply earlier) desk)
+    (λ capacity actor end h is called. restarts_have (IsBetween (after old (RestartDesk desk) reply earlier) desk)
     (replies.DeskRefused desk_fault.Memory) actor end
     (has_map (IsBetween earlier desk) (IsBetween (after old (RestartDesk desk) reply earlier) desk) (still desk) actor h)
     called) acts
@@ -308,15 +308,15 @@ step_between A old new event reply earlier p fair b (inr none) =
     grind (arith, has_map, none_forgotten, none_taken, quiet)
 
 -- a run in which each scan that may have saved was fair
-pub run_between : (A : Type 0) (ranges : List Range) (rooms : List ℕ) (h : List (Moment A)) (end : Relay) →
-    AreDisjoint ranges → IsRun (start ranges rooms) h end → AreSavedFair h → AreBetween h end
-run_between A ranges rooms [] end apart run fair =
+pub run_between : (A : Type 0) (ranges : List Range) (capacities : List ℕ) (h : List (Moment A)) (end : Relay) →
+    AreDisjoint ranges → IsRun (start ranges capacities) h end → AreSavedFair h → AreBetween h end
+run_between A ranges capacities [] end apart run fair =
     (let none : List (Moment A) = [] in subst (λ (r : Relay). AreBetween none r) (sym run)
-    (λ at desk is. subst (λ (x : Actor Documents). HasAll (IsBetween none at) x) (empty_there rooms at desk is) (record {
+    (λ at desk is. subst (λ (x : Actor Documents). HasAll (IsBetween none at) x) (empty_there capacities at desk is) (record {
       surely = λ id m s. absurd s;
       possibly = λ id m has. absurd (nothing_at id m has);
     })))
-run_between A ranges rooms (moment ∷ earlier) end apart run fair =
+run_between A ranges capacities (moment ∷ earlier) end apart run fair =
     step_between A moment.before end moment.event moment.reply earlier
-    (each_run_is_sound A ranges rooms earlier moment.before apart run.0).1 fair.0
-    (run_between A ranges rooms earlier moment.before apart run.0 fair.1) run.1
+    (each_run_is_sound A ranges capacities earlier moment.before apart run.0).1 fair.0
+    (run_between A ranges capacities earlier moment.before apart run.0 fair.1) run.1

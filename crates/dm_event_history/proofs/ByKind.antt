@@ -69,22 +69,22 @@ pub take_plain : {A : Type 0} (number : ℕ) (ticket : TicketView) (held : Ledge
 take_plain number ticket held course comes = grind arith
 
 -- pages that are to be added are refused for what is held alone
-add_plain : {A : Type 0} (tells : Answer → Reply A) (room : ℕ) (held : Documents) (id : ℕ) (pages : Pages) →
+add_plain : {A : Type 0} (tells : Answer → Reply A) (capacity : ℕ) (held : Documents) (id : ℕ) (pages : Pages) →
     ((added : imported_type.Imported) → IsPlain (tells (Ok added))
     × (tells_of_save (tells (Ok added)) ≡ is_new added.kind)) → IsPlainAnswer (tells (Err adds.Conflict)) →
-    IsPlainAnswer (tells (Err adds.Full)) → IsPlainCourse (verdict_course tells (add_verdict room held id pages))
-add_plain {A} tells room held id pages told conflict full = grind arith
+    IsPlainAnswer (tells (Err adds.Full)) → IsPlainCourse (verdict_course tells (add_verdict capacity held id pages))
+add_plain {A} tells capacity held id pages told conflict full = grind arith
 
 may_be_plain : {A : Type 0} (wanted course : Course A Documents) → IsPlainCourse wanted → MayBe wanted course →
     IsPlainCourse course
 may_be_plain {A} wanted course p is = grind arith
 
-scan_plain : {A : Type 0} (room : ℕ) (grid : GridView) (held : Documents) (course : Course A Documents) →
-    ScanComes room grid held course → IsPlainCourse course
-scan_plain {A} room grid held course comes =
-    may_be_plain (scan_course room held comes.0) course (by_read comes.0) comes.2
+scan_plain : {A : Type 0} (capacity : ℕ) (grid : GridView) (held : Documents) (course : Course A Documents) →
+    ScanComes capacity grid held course → IsPlainCourse course
+scan_plain {A} capacity grid held course comes =
+    may_be_plain (scan_course capacity held comes.0) course (by_read comes.0) comes.2
   where
-    by_read : (read : Result PageView LabelFault) → IsPlainCourse {A = A} (scan_course room held read)
+    by_read : (read : Result PageView LabelFault) → IsPlainCourse {A = A} (scan_course capacity held read)
     by_read (Ok page) = grind (arith, add_plain)
     by_read (Err fault) = (record { up = λ b. refl; same = λ b. refl; unfailed = refl }, refl)
 
@@ -92,10 +92,10 @@ forget_plain : {A : Type 0} (id : ℕ) (held : Documents) (course : Course A Doc
     IsPlainCourse course
 forget_plain {A} id held course comes = grind arith
 
-import_plain : {A : Type 0} (room : ℕ) (export : relays.Export) (held : Documents) (course : Course A Documents) →
-    ImportComes room export held course → IsPlainCourse course
-import_plain {A} room export held course comes =
-    may_be_plain _ course (add_plain {A = A} pages_reply room held export.id export.pages
+import_plain : {A : Type 0} (capacity : ℕ) (export : relays.Export) (held : Documents) (course : Course A Documents) →
+    ImportComes capacity export held course → IsPlainCourse course
+import_plain {A} capacity export held course comes =
+    may_be_plain _ course (add_plain {A = A} pages_reply capacity held export.id export.pages
     (λ added. (record { up = λ b. refl; same = λ b. refl; unfailed = refl }, refl))
     (record { up = λ b. refl; same = λ b. refl; unfailed = refl }, refl)
     (record { up = λ b. refl; same = λ b. refl; unfailed = refl }, refl)) comes
@@ -156,7 +156,7 @@ pub by_kind : {A : Type 0} (old new : Relay) (event : Event A) (reply : Reply A)
     ((printer : ℕ) (Does : Actor LedgerView → Ending A LedgerView → Type 0) → actor_of event ≡ PrinterAt printer →
     Q LedgerView (stop_of event) Does → PrinterGoes old printer Does reply new → P) →
     ((number : ℕ) (Does : ℕ → Actor Documents → Ending A Documents → Type 0) → actor_of event ≡ DeskAt number →
-    ((room : ℕ) → Q Documents (stop_of event) (Does room)) → DeskGoes old number Does reply new → P) →
+    ((capacity : ℕ) → Q Documents (stop_of event) (Does capacity)) → DeskGoes old number Does reply new → P) →
     Acts old event reply new → P
 by_kind old new (Print printer document size scheme stop) reply Q P calls lacks looks restarts of_printer of_desk acts =
     of_printer printer _ refl
@@ -170,16 +170,16 @@ by_kind old new (RestartPrinter printer) reply Q P calls lacks looks restarts of
     of_printer printer _ refl (restarts (λ none. none) _ (replies.PrinterRefused open_fault.Memory) is_refusal_there) acts
 by_kind old new (Scan desk number flips stop) reply Q P calls lacks looks restarts of_printer of_desk acts =
     of_desk desk _ refl
-    (λ room. lacks _ _ _ (calls _ _ stop _ fine_scan (scan_plain room (flipped acts.0.grid flips)))) acts.2
+    (λ capacity. lacks _ _ _ (calls _ _ stop _ fine_scan (scan_plain capacity (flipped acts.0.grid flips)))) acts.2
 by_kind old new (Forget desk id stop) reply Q P calls lacks looks restarts of_printer of_desk acts =
-    of_desk desk _ refl (λ room. calls _ _ stop _ fine_forget (forget_plain id)) acts
+    of_desk desk _ refl (λ capacity. calls _ _ stop _ fine_forget (forget_plain id)) acts
 by_kind old new (Import desk number stop) reply Q P calls lacks looks restarts of_printer of_desk acts =
-    of_desk desk _ refl (λ room. calls _ _ stop _ fine_import (import_plain room acts.0)) acts.2
+    of_desk desk _ refl (λ capacity. calls _ _ stop _ fine_import (import_plain capacity acts.0)) acts.2
 by_kind {A} old new (Ask desk id) reply Q P calls lacks looks restarts of_printer of_desk acts =
-    of_desk desk _ refl (λ room. looks _ (AskTells {A = A} id) (ask_plain id)) acts
+    of_desk desk _ refl (λ capacity. looks _ (AskTells {A = A} id) (ask_plain id)) acts
 by_kind {A} old new (Export desk id) reply Q P calls lacks looks restarts of_printer of_desk acts =
     of_desk desk _ refl
-    (λ room. lacks _ _ _ (looks _ (ExportTells {A = A} (length old.exports) id) (export_plain (length old.exports) id)))
+    (λ capacity. lacks _ _ _ (looks _ (ExportTells {A = A} (length old.exports) id) (export_plain (length old.exports) id)))
     acts
 by_kind old new (RestartDesk desk) reply Q P calls lacks looks restarts of_printer of_desk acts =
-    of_desk desk _ refl (λ room. restarts (λ none. none) _ (replies.DeskRefused desk_fault.Memory) is_refusal_here) acts
+    of_desk desk _ refl (λ capacity. restarts (λ none. none) _ (replies.DeskRefused desk_fault.Memory) is_refusal_here) acts

@@ -279,13 +279,13 @@ fresh_stock from (own ∷ ranges) zero range there = grind arith
 fresh_stock from (own ∷ ranges) (suc p) range there = fresh_stock (from + 1) ranges p range there
 
 -- what a printer began with and took is what it stores and what it used and gave
-run_counts : (A : Type 0) (ranges : List Range) (rooms : List ℕ) (h : List (Moment A)) (end : Relay) (p : ℕ)
-    (range : Range) → IsRun (start ranges rooms) h end → slice_get ranges p ≡ Some range →
+run_counts : (A : Type 0) (ranges : List Range) (capacities : List ℕ) (h : List (Moment A)) (end : Relay) (p : ℕ)
+    (range : Range) → IsRun (start ranges capacities) h end → slice_get ranges p ≡ Some range →
     size_of range + sum_saved gains h end p ≡ stock end p + sum_saved loses h end p
-run_counts A ranges rooms [] end p range run there =
+run_counts A ranges capacities [] end p range run there =
     let same = ap (λ (r : Relay). stock r p) run in let s = fresh_stock 0 ranges p range there in omega arith
-run_counts A ranges rooms (moment ∷ earlier) end p range run there =
-    grind (arith, step_makes, (run_counts A ranges rooms earlier moment.before p range run.0 there))
+run_counts A ranges capacities (moment ∷ earlier) end p range run there =
+    grind (arith, step_makes, (run_counts A ranges capacities earlier moment.before p range run.0 there))
 
 none_free : {A : Type 0} (old new : Relay) (printer : ℕ) (document : List ℕ) (size : Size) (scheme : Scheme)
     (stop : Stop) →
@@ -294,23 +294,23 @@ none_free : {A : Type 0} (old new : Relay) (printer : ℕ) (document : List ℕ)
 none_free old new printer document size scheme stop step = grind (arith, own_print, print_refused, print_refuses)
 
 pub each_exhausted_is_so : (A : Type 0) → EachExhaustedIsSo A
-each_exhausted_is_so A ranges rooms moment earlier end printer range document size scheme stop run asked there told =
+each_exhausted_is_so A ranges capacities moment earlier end printer range document size scheme stop run asked there told =
     grind (arith, none_free, run_counts)
 
-fresh_serial : (from : ℕ) (ranges : List Range) (rooms : List ℕ) (p : ℕ) →
+fresh_serial : (from : ℕ) (ranges : List Range) (capacities : List ℕ) (p : ℕ) →
     (let stored = option_map (λ (actor : Actor LedgerView). stored_of actor) (slice_get (fresh_from from ranges) p) in
     (option_map_or (λ (ledger : LedgerView). ledger.next_serial) stored 0 ≡ 0)
     × ((giver : ℕ) → option_map_or (λ (ledger : LedgerView). last_taken ledger.givers giver) stored None ≡ None))
-fresh_serial from [] rooms p = (refl, λ giver. refl)
-fresh_serial from (own ∷ ranges) rooms zero = (refl, λ giver. refl)
-fresh_serial from (own ∷ ranges) rooms (suc p) = fresh_serial (from + 1) ranges rooms p
+fresh_serial from [] capacities p = (refl, λ giver. refl)
+fresh_serial from (own ∷ ranges) capacities zero = (refl, λ giver. refl)
+fresh_serial from (own ∷ ranges) capacities (suc p) = fresh_serial (from + 1) ranges capacities p
 
 pub each_run_counts_tickets : (A : Type 0) → EachRunCountsTickets A
-each_run_counts_tickets A ranges rooms [] end p run =
-    let fresh = fresh_serial 0 ranges rooms p in
+each_run_counts_tickets A ranges capacities [] end p run =
+    let fresh = fresh_serial 0 ranges capacities p in
     subst (λ (r : Relay). CountsTickets {A = A} [] r p) (sym run) (record { gave = fresh.0; took = fresh.1 })
-each_run_counts_tickets A ranges rooms (moment ∷ earlier) end p run =
-    by_step (each_run_counts_tickets A ranges rooms earlier moment.before p run.0)
+each_run_counts_tickets A ranges capacities (moment ∷ earlier) end p run =
+    by_step (each_run_counts_tickets A ranges capacities earlier moment.before p run.0)
     (step_makes A moment.before end moment.event moment.reply run.1 p)
   where
     by_step : CountsTickets earlier moment.before p →
@@ -323,8 +323,8 @@ each_run_counts_tickets A ranges rooms (moment ∷ earlier) end p run =
     }
 
 pub each_take_is_later : (A : Type 0) → EachTakeIsLater A
-each_take_is_later A ranges rooms moment earlier end p giver serial last run saved taken newest =
-    by_step (each_run_counts_tickets A ranges rooms earlier moment.before p run.0)
+each_take_is_later A ranges capacities moment earlier end p giver serial last run saved taken newest =
+    by_step (each_run_counts_tickets A ranges capacities earlier moment.before p run.0)
     (step_makes A moment.before end moment.event moment.reply run.1 p)
   where
     by_step : CountsTickets earlier moment.before p →

@@ -50,7 +50,7 @@ printer_before {A} old new event printer Acts reply h named each b g told =
 
 desk_before : {A : Type 0} (old new : Relay) (event : Event A) (number : ℕ)
     (Acts : ℕ → Actor Documents → Ending A Documents → Type 0) (reply : Reply A) (h : List (Moment A)) →
-    actor_of event ≡ DeskAt number → ((room : ℕ) → FailsBefore (Acts room)) → AreAsTold h old →
+    actor_of event ≡ DeskAt number → ((capacity : ℕ) → FailsBefore (Acts capacity)) → AreAsTold h old →
     DeskGoes old number Acts reply new → tells_failed reply ≡ true → is_failed h (actor_of event) ≡ true
 desk_before {A} old new event number Acts reply h named each b g told = grind arith
 
@@ -63,4 +63,4 @@ acts_before old new event reply h b acts told =
     (λ number Does named each g. desk_before old new event number Does reply h named each b g told) acts
 
 pub each_failed_failed : (A : Type 0) → EachFailedFailed A
-each_failed_failed A ranges rooms moment earlier end run told = grind (arith, acts_before, each_run_is_as_told, never)
+each_failed_failed A ranges capacities moment earlier end run told = grind (arith, acts_before, each_run_is_as_told, never)

@@ -15,21 +15,21 @@ abbrev IsSoundAndPrinted : Relay → Type 0
 IsSoundAndPrinted relay = RelayIsSound relay × ArePrinted relay.labels
 
 pub each_run_is_sound : (A : Type 0) → EachRunIsSound A
-each_run_is_sound A ranges rooms [] end apart run =
-    subst (λ (r : Relay). IsSoundAndPrinted r) (sym run) (start_sound ranges rooms apart, start_printed ranges rooms)
-each_run_is_sound A ranges rooms (moment ∷ earlier) end apart run =
-    (let before = each_run_is_sound A ranges rooms earlier moment.before apart run.0 in
+each_run_is_sound A ranges capacities [] end apart run =
+    subst (λ (r : Relay). IsSoundAndPrinted r) (sym run) (start_sound ranges capacities apart, start_printed ranges capacities)
+each_run_is_sound A ranges capacities (moment ∷ earlier) end apart run =
+    (let before = each_run_is_sound A ranges capacities earlier moment.before apart run.0 in
     grind (arith, each_step_is_sound, each_step_prints))
 
 -- ---- clean
 
-pub each_fair_run_is_clean : (A : Type 0) (ranges : List Range) (rooms : List ℕ) (h : List (Moment A)) (end : Relay) →
-    AreDisjoint ranges → IsRun (start ranges rooms) h end → AreSavedFair h → AreAllClean end
-each_fair_run_is_clean A ranges rooms [] end apart run fair = grind (arith, start_clean)
-each_fair_run_is_clean A ranges rooms (moment ∷ earlier) end apart run fair =
+pub each_fair_run_is_clean : (A : Type 0) (ranges : List Range) (capacities : List ℕ) (h : List (Moment A)) (end : Relay) →
+    AreDisjoint ranges → IsRun (start ranges capacities) h end → AreSavedFair h → AreAllClean end
+each_fair_run_is_clean A ranges capacities [] end apart run fair = grind (arith, start_clean)
+each_fair_run_is_clean A ranges capacities (moment ∷ earlier) end apart run fair =
     all_stay_so moment.before end moment.event moment.reply
-    (each_run_is_sound A ranges rooms earlier moment.before apart run.0).1
-    (each_fair_run_is_clean A ranges rooms earlier moment.before apart run.0 fair.1) fair.0 run.1
+    (each_run_is_sound A ranges capacities earlier moment.before apart run.0).1
+    (each_fair_run_is_clean A ranges capacities earlier moment.before apart run.0 fair.1) fair.0 run.1
 
 -- ---- labels that left have left for good
 
@@ -81,35 +81,35 @@ prints_once relay sound = record {
 
 -- ---- each moment
 
-true_moments : (A : Type 0) (ranges : List Range) (rooms : List ℕ) (labels : List Label) → AreOfOneDocument labels →
-    AreDisjoint ranges → (h : List (Moment A)) (end : Relay) → IsRun (start ranges rooms) h end →
+true_moments : (A : Type 0) (ranges : List Range) (capacities : List ℕ) (labels : List Label) → AreOfOneDocument labels →
+    AreDisjoint ranges → (h : List (Moment A)) (end : Relay) → IsRun (start ranges capacities) h end →
     Stay end.labels labels → AreTrueMoments labels h
-true_moments A ranges rooms labels one apart [] end run stay = tt
-true_moments A ranges rooms labels one apart (moment ∷ earlier) end run stay =
-    let before = each_run_is_sound A ranges rooms earlier moment.before apart run.0 in
+true_moments A ranges capacities labels one apart [] end run stay = tt
+true_moments A ranges capacities labels one apart (moment ∷ earlier) end run stay =
+    let before = each_run_is_sound A ranges capacities earlier moment.before apart run.0 in
     let still : Stay moment.before.labels labels =
     (λ n label is. stay n label (step_stay moment.before end moment.event moment.reply run.1 n label is)) in (
       record {
         given = grind (arith, each_clean_desk_gives);
-        clean = each_fair_run_is_clean A ranges rooms earlier moment.before apart run.0;
+        clean = each_fair_run_is_clean A ranges capacities earlier moment.before apart run.0;
       },
-      true_moments A ranges rooms labels one apart earlier moment.before run.0 still,
+      true_moments A ranges capacities labels one apart earlier moment.before run.0 still,
     )
 
 pub each_run_is_true : (A : Type 0) → EachRunIsTrue A
-each_run_is_true A ranges rooms moments end apart run = grind (arith, each_run_is_sound, prints_once, true_moments)
+each_run_is_true A ranges capacities moments end apart run = grind (arith, each_run_is_sound, prints_once, true_moments)
 
 -- ---- where numbers are
 
-run_places : (A : Type 0) (ranges : List Range) (rooms : List ℕ) (h : List (Moment A)) (end : Relay) →
-    AreDisjoint ranges → IsRun (start ranges rooms) h end → (number : ℕ) →
-    places end number ≡ places (start ranges rooms) number
-run_places A ranges rooms [] end apart run number = ap (λ (r : Relay). places r number) run
-run_places A ranges rooms (moment ∷ earlier) end apart run number =
-    (let before = run_places A ranges rooms earlier moment.before apart run.0 number in
+run_places : (A : Type 0) (ranges : List Range) (capacities : List ℕ) (h : List (Moment A)) (end : Relay) →
+    AreDisjoint ranges → IsRun (start ranges capacities) h end → (number : ℕ) →
+    places end number ≡ places (start ranges capacities) number
+run_places A ranges capacities [] end apart run number = ap (λ (r : Relay). places r number) run
+run_places A ranges capacities (moment ∷ earlier) end apart run number =
+    (let before = run_places A ranges capacities earlier moment.before apart run.0 number in
     grind (arith, each_run_is_sound, each_step_keeps_numbers))
 
 pub each_run_keeps_numbers : (A : Type 0) → EachRunKeepsNumbers A
-each_run_keeps_numbers A ranges rooms moments end apart run number =
-    let most = (start_sound ranges rooms apart).apart number in
+each_run_keeps_numbers A ranges capacities moments end apart run number =
+    let most = (start_sound ranges capacities apart).apart number in
     grind (arith, fresh_free, run_places, start_sound)

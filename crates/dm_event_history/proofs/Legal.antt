@@ -157,12 +157,12 @@ printer_legal old new event printer Does reply who named needs each g =
 
 desk_legal : {A : Type 0} (old new : Relay) (event : Event A) (number : ℕ)
     (Does : ℕ → Actor Documents → Ending A Documents → Type 0) (reply : Reply A) → actor_of event ≡ DeskAt number →
-    IsNamedThere old event → NeedsRunning event → ((room : ℕ) → AreLegal (stop_of event) (Does room)) →
+    IsNamedThere old event → NeedsRunning event → ((capacity : ℕ) → AreLegal (stop_of event) (Does capacity)) →
     DeskGoes old number Does reply new → IsLegal old event reply
 desk_legal old new event number Does reply who named needs each g =
     by_call old event reply g.end.reply g.desk.actor named needs
     (subst (λ (n : Named). IsDownAt old n ↔ IsDown g.desk.actor) (sym who) (desk_down old number g.desk g.was))
-    g.reply_is (each g.desk.room g.desk.actor g.end g.acts)
+    g.reply_is (each g.desk.capacity g.desk.actor g.end g.acts)
 
 restart_printer_legal : {A : Type 0} (old : Relay) (printer : ℕ) (reply : Reply A) (end : Ending A LedgerView)
     (actor : Actor LedgerView) → printer < length old.printers →

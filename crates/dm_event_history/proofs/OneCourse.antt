@@ -111,11 +111,11 @@ may_be_one : {A C : Type 0} (wanted one other : Course A C) → MayBe wanted one
     SameCourse one other
 may_be_one wanted one other a b = grind arith
 
-pub scan_determined : {A : Type 0} (room : ℕ) (grid : GridView) → IsDetermined (ScanComes {A = A} room grid)
-scan_determined {A} room grid held one other p q = grind (arith, may_be_one, reading_once)
+pub scan_determined : {A : Type 0} (capacity : ℕ) (grid : GridView) → IsDetermined (ScanComes {A = A} capacity grid)
+scan_determined {A} capacity grid held one other p q = grind (arith, may_be_one, reading_once)
 
 pub forget_determined : {A : Type 0} (id : ℕ) → IsDetermined (ForgetComes {A = A} id)
 forget_determined id held one other p q = may_be_one _ one other p q
 
-pub import_determined : {A : Type 0} (room : ℕ) (export : Export) → IsDetermined (ImportComes {A = A} room export)
-import_determined room export held one other p q = may_be_one _ one other p q
+pub import_determined : {A : Type 0} (capacity : ℕ) (export : Export) → IsDetermined (ImportComes {A = A} capacity export)
+import_determined capacity export held one other p q = may_be_one _ one other p q

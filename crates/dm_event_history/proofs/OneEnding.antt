@@ -39,19 +39,19 @@ take_answered number ticket held course comes = grind arith
 may_be_answered : {A C : Type 0} (wanted course : Course A C) → IsAnswered wanted → MayBe wanted course → IsAnswered course
 may_be_answered wanted course is may = grind arith
 
-pub scan_answered : {A : Type 0} (room : ℕ) (grid : GridView) → AreAnswered (ScanComes {A = A} room grid)
-scan_answered {A} room grid held course comes =
-    may_be_answered (scan_course room held comes.0) course (by_read comes.0) comes.2
+pub scan_answered : {A : Type 0} (capacity : ℕ) (grid : GridView) → AreAnswered (ScanComes {A = A} capacity grid)
+scan_answered {A} capacity grid held course comes =
+    may_be_answered (scan_course capacity held comes.0) course (by_read comes.0) comes.2
   where
-    by_read : (read : Result PageView LabelFault) → IsAnswered {A = A} (scan_course room held read)
+    by_read : (read : Result PageView LabelFault) → IsAnswered {A = A} (scan_course capacity held read)
     by_read (Ok page) = grind arith
     by_read (Err fault) = grind arith
 
 pub forget_answered : {A : Type 0} (id : ℕ) → AreAnswered (ForgetComes {A = A} id)
 forget_answered id held course comes = grind (arith, may_be_answered)
 
-pub import_answered : {A : Type 0} (room : ℕ) (export : Export) → AreAnswered (ImportComes {A = A} room export)
-import_answered room export held course comes = grind (arith, may_be_answered)
+pub import_answered : {A : Type 0} (capacity : ℕ) (export : Export) → AreAnswered (ImportComes {A = A} capacity export)
+import_answered capacity export held course comes = grind (arith, may_be_answered)
 
 -- what is done at an actor is one thing, but for memory; and where memory is refused nothing leaves, and the actor is so
 pub record IsOne {A C : Type 0} (kept : Actor C → Actor C) (Acts : Actor C → Ending A C → Type 0) : Type 0 where

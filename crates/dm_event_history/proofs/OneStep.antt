@@ -25,10 +25,10 @@ printer_one {A} kept old one other printer Acts r s same p q =
     let alike = same.alike in let fixed = by_reply kept Acts same in grind arith
 
 desk_one : {A : Type 0} (kept : Actor Documents → Actor Documents) (old one other : Relay) (number : ℕ) (Acts : ℕ → Actor Documents → Ending A Documents → Type 0)
-    (r s : Reply A) → ((room : ℕ) → IsOne kept (Acts room)) → DeskGoes old number Acts r one →
+    (r s : Reply A) → ((capacity : ℕ) → IsOne kept (Acts capacity)) → DeskGoes old number Acts r one →
     DeskGoes old number Acts s other → Same r s one other
 desk_one {A} kept old one other number Acts r s same p q =
-    let alike = (same p.desk.room).alike in let fixed = by_reply kept (Acts p.desk.room) (same p.desk.room) in grind arith
+    let alike = (same p.desk.capacity).alike in let fixed = by_reply kept (Acts p.desk.capacity) (same p.desk.capacity) in grind arith
 
 acts_one : {A : Type 0} (old one other : Relay) (event : Event A) (r s : Reply A) → Acts old event r one →
     Acts old event s other → Same r s one other
@@ -53,27 +53,27 @@ acts_one {A} old one other (Scan desk number flips stop) r s p q =
     let there : Some p.0 ≡ Some q.0 = sym p.1 ∙ q.1 in
     let label : p.0 ≡ q.0 = cc (there) in
     let Goes : Label → Reply A → Relay → Type 0 = λ l t new. DeskGoes old desk
-    (λ room. MayLackFirst (Calls scan_faults stop (ScanComes room (flipped l.grid flips)))) t new in
+    (λ capacity. MayLackFirst (Calls scan_faults stop (ScanComes capacity (flipped l.grid flips)))) t new in
     let goes : Goes p.0 s other = subst (λ (l : Label). Goes l s other) (sym label) q.2 in
     desk_one _ old one other desk _ r s
-    (λ room. may_lack_one _ (calls_one scan_faults stop (ScanComes {A = A} room (flipped p.0.grid flips)) tt (λ e. e) (λ e. e)
-    (scan_answered room (flipped p.0.grid flips)) (scan_determined room (flipped p.0.grid flips)))) p.2 goes
+    (λ capacity. may_lack_one _ (calls_one scan_faults stop (ScanComes {A = A} capacity (flipped p.0.grid flips)) tt (λ e. e) (λ e. e)
+    (scan_answered capacity (flipped p.0.grid flips)) (scan_determined capacity (flipped p.0.grid flips)))) p.2 goes
 acts_one {A} old one other (Forget desk id stop) r s p q = desk_one _ old one other desk _ r s
-    (λ room. calls_one forget_faults stop (ForgetComes {A = A} id) tt (λ e. e) (λ e. e) (forget_answered id) (forget_determined id)) p q
+    (λ capacity. calls_one forget_faults stop (ForgetComes {A = A} id) tt (λ e. e) (λ e. e) (forget_answered id) (forget_determined id)) p q
 acts_one {A} old one other (Import desk number stop) r s p q =
     let there : Some p.0 ≡ Some q.0 = sym p.1 ∙ q.1 in
     let export : p.0 ≡ q.0 = cc (there) in
-    let Goes : relays.Export → Type 0 = λ x. DeskGoes old desk (λ room. Calls import_faults stop (ImportComes room x)) s other in
+    let Goes : relays.Export → Type 0 = λ x. DeskGoes old desk (λ capacity. Calls import_faults stop (ImportComes capacity x)) s other in
     desk_one _ old one other desk _ r s
-    (λ room. calls_one import_faults stop (ImportComes {A = A} room p.0) tt (λ e. e) (λ e. e)
-    (import_answered room p.0) (import_determined room p.0)) p.2 (subst Goes (sym export) q.2)
+    (λ capacity. calls_one import_faults stop (ImportComes {A = A} capacity p.0) tt (λ e. e) (λ e. e)
+    (import_answered capacity p.0) (import_determined capacity p.0)) p.2 (subst Goes (sym export) q.2)
 acts_one {A} old one other (Ask desk id) r s p q =
-    desk_one _ old one other desk _ r s (λ room. looks_one (AskTells {A = A} id) (ask_one id)) p q
+    desk_one _ old one other desk _ r s (λ capacity. looks_one (AskTells {A = A} id) (ask_one id)) p q
 acts_one {A} old one other (Export desk id) r s p q =
-    desk_one _ old one other desk _ r s (λ room. may_lack_one _
+    desk_one _ old one other desk _ r s (λ capacity. may_lack_one _
     (looks_one (ExportTells {A = A} (length old.exports) id) (export_one (length old.exports) id))) p q
 acts_one {A} old one other (RestartDesk desk) r s p q =
-    desk_one _ old one other desk _ r s (λ room. restarts_one (DeskRefused desk_fault.Memory) tt) p q
+    desk_one _ old one other desk _ r s (λ capacity. restarts_one (DeskRefused desk_fault.Memory) tt) p q
 
 pub only_memory : (A : Type 0) → NothingIsOpenButMemory A
 only_memory A old one other event r s p q = grind (arith, acts_one)

@@ -21,17 +21,17 @@ take_none k = grind arith
 pub quiet_closed : IsClosed IsQuiet
 quiet_closed = grind arith
 
-pub scan_quiet : {A : Type 0} (faults : Faults A) (stop : Stop) (room : ℕ) (grid : GridView) →
-    Leaves IsQuiet (MayLackFirst (Calls faults stop (ScanComes room grid)))
-scan_quiet faults stop room grid = scan_leaves IsQuiet quiet_closed faults stop room grid
+pub scan_quiet : {A : Type 0} (faults : Faults A) (stop : Stop) (capacity : ℕ) (grid : GridView) →
+    Leaves IsQuiet (MayLackFirst (Calls faults stop (ScanComes capacity grid)))
+scan_quiet faults stop capacity grid = scan_leaves IsQuiet quiet_closed faults stop capacity grid
 
 pub forget_is_quiet : {A : Type 0} (faults : Faults A) (stop : Stop) (id : ℕ) →
     Leaves IsQuiet (Calls faults stop (ForgetComes id))
 forget_is_quiet faults stop id = forget_leaves IsQuiet quiet_closed faults stop id
 
-pub import_is_quiet : {A : Type 0} (faults : Faults A) (stop : Stop) (room : ℕ) (export : relays.Export) →
-    Leaves IsQuiet (Calls faults stop (ImportComes room export))
-import_is_quiet faults stop room export = import_leaves IsQuiet quiet_closed faults stop room export
+pub import_is_quiet : {A : Type 0} (faults : Faults A) (stop : Stop) (capacity : ℕ) (export : relays.Export) →
+    Leaves IsQuiet (Calls faults stop (ImportComes capacity export))
+import_is_quiet faults stop capacity export = import_leaves IsQuiet quiet_closed faults stop capacity export
 
 pub ask_quiet : {A : Type 0} (id : ℕ) → Leaves IsQuiet (Looks (AskTells {A = A} id))
 ask_quiet id = ask_leaves IsQuiet quiet_closed id
@@ -55,13 +55,13 @@ pub record ChangesDesk (old new : Relay) : Type 0 where
   pub new_is : new ≡ with_desk old number desk goods
 
 desk_changes : {A : Type 0} (old new : Relay) (number : ℕ) (Acts : ℕ → Actor Documents → Ending A Documents → Type 0)
-    (reply : Reply A) → ((room : ℕ) → Leaves IsQuiet (Acts room)) → DeskGoes old number Acts reply new →
+    (reply : Reply A) → ((capacity : ℕ) → Leaves IsQuiet (Acts capacity)) → DeskGoes old number Acts reply new →
     ChangesDesk old new
 desk_changes old new number Acts reply each g = record {
   number = number;
-  desk = record { room = g.desk.room; actor = g.end.actor };
+  desk = record { capacity = g.desk.capacity; actor = g.end.actor };
   goods = g.end.goods;
-  quiet = each g.desk.room g.desk.actor g.end g.acts;
+  quiet = each g.desk.capacity g.desk.actor g.end g.acts;
   new_is = g.new_is;
 }
 
@@ -73,13 +73,13 @@ IsDesk (DeskAt number) = Unit {0}
 pub quiet_desks : {A : Type 0} (old new : Relay) (event : Event A) (reply : Reply A) → IsDesk (actor_of event) →
     Acts old event reply new → ChangesDesk old new
 quiet_desks old new (Scan desk number flips stop) reply is acts =
-    desk_changes old new desk _ reply (λ room. scan_quiet _ stop room (flipped acts.0.grid flips)) acts.2
+    desk_changes old new desk _ reply (λ capacity. scan_quiet _ stop capacity (flipped acts.0.grid flips)) acts.2
 quiet_desks old new (Forget desk id stop) reply is acts =
-    desk_changes old new desk _ reply (λ room. forget_is_quiet _ stop id) acts
+    desk_changes old new desk _ reply (λ capacity. forget_is_quiet _ stop id) acts
 quiet_desks old new (Import desk number stop) reply is acts =
-    desk_changes old new desk _ reply (λ room. import_is_quiet _ stop room acts.0) acts.2
-quiet_desks old new (Ask desk id) reply is acts = desk_changes old new desk _ reply (λ room. ask_quiet id) acts
+    desk_changes old new desk _ reply (λ capacity. import_is_quiet _ stop capacity acts.0) acts.2
+quiet_desks old new (Ask desk id) reply is acts = desk_changes old new desk _ reply (λ capacity. ask_quiet id) acts
 quiet_desks old new (Export desk id) reply is acts =
-    desk_changes old new desk _ reply (λ room. export_is_quiet (length old.exports) id) acts
-quiet_desks old new (RestartDesk desk) reply is acts = desk_changes old new desk _ reply (λ room. restart_quiet _) acts
+    desk_changes old new desk _ reply (λ capacity. export_is_quiet (length old.exports) id) acts
+quiet_desks old new (RestartDesk desk) reply is acts = desk_changes old new desk _ reply (λ capacity. restart_quiet _) acts
 quiet_desks old new event reply is acts = absurd is

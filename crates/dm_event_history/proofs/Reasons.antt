@@ -59,7 +59,7 @@ printer_fails {A} Why old new printer Acts reply each g save = grind arith
 
 desk_fails : {A : Type 0} (Why : Type 0) (old new : Relay) (number : ℕ)
     (Acts : ℕ → Actor Documents → Ending A Documents → Type 0) (reply : Reply A) →
-    ((room : ℕ) → FailsOnly Why (Acts room)) → DeskGoes old number Acts reply new → failed_after reply false ≡ true → Why
+    ((capacity : ℕ) → FailsOnly Why (Acts capacity)) → DeskGoes old number Acts reply new → failed_after reply false ≡ true → Why
 desk_fails {A} Why old new number Acts reply each g save = grind arith
 
 acts_fail : {A : Type 0} (old new : Relay) (event : Event A) (reply : Reply A) → Acts old event reply new →
@@ -73,16 +73,16 @@ acts_fail old new event reply acts save =
 -- ---- finder patterns
 
 -- a fair scan of a desk that runs
-framed : {A : Type 0} (grid : GridView) (page : PageView) (room : ℕ) (held : Documents) (stop : Stop)
+framed : {A : Type 0} (grid : GridView) (page : PageView) (capacity : ℕ) (held : Documents) (stop : Stop)
     (course : Course A Documents) (read : Result PageView LabelFault) → LabelOpens grid read → OpensNear page read →
-    MayBe (scan_course room held read) course →
+    MayBe (scan_course capacity held read) course →
     IsFramedSo grid (ends scan_faults stop course (Running held)).reply
-framed grid page room held stop course read opens near may = grind arith
+framed grid page capacity held stop course read opens near may = grind arith
 
-scan_framed : {A : Type 0} (grid : GridView) (page : PageView) (room : ℕ) (stop : Stop) (actor : Actor Documents)
+scan_framed : {A : Type 0} (grid : GridView) (page : PageView) (capacity : ℕ) (stop : Stop) (actor : Actor Documents)
     (end : Ending A Documents) → ((read : Result PageView LabelFault) → LabelOpens grid read → OpensNear page read) →
-    MayLackFirst (Calls scan_faults stop (ScanComes room grid)) actor end → IsFramedSo grid end.reply
-scan_framed {A} grid page room stop actor end near acts = grind (arith, framed)
+    MayLackFirst (Calls scan_faults stop (ScanComes capacity grid)) actor end → IsFramedSo grid end.reply
+scan_framed {A} grid page capacity stop actor end near acts = grind (arith, framed)
 
 -- ---- each step
 
@@ -141,5 +141,5 @@ each_step_is_refused_so A old new event reply printed step = record {
         let g = acts.1.2 in
         subst (λ (l : Label). IsFramedSo (flipped l.grid flips) reply) same
         (subst (λ (r : Reply A). IsFramedSo (flipped own.grid flips) r) (sym g.reply_is)
-        (scan_framed (flipped own.grid flips) own.page g.desk.room stop g.desk.actor g.end
+        (scan_framed (flipped own.grid flips) own.page g.desk.capacity stop g.desk.actor g.end
         (λ read opens. opens.near own.grid own.page p.carries (fair acts.0 own acts.1.1)) g.acts))

@@ -206,7 +206,7 @@ module _ (A : Type 0) (old : Relay) (earlier : List (Moment A)) (d : ℕ) (held 
       by_get (Some pages) at some = (pages, at)
 
   full_for : (desk : Desk) (id : ℕ) → slice_get old.desks d ≡ Some desk → finite.get held id ≡ None →
-      desk.room ≤ finite.len held → IsFullFor old known d id
+      desk.capacity ≤ finite.len held → IsFullFor old known d id
   full_for desk id there none full = (
     not_surely id none,
     (λ other here.
@@ -261,11 +261,11 @@ module _ (A : Type 0) (old : Relay) (earlier : List (Moment A)) (d : ℕ) (held 
         b.possibly export.id m (either_held (page own m) (page export.pages m) some
         (λ x. none (added_means added m is ∙ x))))
 
-    added_safe : (room : ℕ) (kind : Kind) → add_kind room held export.id export.pages ≡ Ok kind →
+    added_safe : (capacity : ℕ) (kind : Kind) → add_kind capacity held export.id export.pages ≡ Ok kind →
         IsImportedSafe known d export (reply_of held export.id export.pages kind)
-    added_safe room kind is =
+    added_safe capacity kind is =
         let added : ℕ = added_to held export.id export.pages in
-        let says = kind_says room held export.id export.pages kind is in
+        let says = kind_says capacity held export.id export.pages kind is in
         record {
           id_is = refl;
           n_is = refl;
@@ -278,7 +278,7 @@ module _ (A : Type 0) (old : Relay) (earlier : List (Moment A)) (d : ℕ) (held 
               (by_unnamed (page_at held export.id m) (page export.pages m) some
               (λ x. none (added_means added m refl ∙ x)));
           again = again_by kind added (own_pages held export.id) export.pages refl says;
-          kind = import_kind_safe added kind refl (no_longer room held export.id export.pages kind is) says;
+          kind = import_kind_safe added kind refl (no_longer capacity held export.id export.pages kind is) says;
         }
 
     -- what was printed never disagrees
@@ -306,15 +306,15 @@ module _ (A : Type 0) (old : Relay) (earlier : List (Moment A)) (d : ℕ) (held 
 
   -- ---- scans: the page of a label, as an export of it alone
 
-  kind_safe : (room : ℕ) (p : PageView) → IsHead (head_of p) → IsCleanExport old.labels (lone_export p) →
-      (kind : Kind) → add_kind room held p.id (lone p) ≡ Ok kind → IsKindSafe known d p.id p.m p.n kind
-  kind_safe room p head sent kind is = by_kind kind refl safe.kind
+  kind_safe : (capacity : ℕ) (p : PageView) → IsHead (head_of p) → IsCleanExport old.labels (lone_export p) →
+      (kind : Kind) → add_kind capacity held p.id (lone p) ≡ Ok kind → IsKindSafe known d p.id p.m p.n kind
+  kind_safe capacity p head sent kind is = by_kind kind refl safe.kind
     where
       added : ℕ
       added = added_to held p.id (lone p)
 
       safe : IsImportedSafe known d (lone_export p) (reply_of held p.id (lone p) kind)
-      safe = added_safe (lone_export p) sent room kind is
+      safe = added_safe (lone_export p) sent capacity kind is
 
       here : IsSome (page (lone p) p.m)
       here = subst IsSome (sym (lone_here p head.first head.last)) refl
@@ -356,7 +356,7 @@ module _ (A : Type 0) (old new : Relay) (earlier : List (Moment A)) (sound : Rel
   gathered d desk held there shown = grind arith
 
   asked : (d id : ℕ) (reply : Reply A) → reply ≢ replies.Down → Step old (Ask d id) reply new →
-      DeskGoes old d (λ room. Looks (AskTells id)) reply new → IsSafe old (known_of old earlier) (Ask d id) reply
+      DeskGoes old d (λ capacity. Looks (AskTells id)) reply new → IsSafe old (known_of old earlier) (Ask d id) reply
   asked d id reply up step g =
       let l = is_looked (AskTells id) g.desk.actor g.end (λ e. up (g.reply_is ∙ e)) g.acts in
       let h = gathered d g.desk l.held g.was l.shown in
@@ -369,21 +369,21 @@ module _ (A : Type 0) (old new : Relay) (earlier : List (Moment A)) (sound : Rel
       (finite.get l.held id) refl l.tells.1)
 
   ask_safe : (d id : ℕ) (reply : Reply A) → Step old (Ask d id) reply new →
-      DeskGoes old d (λ room. Looks (AskTells id)) reply new → IsSafe old (known_of old earlier) (Ask d id) reply
+      DeskGoes old d (λ capacity. Looks (AskTells id)) reply new → IsSafe old (known_of old earlier) (Ask d id) reply
   ask_safe d id reply step g = grind (arith, asked)
 
   exported : (d id : ℕ) (reply : Reply A) → reply ≢ replies.Down → reply ≢ replies.Memory →
-      DeskGoes old d (λ room. MayLackFirst (Looks (ExportTells (length old.exports) id))) reply new →
+      DeskGoes old d (λ capacity. MayLackFirst (Looks (ExportTells (length old.exports) id))) reply new →
       IsSafe old (known_of old earlier) (Export d id) reply
   exported d id reply up some g = grind (arith, export_is_safe, gathered, is_looked, is_made, not_surely, one)
 
   export_safe : (d id : ℕ) (reply : Reply A) →
-      DeskGoes old d (λ room. MayLackFirst (Looks (ExportTells (length old.exports) id))) reply new →
+      DeskGoes old d (λ capacity. MayLackFirst (Looks (ExportTells (length old.exports) id))) reply new →
       IsSafe old (known_of old earlier) (Export d id) reply
   export_safe d id reply g = grind (arith, exported)
 
   forget_safe : (d id : ℕ) (stop : Stop) (reply : Reply A) →
-      DeskGoes old d (λ room. Calls forget_faults stop (ForgetComes id)) reply new →
+      DeskGoes old d (λ capacity. Calls forget_faults stop (ForgetComes id)) reply new →
       IsSafe old (known_of old earlier) (Forget d id stop) reply
   forget_safe d id stop reply g = grind arith
 
@@ -391,34 +391,34 @@ module _ (A : Type 0) (old new : Relay) (earlier : List (Moment A)) (sound : Rel
   refused : (d number : ℕ) (flips : List (ℕ × ℕ)) (stop : Stop) (label : Label) (fault : ScanFault) →
       slice_get old.labels number ≡ Some label → IsNear (flipped label.grid flips) label.grid →
       (g : DeskGoes {A = A} old d
-      (λ room. MayLackFirst (Calls scan_faults stop (ScanComes room (flipped label.grid flips)))) (ScanRefused fault) new) →
+      (λ capacity. MayLackFirst (Calls scan_faults stop (ScanComes capacity (flipped label.grid flips)))) (ScanRefused fault) new) →
       IsOwn {A = A} scan_faults (ScanRefused fault) →
       (held : Documents) × (content_shown g.desk.actor ≡ Some held)
-      × (AddRefused {A = A} (page_reply label.page) g.desk.room held label.page.id (lone label.page) (ScanRefused fault)
+      × (AddRefused {A = A} (page_reply label.page) g.desk.capacity held label.page.id (lone label.page) (ScanRefused fault)
       ⊎ ((wrong : ℕ) × (fault ≡ scan_fault.Label (label_fault.Border wrong))))
   refused d number flips stop label fault there near g own =
       let p = printed number label there in
-      let made = is_made (Calls scan_faults stop (ScanComes g.desk.room (flipped label.grid flips))) g.desk.actor g.end
+      let made = is_made (Calls scan_faults stop (ScanComes g.desk.capacity (flipped label.grid flips))) g.desk.actor g.end
       (ScanRefused fault) (λ e. cc (e)) g.acts (sym g.reply_is) in
-      let ans = is_answered scan_faults stop (ScanComes g.desk.room (flipped label.grid flips)) g.desk.actor g.end
+      let ans = is_answered scan_faults stop (ScanComes g.desk.capacity (flipped label.grid flips)) g.desk.actor g.end
       (ScanRefused fault) own made (sym g.reply_is) in
       let read = ans.comes.0 in (
         ans.held,
         ap (λ (x : Actor Documents). content_shown x) ans.was,
-        scan_was_refused g.desk.room label.page ans.held fault g.end.actor read
+        scan_was_refused g.desk.capacity label.page ans.held fault g.end.actor read
             (ans.comes.1.near label.grid label.page p.carries near)
-            (was_wanted (scan_course g.desk.room ans.held read) ans.course ans.held (ScanRefused fault) g.end.actor
+            (was_wanted (scan_course g.desk.capacity ans.held read) ans.course ans.held (ScanRefused fault) g.end.actor
             ans.comes.2 ans.ended),
       )
 
   -- what was printed never disagrees, and where there is no room others are held
-  not_added : (d room : ℕ) (desk : Desk) (export : relays.Export) (held : Documents) (fault : AddFault) →
-      slice_get old.desks d ≡ Some desk → room ≡ desk.room → content_shown desk.actor ≡ Some held →
-      IsCleanExport old.labels export → add_kind room held export.id export.pages ≡ Err fault →
+  not_added : (d capacity : ℕ) (desk : Desk) (export : relays.Export) (held : Documents) (fault : AddFault) →
+      slice_get old.desks d ≡ Some desk → capacity ≡ desk.capacity → content_shown desk.actor ≡ Some held →
+      IsCleanExport old.labels export → add_kind capacity held export.id export.pages ≡ Err fault →
       (fault ≡ adds.Full) × IsFullFor old (known_of old earlier) d export.id
-  not_added d room desk export held fault there same shown sent is =
+  not_added d capacity desk export held fault there same shown sent is =
       let h = gathered d desk held there shown in
-      add_refuses (λ f. (f ≡ adds.Full) × IsFullFor old (known_of old earlier) d export.id) room held export.id
+      add_refuses (λ f. (f ≡ adds.Full) × IsFullFor old (known_of old earlier) d export.id) capacity held export.id
       export.pages fault
       (λ own at differs. absurd (import_agrees A old earlier d held one printed h.left h.between export sent own at differs))
       (λ none most. (
@@ -429,18 +429,18 @@ module _ (A : Type 0) (old new : Relay) (earlier : List (Moment A)) (sound : Rel
 
   scan_safe : (d number : ℕ) (flips : List (ℕ × ℕ)) (stop : Stop) (label : Label) (reply : Reply A) →
       slice_get old.labels number ≡ Some label → IsNear (flipped label.grid flips) label.grid →
-      DeskGoes old d (λ room. MayLackFirst (Calls scan_faults stop (ScanComes room (flipped label.grid flips)))) reply new →
+      DeskGoes old d (λ capacity. MayLackFirst (Calls scan_faults stop (ScanComes capacity (flipped label.grid flips)))) reply new →
       IsSafe old (known_of old earlier) (Scan d number flips stop) reply
   scan_safe d number flips stop label (Scanned a) there near g =
       let p = printed number label there in
-      let made = is_made (Calls scan_faults stop (ScanComes g.desk.room (flipped label.grid flips))) g.desk.actor g.end
+      let made = is_made (Calls scan_faults stop (ScanComes g.desk.capacity (flipped label.grid flips))) g.desk.actor g.end
       (Scanned a) (λ e. cc (e)) g.acts (sym g.reply_is) in
-      let ans = is_answered scan_faults stop (ScanComes g.desk.room (flipped label.grid flips)) g.desk.actor g.end
+      let ans = is_answered scan_faults stop (ScanComes g.desk.capacity (flipped label.grid flips)) g.desk.actor g.end
       (Scanned a) (own_scan a) made (sym g.reply_is) in
       let read = ans.comes.0 in
-      let told = scan_told g.desk.room label.page ans.held a g.end.actor read
+      let told = scan_told g.desk.capacity label.page ans.held a g.end.actor read
       (ans.comes.1.near label.grid label.page p.carries near)
-      (was_wanted (scan_course g.desk.room ans.held read) ans.course ans.held (Scanned a) g.end.actor ans.comes.2
+      (was_wanted (scan_course g.desk.capacity ans.held read) ans.course ans.held (Scanned a) g.end.actor ans.comes.2
       ans.ended) in
       let h = gathered d g.desk ans.held g.was (ap (λ (x : Actor Documents). content_shown x) ans.was) in
       let same : record { id = label.page.id; m = label.page.m; n = label.page.n; kind = told.kind } ≡ a =
@@ -453,7 +453,7 @@ module _ (A : Type 0) (old new : Relay) (earlier : List (Moment A)) (sound : Rel
         n_is = sym (ap (λ (x : Accepted). x.n) same);
         kind = subst (λ (k : Kind). IsKindSafe (known_of old earlier) d label.page.id label.page.m label.page.n k)
             (ap (λ (x : Accepted). x.kind) same)
-            (kind_safe A old earlier d ans.held one printed h.left h.between g.desk.room label.page p.carries.is_head
+            (kind_safe A old earlier d ans.held one printed h.left h.between g.desk.capacity label.page p.carries.is_head
             (lone_clean old.labels number label there p) told.kind told.kind_is);
       }
     where
@@ -464,7 +464,7 @@ module _ (A : Type 0) (old new : Relay) (earlier : List (Moment A)) (sound : Rel
       (λ e. cc (e)) (λ e. cc (e)) (λ e. cc (e))) in
       elim r.2 [
         | inl was ↦
-            let full = (not_added d g.desk.room g.desk (lone_export label.page) r.0 was.fault g.was refl r.1
+            let full = (not_added d g.desk.capacity g.desk (lone_export label.page) r.0 was.fault g.was refl r.1
             (lone_clean old.labels number label there (printed number label there)) was.fault_is).0 in
             let told = subst (λ (f : AddFault). page_reply {A = A} label.page (Err f) ≡ ScanRefused scan_fault.Conflict)
             full was.told in
@@ -478,7 +478,7 @@ module _ (A : Type 0) (old new : Relay) (earlier : List (Moment A)) (sound : Rel
         | inl was ↦ (
           label,
           there,
-          (not_added d g.desk.room g.desk (lone_export label.page) r.0 was.fault g.was refl r.1
+          (not_added d g.desk.capacity g.desk (lone_export label.page) r.0 was.fault g.was refl r.1
               (lone_clean old.labels number label there (printed number label there)) was.fault_is).1,
         )
         | inr border ↦ (let e = border.1 in cc (e))
@@ -487,18 +487,18 @@ module _ (A : Type 0) (old new : Relay) (earlier : List (Moment A)) (sound : Rel
 
   not_imported : (d number : ℕ) (stop : Stop) (export : relays.Export) (fault : ImportFault) →
       slice_get old.exports number ≡ Some export →
-      DeskGoes {A = A} old d (λ room. Calls import_faults stop (ImportComes room export)) (ImportRefused fault) new →
+      DeskGoes {A = A} old d (λ capacity. Calls import_faults stop (ImportComes capacity export)) (ImportRefused fault) new →
       fault ≢ import_fault.Failed → fault ≢ import_fault.Save → fault ≢ import_fault.Memory →
       (fault ≡ import_fault.Full) × IsFullFor old (known_of old earlier) d export.id
   not_imported d number stop export fault there g failed save memory =
-      let ans = is_answered import_faults stop (ImportComes g.desk.room export) g.desk.actor g.end (ImportRefused fault)
+      let ans = is_answered import_faults stop (ImportComes g.desk.capacity export) g.desk.actor g.end (ImportRefused fault)
       (own_import_fault fault failed save memory) g.acts (sym g.reply_is) in
-      elim (add_ended pages_reply g.desk.room ans.held export.id export.pages (ImportRefused fault) g.end.actor
-      (was_wanted (verdict_course pages_reply (add_verdict g.desk.room ans.held export.id export.pages)) ans.course
+      elim (add_ended pages_reply g.desk.capacity ans.held export.id export.pages (ImportRefused fault) g.end.actor
+      (was_wanted (verdict_course pages_reply (add_verdict g.desk.capacity ans.held export.id export.pages)) ans.course
       ans.held (ImportRefused fault) g.end.actor ans.comes ans.ended)) [
         | inl told ↦ (let e = told.told in absurd (cc (e)))
         | inr was ↦
-            let full = not_added d g.desk.room g.desk export ans.held was.fault g.was refl
+            let full = not_added d g.desk.capacity g.desk export ans.held was.fault g.was refl
             (ap (λ (x : Actor Documents). content_shown x) ans.was) (clean.exports number export there) was.fault_is in
             let told = subst (λ (f : AddFault). pages_reply {A = A} (Err f) ≡ ImportRefused fault) full.0 was.told in
             (sym (fault_is told), full.1)
@@ -516,21 +516,21 @@ module _ (A : Type 0) (old new : Relay) (earlier : List (Moment A)) (sound : Rel
 
   import_safe : (d number : ℕ) (stop : Stop) (export : relays.Export) (reply : Reply A) →
       slice_get old.exports number ≡ Some export →
-      DeskGoes old d (λ room. Calls import_faults stop (ImportComes room export)) reply new →
+      DeskGoes old d (λ capacity. Calls import_faults stop (ImportComes capacity export)) reply new →
       IsSafe old (known_of old earlier) (Import d number stop) reply
   import_safe d number stop export (Imported i) there g =
-      let ans = is_answered import_faults stop (ImportComes g.desk.room export) g.desk.actor g.end (Imported i)
+      let ans = is_answered import_faults stop (ImportComes g.desk.capacity export) g.desk.actor g.end (Imported i)
       (own_import i) g.acts (sym g.reply_is) in
       let h = gathered d g.desk ans.held g.was (ap (λ (x : Actor Documents). content_shown x) ans.was) in
-      elim (add_ended pages_reply g.desk.room ans.held export.id export.pages (Imported i) g.end.actor
-      (was_wanted (verdict_course pages_reply (add_verdict g.desk.room ans.held export.id export.pages)) ans.course
+      elim (add_ended pages_reply g.desk.capacity ans.held export.id export.pages (Imported i) g.end.actor
+      (was_wanted (verdict_course pages_reply (add_verdict g.desk.capacity ans.held export.id export.pages)) ans.course
       ans.held (Imported i) g.end.actor ans.comes ans.ended)) [
         | inl told ↦ (
           export,
           there,
           subst (λ (x : imported_type.Imported). IsImportedSafe (known_of old earlier) d export x) (imported_is told.told)
               (added_safe A old earlier d ans.held one printed h.left h.between export (clean.exports number export there)
-              g.desk.room told.kind told.kind_is),
+              g.desk.capacity told.kind told.kind_is),
         )
         | inr was ↦ (let e = was.told in absurd (cc (e)))
       ]
@@ -555,10 +555,10 @@ no_such_safe : {A : Type 0} (old : Relay) (known : Known) (event : Event A) → 
 no_such_safe old known event = grind arith
 
 pub each_fair_reply_is_safe : (A : Type 0) → EachFairReplyIsSafe A
-each_fair_reply_is_safe A ranges rooms moment earlier end apart run saved fair =
-    let before = each_run_is_sound A ranges rooms earlier moment.before apart run.0 in
-    by_case before.0 before.1 (each_fair_run_is_clean A ranges rooms earlier moment.before apart run.0 saved)
-    (run_between A ranges rooms earlier moment.before apart run.0 saved) run.1
+each_fair_reply_is_safe A ranges capacities moment earlier end apart run saved fair =
+    let before = each_run_is_sound A ranges capacities earlier moment.before apart run.0 in
+    by_case before.0 before.1 (each_fair_run_is_clean A ranges capacities earlier moment.before apart run.0 saved)
+    (run_between A ranges capacities earlier moment.before apart run.0 saved) run.1
   where
     by_case : RelayIsSound moment.before → ArePrinted moment.before.labels → AreAllClean moment.before →
         AreBetween earlier moment.before → Step moment.before moment.event moment.reply end →

@@ -57,10 +57,10 @@ without_left labels held gone clean = grind (arith, get_left, get_removed, page_
 
 -- ---- what is held with an export
 
-with_pages_left : (labels : List Label) (room : ℕ) (held : Documents) (export : relays.Export) (kind : Kind) →
-    add_kind room held export.id export.pages ≡ Ok kind → IsCleanExport labels export → HaveLeft labels held →
+with_pages_left : (labels : List Label) (capacity : ℕ) (held : Documents) (export : relays.Export) (kind : Kind) →
+    add_kind capacity held export.id export.pages ≡ Ok kind → IsCleanExport labels export → HaveLeft labels held →
     HaveLeft labels (with_pages held export.id export.pages)
-with_pages_left labels room held export kind answered sent clean = record {
+with_pages_left labels capacity held export kind answered sent clean = record {
   pages = grind (arith, either, kept, page_found, page_given, same_or_other);
   counts = grind (arith, all_count, get_here, kept, same_or_other);
   some = λ id pages is. elim (same_or_other id export.id) [
@@ -127,10 +127,10 @@ may_be_clean : {A : Type 0} (labels : List Label) (wanted course : Course A Docu
 may_be_clean {A} labels wanted course c is = grind arith
 
 -- pages that are clean as those of an export are added
-add_clean : {A : Type 0} (labels : List Label) (room : ℕ) (held : Documents) (export : relays.Export)
+add_clean : {A : Type 0} (labels : List Label) (capacity : ℕ) (held : Documents) (export : relays.Export)
     (tells : Answer → Reply A) → HaveLeft labels held → IsCleanExport labels export →
-    IsCleanCourse labels (verdict_course tells (add_verdict room held export.id export.pages))
-add_clean {A} labels room held export tells h sent = grind (arith, by_verdict, with_pages_left)
+    IsCleanCourse labels (verdict_course tells (add_verdict capacity held export.id export.pages))
+add_clean {A} labels capacity held export tells h sent = grind (arith, by_verdict, with_pages_left)
 
 -- the page of a label that left, as an export of it alone
 abbrev pub lone_export : PageView → relays.Export
@@ -160,16 +160,16 @@ lone_clean labels number label there printed =
     }
 
 -- a fair scan is read as its label's page
-reading_clean : (A : Type 0) (labels : List Label) (room number : ℕ) (held : Documents) (label : Label) →
+reading_clean : (A : Type 0) (labels : List Label) (capacity number : ℕ) (held : Documents) (label : Label) →
     HaveLeft labels held → slice_get labels number ≡ Some label → IsPrinted label →
     (read : Result PageView LabelFault) → OpensNear label.page read →
-    IsCleanCourse {A = A} labels (scan_course room held read)
-reading_clean A labels room number held label h there printed (Ok page) near =
+    IsCleanCourse {A = A} labels (scan_course capacity held read)
+reading_clean A labels capacity number held label h there printed (Ok page) near =
     subst (λ (p : PageView). IsCleanCourse {A = A} labels
-    (verdict_course (page_reply p) (add_verdict room held p.id (lone p)))) (sym near)
-    (add_clean labels room held (lone_export label.page) (page_reply label.page) h
+    (verdict_course (page_reply p) (add_verdict capacity held p.id (lone p)))) (sym near)
+    (add_clean labels capacity held (lone_export label.page) (page_reply label.page) h
     (lone_clean labels number label there printed))
-reading_clean A labels room number held label h there printed (Err fault) near = tt
+reading_clean A labels capacity number held label h there printed (Err fault) near = tt
 
 forget_clean : (A : Type 0) (labels : List Label) (id : ℕ) (held : Documents) (o : Option Pages) →
     HaveLeft labels held → IsCleanCourse {A = A} labels (verdict_course forget_reply (forget_by held id o))
@@ -180,7 +180,7 @@ forget_clean A labels id held (Some pages) h = without_left labels held id h
 
 desk_keeps : {A : Type 0} (old new : Relay) (number own : ℕ)
     (Acts : ℕ → Actor Documents → Ending A Documents → Type 0) (reply : Reply A) → IsClean old own →
-    (number ≡ own → (room : ℕ) → Keeps old.labels (Acts room)) → DeskGoes old number Acts reply new → IsClean new own
+    (number ≡ own → (capacity : ℕ) → Keeps old.labels (Acts capacity)) → DeskGoes old number Acts reply new → IsClean new own
 desk_keeps old new number own Acts reply clean each g = grind (arith, actor_more, set_at)
 
 printer_keeps : {A : Type 0} (old new : Relay) (printer own : ℕ)
@@ -200,29 +200,29 @@ acts_keep old new (RestartPrinter printer) reply own p clean harm acts =
     printer_keeps old new printer own _ reply clean acts
 acts_keep old new (Scan desk number flips stop) reply own p clean harm acts =
     desk_keeps old new desk own _ reply clean
-    (λ same room. may_lack_keeps old.labels _ (calls_keep old.labels _ stop _
+    (λ same capacity. may_lack_keeps old.labels _ (calls_keep old.labels _ stop _
     (λ held course h comes. may_be_clean old.labels _ course
-    (reading_clean _ old.labels room number held acts.0 h acts.1 (p number acts.0 acts.1) comes.0
+    (reading_clean _ old.labels capacity number held acts.0 h acts.1 (p number acts.0 acts.1) comes.0
     (comes.1.near acts.0.grid acts.0.page (p number acts.0 acts.1).carries (harm same acts.0 acts.1))) comes.2)))
     acts.2
 acts_keep {A} old new (Forget desk id stop) reply own p clean harm acts =
     desk_keeps old new desk own _ reply clean
-    (λ same room. calls_keep old.labels _ stop _
+    (λ same capacity. calls_keep old.labels _ stop _
     (λ held course h comes. may_be_clean old.labels _ course
     (forget_clean A old.labels id held (finite.get held id) h) comes)) acts
 acts_keep {A} old new (Import desk number stop) reply own p clean harm acts =
     desk_keeps old new desk own _ reply clean
-    (λ same room. calls_keep old.labels _ stop _
+    (λ same capacity. calls_keep old.labels _ stop _
     (λ held course h comes. may_be_clean old.labels _ course
-    (add_clean {A = A} old.labels room held acts.0 pages_reply h (harm same acts.0 acts.1)) comes)) acts.2
+    (add_clean {A = A} old.labels capacity held acts.0 pages_reply h (harm same acts.0 acts.1)) comes)) acts.2
 acts_keep {A} old new (Ask desk id) reply own p clean harm acts =
-    desk_keeps old new desk own _ reply clean (λ same room. looks_keep old.labels (AskTells {A = A} id)) acts
+    desk_keeps old new desk own _ reply clean (λ same capacity. looks_keep old.labels (AskTells {A = A} id)) acts
 acts_keep {A} old new (Export desk id) reply own p clean harm acts =
     desk_keeps old new desk own _ reply clean
-    (λ same room. may_lack_keeps old.labels _ (looks_keep old.labels (ExportTells {A = A} (length old.exports) id)))
+    (λ same capacity. may_lack_keeps old.labels _ (looks_keep old.labels (ExportTells {A = A} (length old.exports) id)))
     acts
 acts_keep old new (RestartDesk desk) reply own p clean harm acts =
-    desk_keeps old new desk own _ reply clean (λ same room. restarts_keep old.labels _) acts
+    desk_keeps old new desk own _ reply clean (λ same capacity. restarts_keep old.labels _) acts
 
 pub each_step_keeps_clean : (A : Type 0) → EachStepKeepsClean A
 each_step_keeps_clean A old new event reply own p clean harm step = grind (arith, acts_keep)

@@ -173,28 +173,28 @@ no_overlap {A} old new printer number ticket stop sound there g =
 
 -- ---- runs
 
-run_once : (A : Type 0) (ranges : List Range) (rooms : List ℕ) (h : List (Moment A)) (end : Relay) →
-    AreDisjoint ranges → IsRun (start ranges rooms) h end → AreTakenOnce end
+run_once : (A : Type 0) (ranges : List Range) (capacities : List ℕ) (h : List (Moment A)) (end : Relay) →
+    AreDisjoint ranges → IsRun (start ranges capacities) h end → AreTakenOnce end
 unfolding taken
-run_once A ranges rooms [] end apart run =
+run_once A ranges capacities [] end apart run =
     subst (λ (r : Relay). AreTakenOnce r) (sym run) (λ k. omega arith)
-run_once A ranges rooms (moment ∷ earlier) end apart run =
-    by_step (run_once A ranges rooms earlier moment.before apart run.0)
-    (each_run_is_sound A ranges rooms earlier moment.before apart run.0).0.order run.1
+run_once A ranges capacities (moment ∷ earlier) end apart run =
+    by_step (run_once A ranges capacities earlier moment.before apart run.0)
+    (each_run_is_sound A ranges capacities earlier moment.before apart run.0).0.order run.1
   where
     by_step : AreTakenOnce moment.before → RelayIsInOrder moment.before →
         Step moment.before moment.event moment.reply end → AreTakenOnce end
     by_step once order (inl acts) = acts_once moment.before end moment.event moment.reply order once acts.1
     by_step once order (inr none) = subst (λ (r : Relay). AreTakenOnce r) (sym none.2) once
 
-run_never : (A : Type 0) (ranges : List Range) (rooms : List ℕ) (h : List (Moment A)) (end : Relay) →
-    AreDisjoint ranges → IsRun (start ranges rooms) h end → (i printer ticket : ℕ) (stop : Stop) (moment : Moment A) →
+run_never : (A : Type 0) (ranges : List Range) (capacities : List ℕ) (h : List (Moment A)) (end : Relay) →
+    AreDisjoint ranges → IsRun (start ranges capacities) h end → (i printer ticket : ℕ) (stop : Stop) (moment : Moment A) →
     slice_get h i ≡ Some moment → moment.event ≡ Take printer ticket stop →
     moment.reply ≢ TakeRefused take_fault.Overlap
-run_never A ranges rooms [] end apart run i printer ticket stop moment is asked told = cc (is)
-run_never A ranges rooms (own ∷ earlier) end apart run zero printer ticket stop moment is asked told =
+run_never A ranges capacities [] end apart run i printer ticket stop moment is asked told = cc (is)
+run_never A ranges capacities (own ∷ earlier) end apart run zero printer ticket stop moment is asked told =
     let same : own ≡ moment = cc (is) in
-    by_step (each_run_is_sound A ranges rooms earlier own.before apart run.0).0
+    by_step (each_run_is_sound A ranges capacities earlier own.before apart run.0).0
     (subst (λ (e : Event A). Step own.before e (TakeRefused take_fault.Overlap) end)
     (ap (λ (m : Moment A). m.event) same ∙ asked)
     (subst (λ (r : Reply A). Step own.before own.event r end) (ap (λ (m : Moment A). m.reply) same ∙ told) run.1))
@@ -203,11 +203,11 @@ run_never A ranges rooms (own ∷ earlier) end apart run zero printer ticket sto
         Step {A = A} own.before (Take printer ticket stop) (TakeRefused take_fault.Overlap) end → ⊥
     by_step sound (inl acts) = no_overlap own.before end printer ticket acts.1.0 stop sound acts.1.1 acts.1.2
     by_step sound (inr none) = (let e = none.1 in cc (e))
-run_never A ranges rooms (own ∷ earlier) end apart run (suc i) printer ticket stop moment is asked told =
-    run_never A ranges rooms earlier own.before apart run.0 i printer ticket stop moment is asked told
+run_never A ranges capacities (own ∷ earlier) end apart run (suc i) printer ticket stop moment is asked told =
+    run_never A ranges capacities earlier own.before apart run.0 i printer ticket stop moment is asked told
 
 pub each_run_takes_once : (A : Type 0) → EachRunTakesOnce A
-each_run_takes_once A ranges rooms h end apart run = record {
-  once = λ i j k is there. just_one end.moves i j k (run_once A ranges rooms h end apart run k) is there;
-  never = run_never A ranges rooms h end apart run;
+each_run_takes_once A ranges capacities h end apart run = record {
+  once = λ i j k is there. just_one end.moves i j k (run_once A ranges capacities h end apart run k) is there;
+  never = run_never A ranges capacities h end apart run;
 }

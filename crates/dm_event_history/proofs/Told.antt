@@ -43,40 +43,40 @@ IsAfter kinds.New held next after = after ≡ Running next
 IsAfter kinds.Complete held next after = after ≡ Running next
 
 -- pages were added, or were all held
-pub record AddTold {A : Type 0} (tells : Answer → Reply A) (room : ℕ) (held : Documents) (id : ℕ) (pages : Pages)
+pub record AddTold {A : Type 0} (tells : Answer → Reply A) (capacity : ℕ) (held : Documents) (id : ℕ) (pages : Pages)
     (reply : Reply A) (after : Actor Documents) : Type 0 where
   pub kind : Kind
-  pub kind_is : add_kind room held id pages ≡ Ok kind
+  pub kind_is : add_kind capacity held id pages ≡ Ok kind
   pub told : tells (Ok (reply_of held id pages kind)) ≡ reply
   pub after_is : IsAfter kind held (with_pages held id pages) after
 
 -- or they were refused
-pub record AddRefused {A : Type 0} (tells : Answer → Reply A) (room : ℕ) (held : Documents) (id : ℕ) (pages : Pages)
+pub record AddRefused {A : Type 0} (tells : Answer → Reply A) (capacity : ℕ) (held : Documents) (id : ℕ) (pages : Pages)
     (reply : Reply A) : Type 0 where
   pub fault : AddFault
-  pub fault_is : add_kind room held id pages ≡ Err fault
+  pub fault_is : add_kind capacity held id pages ≡ Err fault
   pub told : tells (Err fault) ≡ reply
 
-pub add_ended : {A : Type 0} (tells : Answer → Reply A) (room : ℕ) (held : Documents) (id : ℕ) (pages : Pages)
+pub add_ended : {A : Type 0} (tells : Answer → Reply A) (capacity : ℕ) (held : Documents) (id : ℕ) (pages : Pages)
     (reply : Reply A) (after : Actor Documents) →
-    Ended (verdict_course tells (add_verdict room held id pages)) held reply after →
-    AddTold tells room held id pages reply after ⊎ AddRefused tells room held id pages reply
-add_ended {A} tells room held id pages reply after = grind arith
+    Ended (verdict_course tells (add_verdict capacity held id pages)) held reply after →
+    AddTold tells capacity held id pages reply after ⊎ AddRefused tells capacity held id pages reply
+add_ended {A} tells capacity held id pages reply after = grind arith
 
 -- a fair scan that is answered took its page, or the page was held
-pub scan_told : {A : Type 0} (room : ℕ) (p : PageView) (held : Documents) (a : Accepted) (after : Actor Documents)
+pub scan_told : {A : Type 0} (capacity : ℕ) (p : PageView) (held : Documents) (a : Accepted) (after : Actor Documents)
     (read : Result PageView LabelFault) → OpensNear p read →
-    Ended {A = A} (scan_course room held read) held (Scanned a) after →
-    AddTold {A = A} (page_reply p) room held p.id (lone p) (Scanned a) after
-scan_told {A} room p held a after read near ended = grind arith
+    Ended {A = A} (scan_course capacity held read) held (Scanned a) after →
+    AddTold {A = A} (page_reply p) capacity held p.id (lone p) (Scanned a) after
+scan_told {A} capacity p held a after read near ended = grind arith
 
 -- one that is refused was refused for its finder patterns, or by what is held
-pub scan_was_refused : {A : Type 0} (room : ℕ) (p : PageView) (held : Documents) (fault : ScanFault)
+pub scan_was_refused : {A : Type 0} (capacity : ℕ) (p : PageView) (held : Documents) (fault : ScanFault)
     (after : Actor Documents) (read : Result PageView LabelFault) → OpensNear p read →
-    Ended {A = A} (scan_course room held read) held (ScanRefused fault) after →
-    AddRefused {A = A} (page_reply p) room held p.id (lone p) (ScanRefused fault)
+    Ended {A = A} (scan_course capacity held read) held (ScanRefused fault) after →
+    AddRefused {A = A} (page_reply p) capacity held p.id (lone p) (ScanRefused fault)
     ⊎ ((wrong : ℕ) × (fault ≡ scan_fault.Label (label_fault.Border wrong)))
-scan_was_refused {A} room p held fault after read near ended = grind arith
+scan_was_refused {A} capacity p held fault after read near ended = grind arith
 
 -- ---- forgets
 

@@ -227,10 +227,10 @@ all_at = get_same half_held 0 (pages_with half_held 0 (lone (first_page 0))) ∙
     ap (λ (o : Option Pages). Some (union_of_pages (unwrap_or o []) (lone (first_page 0)))) half_at
 
 abbrev kind_by : Documents → ℕ → Pages → Option Pages → Result Kind AddFault
-kind_by held room given o =
+kind_by held capacity given o =
     if not (may_join o given) then Err adds.Conflict else
     if added_mask (unwrap_or o []) given == 0 then Ok Again else
-    if is_none o && nat_le room (finite.len held) then Err adds.Full else
+    if is_none o && nat_le capacity (finite.len held) then Err adds.Full else
     Ok (kind_of (union_of_pages (unwrap_or o []) given))
 
 is_new : add_kind 4 none_held 0 (lone (second_page 0)) ≡ Ok New
@@ -247,7 +247,7 @@ abbrev accepted : PageView → Kind → Accepted
 accepted page kind = record { id = page.id; m = page.m; n = page.n; kind = kind }
 
 abbrev desk_with : Documents → Desk
-desk_with held = record { room = 4; actor = Running held }
+desk_with held = record { capacity = 4; actor = Running held }
 
 abbrev desk_goes_on : Relay → Documents → Relay
 desk_goes_on relay held = with_desk relay 0 (desk_with held) no_goods

@@ -61,9 +61,9 @@ printer_goes old printer Acts actor end was acts = grind arith
 
 pub desk_goes : {A : Type 0} (old : Relay) (number : ℕ)
     (Acts : ℕ → Actor Documents → Ending A Documents → Type 0) (desk : Desk) (end : Ending A Documents) →
-    slice_get old.desks number ≡ Some desk → Acts desk.room desk.actor end →
+    slice_get old.desks number ≡ Some desk → Acts desk.capacity desk.actor end →
     DeskGoes old number Acts end.reply
-    (with_desk old number (record { room = desk.room; actor = end.actor }) end.goods)
+    (with_desk old number (record { capacity = desk.capacity; actor = end.actor }) end.goods)
 desk_goes old number Acts desk end was acts = search arith
 
 -- ---- ledgers

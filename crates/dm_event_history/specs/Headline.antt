@@ -243,16 +243,16 @@ AreTrueMoments labels (moment ∷ earlier) = IsTrueMoment labels moment earlier 
 
 -- what holds of each relay that a run from disjoint ranges reaches
 abbrev pub EachRunIsSound : Type 0 → Type 0
-EachRunIsSound A = (ranges : List Range) (rooms : List ℕ) (moments : List (Moment A)) (end : Relay) →
-    AreDisjoint ranges → IsRun (start ranges rooms) moments end → RelayIsSound end × ArePrinted end.labels
+EachRunIsSound A = (ranges : List Range) (capacities : List ℕ) (moments : List (Moment A)) (end : Relay) →
+    AreDisjoint ranges → IsRun (start ranges capacities) moments end → RelayIsSound end × ArePrinted end.labels
 
 -- The headline: no ID is ever printed twice, and each moment is true.
 abbrev pub EachRunIsTrue : Type 0 → Type 0
-EachRunIsTrue A = (ranges : List Range) (rooms : List ℕ) (moments : List (Moment A)) (end : Relay) →
-    AreDisjoint ranges → IsRun (start ranges rooms) moments end → PrintsOnce end × AreTrueMoments end.labels moments
+EachRunIsTrue A = (ranges : List Range) (capacities : List ℕ) (moments : List (Moment A)) (end : Relay) →
+    AreDisjoint ranges → IsRun (start ranges capacities) moments end → PrintsOnce end × AreTrueMoments end.labels moments
 
 -- Each number that a printer began with is in just one place, and any other in none.
 abbrev pub EachRunKeepsNumbers : Type 0 → Type 0
-EachRunKeepsNumbers A = (ranges : List Range) (rooms : List ℕ) (moments : List (Moment A)) (end : Relay) →
-    AreDisjoint ranges → IsRun (start ranges rooms) moments end →
+EachRunKeepsNumbers A = (ranges : List Range) (capacities : List ℕ) (moments : List (Moment A)) (end : Relay) →
+    AreDisjoint ranges → IsRun (start ranges capacities) moments end →
     (number : ℕ) → (places end number ≡ opened ranges number) × (opened ranges number ≤ 1)

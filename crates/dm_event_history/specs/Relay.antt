@@ -33,7 +33,7 @@ HasAll Q (Down stored) = Q stored
 
 -- a desk has room for that many documents
 pub record Desk : Type 0 where
-  pub room : ℕ
+  pub capacity : ℕ
   pub actor : Actor Documents
 
 -- a document, and how it was cut: the size and the encodation of its labels, and its parts
@@ -107,13 +107,13 @@ fresh_from number [] = []
 fresh_from number (range ∷ ranges) = Running (opening number range) ∷ fresh_from (number + 1) ranges
 
 abbrev pub empty_desk : ℕ → Desk
-empty_desk room = record { room = room; actor = Running finite.empty }
+empty_desk capacity = record { capacity = capacity; actor = Running finite.empty }
 
 -- a relay that begins
 abbrev pub start : List Range → List ℕ → Relay
-start ranges rooms = record {
+start ranges capacities = record {
   printers = fresh_from 0 ranges;
-  desks = map empty_desk rooms;
+  desks = map empty_desk capacities;
   labels = [];
   tickets = [];
   exports = [];

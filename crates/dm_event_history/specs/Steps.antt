@@ -234,12 +234,12 @@ page_reply page added = scan_reply (scan_of page added)
 
 -- what a scan comes to, by what its grid is read as: of the document its page alone is added
 abbrev pub scan_course : {A : Type 0} → ℕ → Documents → Result PageView LabelFault → Course A Documents
-scan_course room held (Ok page) = verdict_course (page_reply page) (add_verdict room held page.id (lone page))
-scan_course room held (Err fault) = Answers (ScanRefused (scan_fault.Label fault))
+scan_course capacity held (Ok page) = verdict_course (page_reply page) (add_verdict capacity held page.id (lone page))
+scan_course capacity held (Err fault) = Answers (ScanRefused (scan_fault.Label fault))
 
 abbrev pub ScanComes : {A : Type 0} → ℕ → GridView → Documents → Course A Documents → Type 0
-ScanComes {A} room grid held course =
-    (read : Result PageView LabelFault) × LabelOpens grid read × MayBe (scan_course room held read) course
+ScanComes {A} capacity grid held course =
+    (read : Result PageView LabelFault) × LabelOpens grid read × MayBe (scan_course capacity held read) course
 
 -- ---- imports
 
@@ -256,8 +256,8 @@ pages_reply added = import_reply (import_of added)
 
 -- what an import comes to: all pages of the export are added
 abbrev pub ImportComes : {A : Type 0} → ℕ → relays.Export → Documents → Course A Documents → Type 0
-ImportComes room export held course =
-    MayBe (verdict_course pages_reply (add_verdict room held export.id export.pages)) course
+ImportComes capacity export held course =
+    MayBe (verdict_course pages_reply (add_verdict capacity held export.id export.pages)) course
 
 -- ---- forgets
 
@@ -402,9 +402,9 @@ pub record DeskGoes {A : Type 0} (old : Relay) (number : ℕ)
   pub desk : Desk
   pub was : slice_get old.desks number ≡ Some desk
   pub end : Ending A Documents
-  pub acts : Acts desk.room desk.actor end
+  pub acts : Acts desk.capacity desk.actor end
   pub reply_is : reply ≡ end.reply
-  pub new_is : new ≡ with_desk old number (record { room = desk.room; actor = end.actor }) end.goods
+  pub new_is : new ≡ with_desk old number (record { capacity = desk.capacity; actor = end.actor }) end.goods
 
 -- an event whose printer, desk, label, ticket or export is there
 abbrev pub Acts : {A : Type 0} → Relay → Event A → Reply A → Relay → Type 0
@@ -422,16 +422,16 @@ Acts old (RestartPrinter printer) reply new =
 Acts old (Scan desk number flips stop) reply new =
     (label : Label) × (slice_get old.labels number ≡ Some label)
     × DeskGoes old desk
-    (λ room. MayLackFirst (Calls scan_faults stop (ScanComes room (flipped label.grid flips)))) reply new
+    (λ capacity. MayLackFirst (Calls scan_faults stop (ScanComes capacity (flipped label.grid flips)))) reply new
 Acts old (Forget desk id stop) reply new =
-    DeskGoes old desk (λ room. Calls forget_faults stop (ForgetComes id)) reply new
+    DeskGoes old desk (λ capacity. Calls forget_faults stop (ForgetComes id)) reply new
 Acts old (Import desk number stop) reply new =
     (export : relays.Export) × (slice_get old.exports number ≡ Some export)
-    × DeskGoes old desk (λ room. Calls import_faults stop (ImportComes room export)) reply new
-Acts old (Ask desk id) reply new = DeskGoes old desk (λ room. Looks (AskTells id)) reply new
+    × DeskGoes old desk (λ capacity. Calls import_faults stop (ImportComes capacity export)) reply new
+Acts old (Ask desk id) reply new = DeskGoes old desk (λ capacity. Looks (AskTells id)) reply new
 Acts old (Export desk id) reply new =
-    DeskGoes old desk (λ room. MayLackFirst (Looks (ExportTells (length old.exports) id))) reply new
-Acts old (RestartDesk desk) reply new = DeskGoes old desk (λ room. Restarts (DeskRefused desk_fault.Memory)) reply new
+    DeskGoes old desk (λ capacity. MayLackFirst (Looks (ExportTells (length old.exports) id))) reply new
+Acts old (RestartDesk desk) reply new = DeskGoes old desk (λ capacity. Restarts (DeskRefused desk_fault.Memory)) reply new
 
 -- one step: an event that names what is not there is answered `NoSuch`, and changes nothing
 abbrev pub Step : {A : Type 0} → Relay → Event A → Reply A → Relay → Type 0

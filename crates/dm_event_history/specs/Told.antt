@@ -140,8 +140,8 @@ pub record AreAsTold {A : Type 0} (h : List (Moment A)) (relay : Relay) : Type 0
       IsAsTold (is_down h (DeskAt number)) (is_failed h (DeskAt number)) desk.actor
 
 abbrev pub EachRunIsAsTold : Type 0 → Type 0
-EachRunIsAsTold A = (ranges : List Range) (rooms : List ℕ) (h : List (Moment A)) (end : Relay) →
-    IsRun (start ranges rooms) h end → AreAsTold h end
+EachRunIsAsTold A = (ranges : List Range) (capacities : List ℕ) (h : List (Moment A)) (end : Relay) →
+    IsRun (start ranges capacities) h end → AreAsTold h end
 
 -- ---- why events are refused
 
@@ -171,8 +171,8 @@ EachStepIsRefusedSo A = (old new : Relay) (event : Event A) (reply : Reply A) �
 
 -- `Failed` is answered only where the printer or the desk answered `Save` since it was last restarted
 abbrev pub EachFailedFailed : Type 0 → Type 0
-EachFailedFailed A = (ranges : List Range) (rooms : List ℕ) (moment : Moment A) (earlier : List (Moment A))
-    (end : Relay) → IsRun (start ranges rooms) (moment ∷ earlier) end → tells_failed moment.reply ≡ true →
+EachFailedFailed A = (ranges : List Range) (capacities : List ℕ) (moment : Moment A) (earlier : List (Moment A))
+    (end : Relay) → IsRun (start ranges capacities) (moment ∷ earlier) end → tells_failed moment.reply ≡ true →
     is_failed earlier (actor_of moment.event) ≡ true
 
 -- ---- tickets and numbers
@@ -185,8 +185,8 @@ pub record TakesOnce {A : Type 0} (h : List (Moment A)) (relay : Relay) : Type 0
       moment.event ≡ Take printer ticket stop → moment.reply ≢ TakeRefused take_fault.Overlap
 
 abbrev pub EachRunTakesOnce : Type 0 → Type 0
-EachRunTakesOnce A = (ranges : List Range) (rooms : List ℕ) (h : List (Moment A)) (end : Relay) →
-    AreDisjoint ranges → IsRun (start ranges rooms) h end → TakesOnce h end
+EachRunTakesOnce A = (ranges : List Range) (capacities : List ℕ) (h : List (Moment A)) (end : Relay) →
+    AreDisjoint ranges → IsRun (start ranges capacities) h end → TakesOnce h end
 
 -- how many numbers are free in what a printer stores
 abbrev pub stock : Relay → ℕ → ℕ
@@ -219,9 +219,9 @@ sum_saved count (moment ∷ earlier) end printer =
 
 -- `Exhausted` is answered only where no number is free: the printer used and gave just what it began with and took
 abbrev pub EachExhaustedIsSo : Type 0 → Type 0
-EachExhaustedIsSo A = (ranges : List Range) (rooms : List ℕ) (moment : Moment A) (earlier : List (Moment A))
+EachExhaustedIsSo A = (ranges : List Range) (capacities : List ℕ) (moment : Moment A) (earlier : List (Moment A))
     (end : Relay) (printer : ℕ) (range : Range) (document : List ℕ) (size : Size) (scheme : Scheme) (stop : Stop) →
-    IsRun (start ranges rooms) (moment ∷ earlier) end → moment.event ≡ Print printer document size scheme stop →
+    IsRun (start ranges capacities) (moment ∷ earlier) end → moment.event ≡ Print printer document size scheme stop →
     slice_get ranges printer ≡ Some range → moment.reply ≡ PrintRefused print_fault.Exhausted →
     (stock moment.before printer ≡ 0) × (size_of range + sum_saved gains earlier moment.before printer
     ≡ sum_saved loses earlier moment.before printer)
@@ -259,13 +259,13 @@ pub record CountsTickets {A : Type 0} (h : List (Moment A)) (relay : Relay) (pri
       (stored_at relay printer) None ≡ newest_saved h relay printer giver
 
 abbrev pub EachRunCountsTickets : Type 0 → Type 0
-EachRunCountsTickets A = (ranges : List Range) (rooms : List ℕ) (h : List (Moment A)) (end : Relay) (printer : ℕ) →
-    IsRun (start ranges rooms) h end → CountsTickets h end printer
+EachRunCountsTickets A = (ranges : List Range) (capacities : List ℕ) (h : List (Moment A)) (end : Relay) (printer : ℕ) →
+    IsRun (start ranges capacities) h end → CountsTickets h end printer
 
 -- and the newest has the greatest serial
 abbrev pub EachTakeIsLater : Type 0 → Type 0
-EachTakeIsLater A = (ranges : List Range) (rooms : List ℕ) (moment : Moment A) (earlier : List (Moment A)) (end : Relay)
-    (printer giver serial last : ℕ) → IsRun (start ranges rooms) (moment ∷ earlier) end →
+EachTakeIsLater A = (ranges : List Range) (capacities : List ℕ) (moment : Moment A) (earlier : List (Moment A)) (end : Relay)
+    (printer giver serial last : ℕ) → IsRun (start ranges capacities) (moment ∷ earlier) end →
     has_saved moment end printer ≡ true → serial_from moment.before moment.event giver ≡ Some serial →
     newest_saved earlier moment.before printer giver ≡ Some last → last < serial
 
@@ -465,7 +465,7 @@ pub record MayHoldOthers (known : Known) (desk id count : ℕ) : Type 0 where
 abbrev pub IsFullFor : Relay → Known → ℕ → ℕ → Type 0
 IsFullFor before known number id =
     IsNotSurelyHeld known number id
-    × ((desk : Desk) → slice_get before.desks number ≡ Some desk → MayHoldOthers known number id desk.room)
+    × ((desk : Desk) → slice_get before.desks number ≡ Some desk → MayHoldOthers known number id desk.capacity)
 
 -- ---- any reply
 
@@ -496,12 +496,12 @@ IsSafe before known event reply = Unit {0}
 -- As long as each scan that may have saved its page was fair, desks show and store all that is surely held there, and
 -- nothing but what is possibly held.
 abbrev pub EachFairDeskIsBetween : Type 0 → Type 0
-EachFairDeskIsBetween A = (ranges : List Range) (rooms : List ℕ) (h : List (Moment A)) (end : Relay) →
-    AreDisjoint ranges → IsRun (start ranges rooms) h end → AreSavedFair h → AreBetween h end
+EachFairDeskIsBetween A = (ranges : List Range) (capacities : List ℕ) (h : List (Moment A)) (end : Relay) →
+    AreDisjoint ranges → IsRun (start ranges capacities) h end → AreSavedFair h → AreBetween h end
 
 -- As long as each scan that may have saved its page was fair each reply is safe, but that to a scan that is not fair.
 abbrev pub EachFairReplyIsSafe : Type 0 → Type 0
-EachFairReplyIsSafe A = (ranges : List Range) (rooms : List ℕ) (moment : Moment A) (earlier : List (Moment A))
-    (end : Relay) → AreDisjoint ranges → IsRun (start ranges rooms) (moment ∷ earlier) end → AreSavedFair earlier →
+EachFairReplyIsSafe A = (ranges : List Range) (capacities : List ℕ) (moment : Moment A) (earlier : List (Moment A))
+    (end : Relay) → AreDisjoint ranges → IsRun (start ranges capacities) (moment ∷ earlier) end → AreSavedFair earlier →
     IsFairEvent moment.before moment.event →
     IsSafe moment.before (known_of moment.before earlier) moment.event moment.reply

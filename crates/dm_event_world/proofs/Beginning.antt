@@ -30,17 +30,17 @@ get_fresh from (r ∷ rs) (suc i) shown is =
     let z : from + 1 + i ≡ from + suc i = omega arith in
     (more.0, more.1, subst (λ (n : ℕ). Running (opening n more.0) ≡ shown) z more.2)
 
-pub begins : {A : Type 0} (ranges : List Range) (rooms : List ℕ) (printers : List (PrinterActor A))
+pub begins : {A : Type 0} (ranges : List Range) (capacities : List ℕ) (printers : List (PrinterActor A))
     (desks : List (DeskActor A)) (labels : List (LeftLabel A)) (tickets : List TicketView)
-    (exports : List (LeftExport A)) → AreIdRanges ranges → AreDisjoint ranges → All IsCapacity rooms →
-    AreFresh ranges printers → AreEmpty rooms desks → labels ≡ [] → tickets ≡ [] → exports ≡ [] →
-    StandsFor ranges rooms (world_of printers desks labels tickets exports) []
-begins {A} ranges rooms printers desks labels tickets exports are_ranges disjoint capacities fresh empty no_labels
+    (exports : List (LeftExport A)) → AreIdRanges ranges → AreDisjoint ranges → All IsCapacity capacities →
+    AreFresh ranges printers → AreEmpty capacities desks → labels ≡ [] → tickets ≡ [] → exports ≡ [] →
+    StandsFor ranges capacities (world_of printers desks labels tickets exports) []
+begins {A} ranges capacities printers desks labels tickets exports are_ranges disjoint allowed fresh empty no_labels
     no_tickets no_exports = record {
       are_ranges = are_ranges;
       disjoint = disjoint;
-      are_capacities = capacities;
-      relay = start ranges rooms;
+      are_capacities = allowed;
+      relay = start ranges capacities;
       run = refl;
       shows = record {
         printer_count = fresh.count ∙ sym (length-fresh 0 ranges);
@@ -49,10 +49,10 @@ begins {A} ranges rooms printers desks labels tickets exports are_ranges disjoin
             let z : p ≡ 0 + p = omega arith in
             subst (λ (s : Actor LedgerView). ShowsPrinter actor s) own.2
             (subst (λ (n : ℕ). ShowsPrinter actor (Running (opening n own.0))) z (fresh.each p own.0 actor own.1 is));
-        desk_count = empty.count ∙ sym (length-map rooms empty_desk);
+        desk_count = empty.count ∙ sym (length-map capacities empty_desk);
         desks = λ d actor desk is other.
-            let own = get_map_from empty_desk rooms d desk other in
-            subst (λ (x : Desk). (actor.capacity ≡ x.room) × ShowsDesk x.room actor.state x.actor) own.2
+            let own = get_map_from empty_desk capacities d desk other in
+            subst (λ (x : Desk). (actor.capacity ≡ x.capacity) × ShowsDesk x.capacity actor.state x.actor) own.2
             (empty.each d own.0 actor own.1 is);
         labels = no_labels;
         tickets = no_tickets;

@@ -213,9 +213,9 @@ pub desk_steps : {A : Type 0} (old : WorldView A) (exports : List (LeftExport A)
     (seen : WorldView A) (event : Event A) (reply : Reply A) (number : ℕ) (actor : DeskActor A) (after : DeskState A)
     (Acts : (relay : Relay) → Shows old relay → ℕ → Actor Documents → Ending A Documents → Type 0) → old ≡ seen →
     slice_get old.desks number ≡ Some actor →
-    ((relay : Relay) → (s : Shows old relay) → (room : ℕ) → room ≡ actor.capacity → (shown : Actor Documents) →
-    ShowsDesk room actor.state shown →
-    EndsSo (ShowsDesk room) (Acts relay s room)
+    ((relay : Relay) → (s : Shows old relay) → (capacity : ℕ) → capacity ≡ actor.capacity → (shown : Actor Documents) →
+    ShowsDesk capacity actor.state shown →
+    EndsSo (ShowsDesk capacity) (Acts relay s capacity)
     (λ goods. Left old.labels old.tickets old.exports goods old.labels old.tickets exports) shown reply after) →
     ((relay next : Relay) → (s : Shows old relay) → number < length relay.desks →
     DeskGoes relay number (Acts relay s) reply next → Step relay event reply next) →
@@ -262,25 +262,25 @@ desk_steps {A} old exports seen event reply number actor after Acts is was goes 
         here : (desk : Desk) × (slice_get relay.desks number ≡ Some desk)
         here = at_place old.desks relay.desks number actor s.desk_count was
 
-        fits : (actor.capacity ≡ here.0.room) × ShowsDesk here.0.room actor.state here.0.actor
+        fits : (actor.capacity ≡ here.0.capacity) × ShowsDesk here.0.capacity actor.state here.0.actor
         fits = s.desks number actor here.0 was here.1
 
-        e : EndsSo (ShowsDesk here.0.room) (Acts relay s here.0.room)
+        e : EndsSo (ShowsDesk here.0.capacity) (Acts relay s here.0.capacity)
             (λ goods. Left old.labels old.tickets old.exports goods old.labels old.tickets exports)
             here.0.actor reply after
-        e = goes relay s here.0.room (sym fits.0) here.0.actor fits.1
+        e = goes relay s here.0.capacity (sym fits.0) here.0.actor fits.1
 
         mine : Desk
-        mine = record { room = here.0.room; actor = e.end.actor }
+        mine = record { capacity = here.0.capacity; actor = e.end.actor }
 
         at_desk : (d : ℕ) (a : DeskActor A) (b : Desk) →
             slice_get (slice_set old.desks number (record { capacity = actor.capacity; state = after })) d ≡ Some a →
             slice_get (slice_set relay.desks number mine) d ≡ Some b →
-            (a.capacity ≡ b.room) × ShowsDesk b.room a.state b.actor
+            (a.capacity ≡ b.capacity) × ShowsDesk b.capacity a.state b.actor
         at_desk d a b at other =
             elim (both_set old.desks relay.desks number d (record { capacity = actor.capacity; state = after }) a mine b
             at other) [
-              | inl own ↦ subst (λ (x : DeskActor A). (x.capacity ≡ b.room) × ShowsDesk b.room x.state b.actor) own.1
-                  (subst (λ (y : Desk). (actor.capacity ≡ y.room) × ShowsDesk y.room after y.actor) own.2 (fits.0, e.shows))
+              | inl own ↦ subst (λ (x : DeskActor A). (x.capacity ≡ b.capacity) × ShowsDesk b.capacity x.state b.actor) own.1
+                  (subst (λ (y : Desk). (actor.capacity ≡ y.capacity) × ShowsDesk y.capacity after y.actor) own.2 (fits.0, e.shows))
               | inr there ↦ s.desks d a b there.0 there.1
             ]

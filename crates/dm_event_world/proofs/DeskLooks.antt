@@ -21,14 +21,14 @@ use Rattle.dm_event_world.proofs.Endings.{empty, none_left, not_first, with_good
 use Rattle.dm_assembly_desk.proofs.StoredFiles.{only_memory}
 
 -- what is shown answers, and lets these goods out
-pub looks_so : {A : Type 0} (room : ℕ) (Tells : Documents → Reply A → Goods → Type 0) (Q : Goods → Type 0)
+pub looks_so : {A : Type 0} (capacity : ℕ) (Tells : Documents → Reply A → Goods → Type 0) (Q : Goods → Type 0)
     (state : DeskState A) (view : DeskView) (reply : Reply A) (goods : Goods) → state ≡ desks.Running view →
-    Tells view.held reply goods → Q goods → EndsEach (ShowsDesk room) (Looks Tells) Q state reply state
-looks_so {A} room Tells Q state view reply goods is tells q shown s =
-    by_shown shown (subst (λ (a : DeskState A). ShowsDesk room a shown) is s) s
+    Tells view.held reply goods → Q goods → EndsEach (ShowsDesk capacity) (Looks Tells) Q state reply state
+looks_so {A} capacity Tells Q state view reply goods is tells q shown s =
+    by_shown shown (subst (λ (a : DeskState A). ShowsDesk capacity a shown) is s) s
   where
-    by_shown : (shown : Actor Documents) → ShowsDesk {A = A} room (desks.Running view) shown → ShowsDesk room state shown →
-        EndsSo (ShowsDesk room) (Looks Tells) Q shown reply state
+    by_shown : (shown : Actor Documents) → ShowsDesk {A = A} capacity (desks.Running view) shown → ShowsDesk capacity state shown →
+        EndsSo (ShowsDesk capacity) (Looks Tells) Q shown reply state
     by_shown (Running held) t s = record {
       end = ending reply (Running held) goods;
       acts = (subst (λ (d : Documents). Tells d reply goods) t.held_is tells, refl);
@@ -57,43 +57,43 @@ pub refused_so : (X : Type 0) (list : X → List ℕ) (verdict : Result (List �
     GivesByVerdict (λ (bytes : List ℕ). bytes) ask_fault.Memory verdict (Err fault)
 refused_so X list verdict fault g = grind arith
 
-pub asked : {A : Type 0} (room id : ℕ) (state : DeskState A) (view : DeskView) (answer : Result (List ℕ) AskFault) →
+pub asked : {A : Type 0} (capacity id : ℕ) (state : DeskState A) (view : DeskView) (answer : Result (List ℕ) AskFault) →
     state ≡ desks.Running view → Asks (λ bytes. bytes) (finite.get view.held id) answer →
-    EndsEach {A = A} (ShowsDesk room) (Looks (AskTells id)) (λ goods. Left {A = A} [] [] [] goods [] [] []) state
+    EndsEach {A = A} (ShowsDesk capacity) (Looks (AskTells id)) (λ goods. Left {A = A} [] [] [] goods [] [] []) state
     (ask_reply answer) state
-asked {A} room id state view answer is asks =
-    looks_so room (AskTells {A = A} id) _ state view (ask_reply answer) no_goods is (answer, asks, refl, refl)
+asked {A} capacity id state view answer is asks =
+    looks_so capacity (AskTells {A = A} id) _ state view (ask_reply answer) no_goods is (answer, asks, refl, refl)
     (none_left [] [] [] no_goods empty)
 
 -- ---- exports
 
-export_so : {A : Type 0} (room before id : ℕ) (exports all : List (LeftExport A)) (state : DeskState A) (view : DeskView)
+export_so : {A : Type 0} (capacity before id : ℕ) (exports all : List (LeftExport A)) (state : DeskState A) (view : DeskView)
     (reply : Reply A) (goods : Goods) → state ≡ desks.Running view →
     ExportsHeld before id (finite.get view.held id) reply goods → Left [] [] exports goods [] [] all →
-    EndsEach {A = A} (ShowsDesk room) (MayLackFirst (Looks (ExportTells before id)))
+    EndsEach {A = A} (ShowsDesk capacity) (MayLackFirst (Looks (ExportTells before id)))
     (λ goods. Left [] [] exports goods [] [] all) state reply state
-export_so {A} room before id exports all state view reply goods is tells left shown s =
-    with_goods (ShowsDesk room) (Looks (ExportTells before id)) (MayLackFirst (Looks (ExportTells before id))) _ _ shown
+export_so {A} capacity before id exports all state view reply goods is tells left shown s =
+    with_goods (ShowsDesk capacity) (Looks (ExportTells before id)) (MayLackFirst (Looks (ExportTells before id))) _ _ shown
     reply state (not_first (Looks (ExportTells before id)) shown) (λ g q. q)
-    (looks_so room (ExportTells before id) (λ g. Left [] [] exports g [] [] all) state view reply goods is tells left shown
+    (looks_so capacity (ExportTells before id) (λ g. Left [] [] exports g [] [] all) state view reply goods is tells left shown
     s)
 
-pub not_held : {A : Type 0} (room before id : ℕ) (exports : List (LeftExport A)) (state : DeskState A) (view : DeskView) →
+pub not_held : {A : Type 0} (capacity before id : ℕ) (exports : List (LeftExport A)) (state : DeskState A) (view : DeskView) →
     state ≡ desks.Running view → finite.get view.held id ≡ None →
-    EndsEach {A = A} (ShowsDesk room) (MayLackFirst (Looks (ExportTells before id)))
+    EndsEach {A = A} (ShowsDesk capacity) (MayLackFirst (Looks (ExportTells before id)))
     (λ goods. Left [] [] exports goods [] [] exports) state (replies.ExportRefused export_fault.NotHeld) state
-not_held {A} room before id exports state view is none =
-    export_so room before id exports exports state view (replies.ExportRefused export_fault.NotHeld) no_goods is
+not_held {A} capacity before id exports state view is none =
+    export_so capacity before id exports exports state view (replies.ExportRefused export_fault.NotHeld) no_goods is
     (subst (λ (o : Option Pages). ExportsHeld {A = A} before id o (replies.ExportRefused export_fault.NotHeld) no_goods)
     (sym none) (refl, refl)) (none_left [] [] exports no_goods empty)
 
-pub no_bytes : {A X : Type 0} (list : X → List ℕ) (room before id : ℕ) (exports : List (LeftExport A))
+pub no_bytes : {A X : Type 0} (list : X → List ℕ) (capacity before id : ℕ) (exports : List (LeftExport A))
     (state : DeskState A) (view : DeskView) (pages : Pages) (fault : ExportFault) → state ≡ desks.Running view →
     finite.get view.held id ≡ Some pages → Exports {X = X} list id (finite.get view.held id) (Err fault) →
-    EndsEach {A = A} (ShowsDesk room) (MayLackFirst (Looks (ExportTells before id)))
+    EndsEach {A = A} (ShowsDesk capacity) (MayLackFirst (Looks (ExportTells before id)))
     (λ goods. Left [] [] exports goods [] [] exports) state (replies.ExportRefused fault) state
-no_bytes {A} {X} list room before id exports state view pages fault is at refused =
-    export_so room before id exports exports state view (replies.ExportRefused fault) no_goods is
+no_bytes {A} {X} list capacity before id exports state view pages fault is at refused =
+    export_so capacity before id exports exports state view (replies.ExportRefused fault) no_goods is
     (subst (λ (o : Option Pages). ExportsHeld {A = A} before id o (replies.ExportRefused fault) no_goods) (sym at)
     (inr (ap (λ (f : ExportFault). refusal f) memory, refl))) (none_left [] [] exports no_goods empty)
   where
@@ -103,14 +103,14 @@ no_bytes {A} {X} list room before id exports state view pages fault is at refuse
     memory : fault ≡ export_fault.Memory
     memory = subst (λ (o : Option Pages). Exports {X = X} list id o (Err fault)) at refused
 
-pub exported : {A : Type 0} (room id : ℕ) (exports all : List (LeftExport A)) (state : DeskState A) (view : DeskView)
+pub exported : {A : Type 0} (capacity id : ℕ) (exports all : List (LeftExport A)) (state : DeskState A) (view : DeskView)
     (pages : Pages) (bytes : List ℕ) (index n bits : ℕ) → state ≡ desks.Running view → DeskIsInOrder view →
     finite.get view.held id ≡ Some pages → bytes ≡ file id pages → index ≡ length exports → n ≡ length pages →
     bits ≡ mask pages → all ≡ exports ++ record { bytes = bytes; id = id; count = n; mask = bits } ∷ [] →
-    EndsEach {A = A} (ShowsDesk room) (MayLackFirst (Looks (ExportTells (length exports) id)))
+    EndsEach {A = A} (ShowsDesk capacity) (MayLackFirst (Looks (ExportTells (length exports) id)))
     (λ goods. Left [] [] exports goods [] [] all) state (replies.Exported index id n bits) state
-exported {A} room id exports all state view pages bytes index n bits is order at bytes_are index_is n_is bits_are all_is =
-    export_so room (length exports) id exports all state view (replies.Exported index id n bits) goods is
+exported {A} capacity id exports all state view pages bytes index n bits is order at bytes_are index_is n_is bits_are all_is =
+    export_so capacity (length exports) id exports all state view (replies.Exported index id n bits) goods is
     (subst (λ (o : Option Pages). ExportsHeld {A = A} (length exports) id o (replies.Exported index id n bits) goods)
     (sym at) (inl (told, refl)))
     (record {
@@ -148,44 +148,44 @@ exported {A} room id exports all state view pages bytes index n bits is order at
 
 -- ---- restarts
 
-stored_store : {A : Type 0} (room : ℕ) (state : DeskState A) (shown : Actor Documents) → ShowsDesk room state shown →
-    StoresDocuments (desk_saved state) room (stored_of shown)
-stored_store room state shown s = grind arith
+stored_store : {A : Type 0} (capacity : ℕ) (state : DeskState A) (shown : Actor Documents) → ShowsDesk capacity state shown →
+    StoresDocuments (desk_saved state) capacity (stored_of shown)
+stored_store capacity state shown s = grind arith
 
-pub restarted : {A : Type 0} (room : ℕ) (state : DeskState A) (saved : SavedSet) (view : DeskView) →
-    saved ≡ desk_saved state → DeskOpens saved room view →
+pub restarted : {A : Type 0} (capacity : ℕ) (state : DeskState A) (saved : SavedSet) (view : DeskView) →
+    saved ≡ desk_saved state → DeskOpens saved capacity view →
     ((held : Documents) → IsTrue saved.is_honest → HoldsFiles saved.content held → view.held ≡ held) →
-    EndsEach {A = A} (ShowsDesk room) (Restarts (replies.DeskRefused desk_fault.Memory))
+    EndsEach {A = A} (ShowsDesk capacity) (Restarts (replies.DeskRefused desk_fault.Memory))
     (λ goods. Left {A = A} [] [] [] goods [] [] []) state replies.Restarted (desks.Running view)
-restarted {A} room state saved view is opens found shown s =
-    let store : StoresDocuments saved room (stored_of shown) =
-    subst (λ (x : SavedSet). StoresDocuments x room (stored_of shown)) (sym is) (stored_store room state shown s) in
+restarted {A} capacity state saved view is opens found shown s =
+    let store : StoresDocuments saved capacity (stored_of shown) =
+    subst (λ (x : SavedSet). StoresDocuments x capacity (stored_of shown)) (sym is) (stored_store capacity state shown s) in
     record {
       end = ending replies.Restarted (Running (stored_of shown)) no_goods;
       acts = inl refl;
       reply_is = refl;
       shows = record {
-        store = subst (λ (x : SavedSet). StoresDocuments x room (stored_of shown)) (sym opens.same) store;
-        capacity = opens.capacity_is;
+        store = subst (λ (x : SavedSet). StoresDocuments x capacity (stored_of shown)) (sym opens.same) store;
+        capacity_is = opens.capacity_is;
         failed = opens.running;
         held_is = found (stored_of shown) store.ready.honest store.holds;
       };
       lets = none_left [] [] [] no_goods empty;
     }
 
-pub restart_refused : {A : Type 0} (room : ℕ) (state : DeskState A) (saved back : SavedSet) (fault : DeskFault) →
-    saved ≡ desk_saved state → HasDeskFault saved room fault → back ≡ saved →
-    EndsEach {A = A} (ShowsDesk room) (Restarts (replies.DeskRefused desk_fault.Memory))
+pub restart_refused : {A : Type 0} (capacity : ℕ) (state : DeskState A) (saved back : SavedSet) (fault : DeskFault) →
+    saved ≡ desk_saved state → HasDeskFault saved capacity fault → back ≡ saved →
+    EndsEach {A = A} (ShowsDesk capacity) (Restarts (replies.DeskRefused desk_fault.Memory))
     (λ goods. Left {A = A} [] [] [] goods [] [] []) state (replies.DeskRefused fault) (desks.Down back)
-restart_refused {A} room state saved back fault is refused back_is shown s =
-    let store : StoresDocuments saved room (stored_of shown) =
-    subst (λ (x : SavedSet). StoresDocuments x room (stored_of shown)) (sym is) (stored_store room state shown s) in
+restart_refused {A} capacity state saved back fault is refused back_is shown s =
+    let store : StoresDocuments saved capacity (stored_of shown) =
+    subst (λ (x : SavedSet). StoresDocuments x capacity (stored_of shown)) (sym is) (stored_store capacity state shown s) in
     record {
       end = ending (replies.DeskRefused desk_fault.Memory) (Down (stored_of shown)) no_goods;
       acts = inr refl;
-      reply_is = ap refusal (only_memory saved room (stored_of shown) store.ready.honest store.holds store.is_room store.few
+      reply_is = ap refusal (only_memory saved capacity (stored_of shown) store.ready.honest store.holds store.is_capacity store.few
           store.ready.loads_fine fault refused);
-      shows = subst (λ (x : SavedSet). StoresDocuments x room (stored_of shown)) (sym back_is) store;
+      shows = subst (λ (x : SavedSet). StoresDocuments x capacity (stored_of shown)) (sym back_is) store;
       lets = none_left [] [] [] no_goods empty;
     }
   where

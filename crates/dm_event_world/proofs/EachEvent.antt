@@ -88,12 +88,12 @@ restarted {A} old seen printer reply actor after is was ends =
 -- ---- desks
 
 -- of an event at a desk by which nothing leaves
-none_leaves : {A : Type 0} (old : WorldView A) (room : ℕ) (Acts : Actor Documents → Ending A Documents → Type 0)
+none_leaves : {A : Type 0} (old : WorldView A) (capacity : ℕ) (Acts : Actor Documents → Ending A Documents → Type 0)
     (shown : Actor Documents) (reply : Reply A) (after : DeskState A) →
-    EndsSo (ShowsDesk room) Acts (λ goods. Left {A = A} [] [] [] goods [] [] []) shown reply after →
-    EndsSo (ShowsDesk room) Acts
+    EndsSo (ShowsDesk capacity) Acts (λ goods. Left {A = A} [] [] [] goods [] [] []) shown reply after →
+    EndsSo (ShowsDesk capacity) Acts
     (λ goods. Left old.labels old.tickets old.exports goods old.labels old.tickets old.exports) shown reply after
-none_leaves {A} old room Acts shown reply after ends =
+none_leaves {A} old capacity Acts shown reply after ends =
     lets_as _ _ _ _ shown reply after (left_none old.labels old.tickets old.exports) ends
 
 abbrev pub desk_after : {A : Type 0} → WorldView A → ℕ → ℕ → DeskState A → WorldView A
@@ -121,13 +121,13 @@ pub scanned : {A : Type 0} (old seen : WorldView A) (desk number : ℕ) (flips :
     (left : LeftLabel A) (reply : Reply A) (actor : DeskActor A) (after : DeskState A) →
     old ≡ seen → slice_get old.desks desk ≡ Some actor → slice_get old.labels number ≡ Some left →
     AreWithin left.grid flips →
-    ((room : ℕ) → EndsEach (ShowsDesk room)
-    (MayLackFirst (Calls scan_faults stop (ScanComes room (flipped left.grid flips))))
+    ((capacity : ℕ) → EndsEach (ShowsDesk capacity)
+    (MayLackFirst (Calls scan_faults stop (ScanComes capacity (flipped left.grid flips))))
     (λ goods. Left {A = A} [] [] [] goods [] [] []) actor.state reply after) →
     StepsEach seen (Scan desk number flips stop) reply (desk_after old desk actor.capacity after)
 scanned {A} old seen desk number flips stop left reply actor after is was it within ends =
     desk_steps old old.exports seen _ reply desk actor after _ is was
-    (λ relay s room same shown t. none_leaves old room _ shown reply after (ends room shown t))
+    (λ relay s capacity same shown t. none_leaves old capacity _ shown reply after (ends capacity shown t))
     (λ relay next s there goes.
     let own = get_map_from (left_label {A = A}) relay.labels number left
     (subst (λ (ls : List (LeftLabel A)). slice_get ls number ≡ Some left) s.labels it) in
@@ -138,23 +138,23 @@ scanned {A} old seen desk number flips stop left reply actor after is was it wit
         own.0,
         own.1,
         subst (λ (grid : GridView). DeskGoes relay desk
-            (λ room. MayLackFirst (Calls scan_faults stop (ScanComes room (flipped grid flips)))) reply next) grid goes,
+            (λ capacity. MayLackFirst (Calls scan_faults stop (ScanComes capacity (flipped grid flips)))) reply next) grid goes,
       ),
     ))
 
 pub forgot : {A : Type 0} (old seen : WorldView A) (desk id : ℕ) (stop : Stop) (reply : Reply A) (actor : DeskActor A)
     (after : DeskState A) → old ≡ seen → slice_get old.desks desk ≡ Some actor →
-    ((room : ℕ) → EndsEach (ShowsDesk room) (Calls forget_faults stop (ForgetComes id))
+    ((capacity : ℕ) → EndsEach (ShowsDesk capacity) (Calls forget_faults stop (ForgetComes id))
     (λ goods. Left {A = A} [] [] [] goods [] [] []) actor.state reply after) →
     StepsEach seen (Forget desk id stop) reply (desk_after old desk actor.capacity after)
 forgot {A} old seen desk id stop reply actor after is was ends =
     desk_steps old old.exports seen _ reply desk actor after _ is was
-    (λ relay s room same shown t. none_leaves old room _ shown reply after (ends room shown t))
+    (λ relay s capacity same shown t. none_leaves old capacity _ shown reply after (ends capacity shown t))
     (λ relay next s there goes. inl (there, goes))
 
 pub asked : {A : Type 0} (old seen : WorldView A) (desk id : ℕ) (reply : Reply A) (actor : DeskActor A) →
     old ≡ seen → slice_get old.desks desk ≡ Some actor →
-    ((room : ℕ) → EndsEach (ShowsDesk room) (Looks (AskTells id))
+    ((capacity : ℕ) → EndsEach (ShowsDesk capacity) (Looks (AskTells id))
     (λ goods. Left {A = A} [] [] [] goods [] [] []) actor.state reply actor.state) →
     StepsEach seen (Ask desk id) reply seen
 asked {A} old seen desk id reply actor is was ends =
@@ -162,7 +162,7 @@ asked {A} old seen desk id reply actor is was ends =
     (subst (λ (desks : List (DeskActor A)). StepsEach seen (Ask desk id) reply
     (world_of old.printers desks old.labels old.tickets old.exports)) (same_set old.desks desk actor was)
     (desk_steps old old.exports seen _ reply desk actor actor.state _ is was
-    (λ relay s room same shown t. none_leaves old room _ shown reply actor.state (ends room shown t))
+    (λ relay s capacity same shown t. none_leaves old capacity _ shown reply actor.state (ends capacity shown t))
     (λ relay next s there goes. inl (there, goes))))
 
 pub desk_restarted : {A : Type 0} (old seen : WorldView A) (desk : ℕ) (reply : Reply A) (actor : DeskActor A)
@@ -172,40 +172,40 @@ pub desk_restarted : {A : Type 0} (old seen : WorldView A) (desk : ℕ) (reply :
     StepsEach seen (RestartDesk desk) reply (desk_after old desk actor.capacity after)
 desk_restarted {A} old seen desk reply actor after is was ends =
     desk_steps old old.exports seen _ reply desk actor after _ is was
-    (λ relay s room same shown t. none_leaves old room _ shown reply after
+    (λ relay s capacity same shown t. none_leaves old capacity _ shown reply after
     (subst (λ (n : ℕ). EndsEach (ShowsDesk n) (Restarts (DeskRefused desk_fault.Memory))
     (λ goods. Left {A = A} [] [] [] goods [] [] []) actor.state reply after) (sym same) ends shown t))
     (λ relay next s there goes. inl (there, goes))
 
 pub exported : {A : Type 0} (old : WorldView A) (exports : List (LeftExport A)) (seen : WorldView A) (desk id : ℕ)
     (reply : Reply A) (actor : DeskActor A) → old ≡ seen → slice_get old.desks desk ≡ Some actor →
-    ((room : ℕ) → EndsEach (ShowsDesk room) (MayLackFirst (Looks (ExportTells (length old.exports) id)))
+    ((capacity : ℕ) → EndsEach (ShowsDesk capacity) (MayLackFirst (Looks (ExportTells (length old.exports) id)))
     (λ goods. Left [] [] old.exports goods [] [] exports) actor.state reply actor.state) →
     StepsEach seen (Export desk id) reply (world_of old.printers old.desks old.labels old.tickets exports)
 exported {A} old exports seen desk id reply actor is was ends =
     subst (λ (desks : List (DeskActor A)). StepsEach seen (Export desk id) reply
     (world_of old.printers desks old.labels old.tickets exports)) (same_set old.desks desk actor was)
     (desk_steps old exports seen _ reply desk actor actor.state _ is was
-    (λ relay s room same shown t. lets_as _ _ _ _ shown reply actor.state
-    (left_exports_alone old.labels old.tickets old.exports exports) (ends room shown t))
+    (λ relay s capacity same shown t. lets_as _ _ _ _ shown reply actor.state
+    (left_exports_alone old.labels old.tickets old.exports exports) (ends capacity shown t))
     (λ relay next s there goes. inl (
       there,
       subst (λ (n : ℕ). DeskGoes relay desk
-          (λ room. MayLackFirst (Looks (ExportTells n id))) reply next) (export_count old relay s) goes,
+          (λ capacity. MayLackFirst (Looks (ExportTells n id))) reply next) (export_count old relay s) goes,
     )))
 
 pub imported : {A : Type 0} (old seen : WorldView A) (desk number : ℕ) (stop : Stop) (left : LeftExport A)
     (reply : Reply A) (actor : DeskActor A) (after : DeskState A) →
     old ≡ seen → slice_get old.desks desk ≡ Some actor → slice_get old.exports number ≡ Some left →
     ((export : relays.Export) → IsEntry export.id export.pages → left.bytes ≡ file export.id export.pages →
-    (room : ℕ) → EndsEach (ShowsDesk room) (Calls import_faults stop (ImportComes room export))
+    (capacity : ℕ) → EndsEach (ShowsDesk capacity) (Calls import_faults stop (ImportComes capacity export))
     (λ goods. Left {A = A} [] [] [] goods [] [] []) actor.state reply after) →
     StepsEach seen (Import desk number stop) reply (desk_after old desk actor.capacity after)
 imported {A} old seen desk number stop left reply actor after is was it ends =
     desk_steps old old.exports seen _ reply desk actor after _ is was
-    (λ relay s room same shown t. none_leaves old room _ shown reply after
+    (λ relay s capacity same shown t. none_leaves old capacity _ shown reply after
     (ends (own relay s).0 (s.entries number (own relay s).0 (own relay s).1)
-    (sym (ap (λ (l : LeftExport A). l.bytes) (own relay s).2)) room shown t))
+    (sym (ap (λ (l : LeftExport A). l.bytes) (own relay s).2)) capacity shown t))
     (λ relay next s there goes. inl (
       (there, slice_get_within relay.exports number (own relay s).0 (own relay s).1),
       ((own relay s).0, (own relay s).1, goes),

@@ -48,10 +48,10 @@ opened_empty A set capacity view is opens found =
       store = record {
         ready = subst (λ (s : SavedSet). IsReady s.is_honest s.load_plan s.save_plan) (sym set_is) (record { honest = refl; loads_fine = refl; saves_fine = refl });
         holds = subst (λ (s : SavedSet). HoldsFiles s.content map.empty) (sym set_is) no_files;
-        is_room = opens.room;
+        is_capacity = opens.is_capacity;
         few = few;
       };
-      capacity = opens.capacity_is;
+      capacity_is = opens.capacity_is;
       failed = opens.running;
       held_is = found map.empty (ap (λ (s : SavedSet). s.is_honest) is)
           (subst (λ (c : Contents). HoldsFiles c map.empty) (sym content) no_files);

@@ -40,11 +40,11 @@ runs_all {A} old new n events all most runs =
 -- a world that goes on by each event goes on by all
 pub all_go : {A : Type 0} (old new : WorldView A) (events : List (Event A)) (replies : List (Reply A)) →
     Goes old events replies new → GoesOnByAll old events replies new
-all_go {A} old new [] [] run = λ ranges rooms h s.
-    ([], tt, subst (λ (w : WorldView A). StandsFor ranges rooms w h) (sym run) s)
-all_go {A} old new (event ∷ events) (reply ∷ replies) run = λ ranges rooms h s.
+all_go {A} old new [] [] run = λ ranges capacities h s.
+    ([], tt, subst (λ (w : WorldView A). StandsFor ranges capacities w h) (sym run) s)
+all_go {A} old new (event ∷ events) (reply ∷ replies) run = λ ranges capacities h s.
     let now : Moment A = record { before = s.relay; event = event; reply = reply } in
-    let more = all_go run.0 new events replies run.2 ranges rooms (now ∷ h) (run.1 ranges rooms h s) in
+    let more = all_go run.0 new events replies run.2 ranges capacities (now ∷ h) (run.1 ranges capacities h s) in
     (now ∷ more.0, (refl, refl, more.1), more.2)
 all_go old new [] (reply ∷ replies) run = absurd run
 all_go old new (event ∷ events) [] run = absurd run
@@ -120,18 +120,18 @@ looked_here world relay (Scan desk number flips stop) s looked = (
 looked_here world relay event s looked = absurd looked
 
 -- what was answered is a run of the relay
-record Answered {A : Type 0} (ranges : List Range) (rooms : List ℕ) (relay : Relay) (events : List (Event A))
+record Answered {A : Type 0} (ranges : List Range) (capacities : List ℕ) (relay : Relay) (events : List (Event A))
     (answers : List (Answer A)) (new : WorldView A) (h : List (Moment A)) : Type 0 where
   pub moments : List (Moment A)
-  pub stands : StandsFor ranges rooms new (onto moments h)
+  pub stands : StandsFor ranges capacities new (onto moments h)
   pub answered : AreAnswers events answers moments stands.relay
   pub first : first_of moments stands.relay ≡ relay
 
-are_answered : {A : Type 0} (ranges : List Range) (rooms : List ℕ) (h : List (Moment A))
+are_answered : {A : Type 0} (ranges : List Range) (capacities : List ℕ) (h : List (Moment A))
     (old new : WorldView A) (events : List (Event A)) (answers : List (Answer A)) →
-    (s : StandsFor ranges rooms old h) → AnswersAll old events answers new →
-    Answered ranges rooms s.relay events answers new h
-are_answered {A} ranges rooms h old new [] [] s all = record {
+    (s : StandsFor ranges capacities old h) → AnswersAll old events answers new →
+    Answered ranges capacities s.relay events answers new h
+are_answered {A} ranges capacities h old new [] [] s all = record {
   moments = [];
   stands = record {
     are_ranges = s.are_ranges;
@@ -144,10 +144,10 @@ are_answered {A} ranges rooms h old new [] [] s all = record {
   answered = tt;
   first = refl;
 }
-are_answered {A} ranges rooms h old new (event ∷ events) (Given is_honest reply ∷ answers) s all =
+are_answered {A} ranges capacities h old new (event ∷ events) (Given is_honest reply ∷ answers) s all =
     let now : Moment A = record { before = s.relay; event = event; reply = reply } in
-    let more = are_answered ranges rooms (now ∷ h) all.0 new events answers
-    (all.1.1 ranges rooms h s) all.2 in
+    let more = are_answered ranges capacities (now ∷ h) all.0 new events answers
+    (all.1.1 ranges capacities h s) all.2 in
     record {
       moments = now ∷ more.moments;
       stands = more.stands;
@@ -162,8 +162,8 @@ are_answered {A} ranges rooms h old new (event ∷ events) (Given is_honest repl
       );
       first = refl;
     }
-are_answered {A} ranges rooms h old new (event ∷ events) (NotGiven ∷ answers) s all =
-    let same : StandsFor ranges rooms all.0 h = record {
+are_answered {A} ranges capacities h old new (event ∷ events) (NotGiven ∷ answers) s all =
+    let same : StandsFor ranges capacities all.0 h = record {
       are_ranges = s.are_ranges;
       disjoint = s.disjoint;
       are_capacities = s.are_capacities;
@@ -171,7 +171,7 @@ are_answered {A} ranges rooms h old new (event ∷ events) (NotGiven ∷ answers
       run = s.run;
       shows = subst (λ (w : WorldView A). Shows w s.relay) (sym all.1.1) s.shows;
     } in
-    let more = are_answered ranges rooms h all.0 new events answers same all.2 in
+    let more = are_answered ranges capacities h all.0 new events answers same all.2 in
     record {
       moments = more.moments;
       stands = more.stands;
@@ -181,16 +181,16 @@ are_answered {A} ranges rooms h old new (event ∷ events) (NotGiven ∷ answers
       );
       first = more.first;
     }
-are_answered ranges rooms h old new [] (answer ∷ answers) s all = absurd all
-are_answered ranges rooms h old new (event ∷ events) [] s all = absurd all
+are_answered ranges capacities h old new [] (answer ∷ answers) s all = absurd all
+are_answered ranges capacities h old new (event ∷ events) [] s all = absurd all
 
 pub is_watched : {A : Type 0} (ranges : List Range)
-    (rooms : List ℕ) (old new : WorldView A) (events : List (Event A)) (answers : List (Answer A)) →
-    StandsFor ranges rooms old [] → AnswersAll old events answers new →
-    IsWatched ranges rooms events answers
-is_watched {A} ranges rooms old new events answers stands all =
-    let a = are_answered ranges rooms [] old new events answers stands all in
-    let so = each_run_is_true A ranges rooms (onto a.moments []) a.stands.relay a.stands.disjoint a.stands.run in
+    (capacities : List ℕ) (old new : WorldView A) (events : List (Event A)) (answers : List (Answer A)) →
+    StandsFor ranges capacities old [] → AnswersAll old events answers new →
+    IsWatched ranges capacities events answers
+is_watched {A} ranges capacities old new events answers stands all =
+    let a = are_answered ranges capacities [] old new events answers stands all in
+    let so = each_run_is_true A ranges capacities (onto a.moments []) a.stands.relay a.stands.disjoint a.stands.run in
     record {
       are_ranges = stands.are_ranges;
       disjoint = stands.disjoint;

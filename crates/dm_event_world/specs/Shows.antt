@@ -75,24 +75,24 @@ ShowsPrinter (printer_actors.Down saved) (Down stored) = StoresLedger saved stor
 ShowsPrinter actor other = ⊥
 
 -- the set is as it should be, and holds these documents, for which there is room
-pub record StoresDocuments (saved : SavedSet) (room : ℕ) (held : Documents) : Type 0 where
+pub record StoresDocuments (saved : SavedSet) (capacity : ℕ) (held : Documents) : Type 0 where
   pub ready : IsReady saved.is_honest saved.load_plan saved.save_plan
   pub holds : HoldsFiles saved.content held
-  pub is_room : IsCapacity room
-  pub few : finite.len held ≤ room
+  pub is_capacity : IsCapacity capacity
+  pub few : finite.len held ≤ capacity
 
 -- a running desk has this room and holds that
-pub record DeskIs (view : DeskView) (room : ℕ) (held stored : Documents) (is_failed : Bool) : Type 0 where
-  pub store : StoresDocuments view.saved room stored
-  pub capacity : view.capacity ≡ room
+pub record DeskIs (view : DeskView) (capacity : ℕ) (held stored : Documents) (is_failed : Bool) : Type 0 where
+  pub store : StoresDocuments view.saved capacity stored
+  pub capacity_is : view.capacity ≡ capacity
   pub failed : view.is_failed ≡ is_failed
   pub held_is : view.held ≡ held
 
 abbrev pub ShowsDesk : {A : Type 0} → ℕ → DeskState A → Actor Documents → Type 0
-ShowsDesk room (desk_states.Running view) (Running held) = DeskIs view room held held false
-ShowsDesk room (desk_states.Running view) (Failed shown stored) = DeskIs view room shown stored true
-ShowsDesk room (desk_states.Down saved) (Down stored) = StoresDocuments saved room stored
-ShowsDesk room state other = ⊥
+ShowsDesk capacity (desk_states.Running view) (Running held) = DeskIs view capacity held held false
+ShowsDesk capacity (desk_states.Running view) (Failed shown stored) = DeskIs view capacity shown stored true
+ShowsDesk capacity (desk_states.Down saved) (Down stored) = StoresDocuments saved capacity stored
+ShowsDesk capacity state other = ⊥
 
 -- a label and an export as the world keeps them
 abbrev pub left_label : {A : Type 0} → Label → LeftLabel A
@@ -113,7 +113,7 @@ pub record Shows {A : Type 0} (world : WorldView A) (relay : Relay) : Type 0 whe
       ShowsPrinter actor shown
   pub desk_count : length world.desks ≡ length relay.desks
   pub desks : (number : ℕ) (actor : DeskActor A) (desk : Desk) → slice_get world.desks number ≡ Some actor →
-      slice_get relay.desks number ≡ Some desk → (actor.capacity ≡ desk.room) × ShowsDesk desk.room actor.state desk.actor
+      slice_get relay.desks number ≡ Some desk → (actor.capacity ≡ desk.capacity) × ShowsDesk desk.capacity actor.state desk.actor
   pub labels : world.labels ≡ map left_label relay.labels
   pub tickets : world.tickets ≡ relay.tickets
   pub exports : world.exports ≡ map left_export relay.exports
@@ -126,26 +126,26 @@ AreIdRanges ranges = All (λ range. IsTrue (is_range range)) ranges
 
 -- The world, whose printers began with these ranges and whose desks have room for that many documents each. Of the
 -- moments of the history the newest is the first.
-pub record StandsFor {A : Type 0} (ranges : List Range) (rooms : List ℕ) (world : WorldView A) (h : List (Moment A))
+pub record StandsFor {A : Type 0} (ranges : List Range) (capacities : List ℕ) (world : WorldView A) (h : List (Moment A))
     : Type 0 where
   pub are_ranges : AreIdRanges ranges
   pub disjoint : AreDisjoint ranges
-  pub are_capacities : All IsCapacity rooms
+  pub are_capacities : All IsCapacity capacities
   pub relay : Relay
-  pub run : IsRun (start ranges rooms) h relay
+  pub run : IsRun (start ranges capacities) h relay
   pub shows : Shows world relay
 
 -- a world that stood for a history stands for it with one moment more, of this event and this reply
 abbrev pub GoesOn : {A : Type 0} → WorldView A → Event A → Reply A → WorldView A → Type 0
-GoesOn {A} old event reply new = (ranges : List Range) (rooms : List ℕ) (h : List (Moment A)) →
-    (s : StandsFor ranges rooms old h) →
-    StandsFor ranges rooms new (record { before = s.relay; event = event; reply = reply } ∷ h)
+GoesOn {A} old event reply new = (ranges : List Range) (capacities : List ℕ) (h : List (Moment A)) →
+    (s : StandsFor ranges capacities old h) →
+    StandsFor ranges capacities new (record { before = s.relay; event = event; reply = reply } ∷ h)
 
 -- the same of several events, each with its reply
 abbrev pub GoesOnByAll : {A : Type 0} → WorldView A → List (Event A) → List (Reply A) → WorldView A → Type 0
-GoesOnByAll {A} old events replies new = (ranges : List Range) (rooms : List ℕ) (h : List (Moment A)) →
-    StandsFor ranges rooms old h →
-    (moments : List (Moment A)) × AreMomentsOf events replies moments × StandsFor ranges rooms new (onto moments h)
+GoesOnByAll {A} old events replies new = (ranges : List Range) (capacities : List ℕ) (h : List (Moment A)) →
+    StandsFor ranges capacities old h →
+    (moments : List (Moment A)) × AreMomentsOf events replies moments × StandsFor ranges capacities new (onto moments h)
 
 -- ---- the headline
 
@@ -181,14 +181,14 @@ HearsAll {A} {L} hears first (answer ∷ answers) last =
 -- desks have room for that many documents. No ID was printed twice; whatever document a clean desk gave for an ID is
 -- the one document printed under it; and all desks were clean as long as each scan that may have saved its page was
 -- fair.
-pub record IsWatched {A : Type 0} (ranges : List Range) (rooms : List ℕ) (events : List (Event A))
+pub record IsWatched {A : Type 0} (ranges : List Range) (capacities : List ℕ) (events : List (Event A))
     (answers : List (Answer A)) : Type 0 where
   pub are_ranges : AreIdRanges ranges
   pub disjoint : AreDisjoint ranges
-  pub are_capacities : All IsCapacity rooms
+  pub are_capacities : All IsCapacity capacities
   pub moments : List (Moment A)
   pub end : Relay
-  pub run : IsRun (start ranges rooms) (onto moments []) end
+  pub run : IsRun (start ranges capacities) (onto moments []) end
   pub answered : AreAnswers events answers moments end
   pub once : PrintsOnce end
   pub true_moments : AreTrueMoments end.labels (onto moments [])

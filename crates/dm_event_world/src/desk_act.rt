@@ -129,8 +129,8 @@ pub(crate) fn scan<A: Allocator + Copy>(
     stop: Stop,
 ) -> Reply<A>
     requires within { All (IsInGrid grid.now) flips.now }
-    ensures ends { (room : ℕ) → EndsEach (ShowsDesk room)
-        (MayLackFirst (Calls scan_faults stop (ScanComes room (flipped grid.now flips.now))))
+    ensures ends { (capacity : ℕ) → EndsEach (ShowsDesk capacity)
+        (MayLackFirst (Calls scan_faults stop (ScanComes capacity (flipped grid.now flips.now))))
         (λ goods. Left {A = A} [] [] [] goods [] [] []) state.old result state.new }
 {
     let DeskState::Running(desk) = state else {
@@ -180,7 +180,7 @@ pub(crate) fn forget<A: Allocator + Copy>(
     id: FileId,
     stop: Stop,
 ) -> Reply<A>
-    ensures ends { (room : ℕ) → EndsEach (ShowsDesk room) (Calls forget_faults stop (ForgetComes id))
+    ensures ends { (capacity : ℕ) → EndsEach (ShowsDesk capacity) (Calls forget_faults stop (ForgetComes id))
         (λ goods. Left {A = A} [] [] [] goods [] [] []) state.old result state.new }
 {
     let DeskState::Running(desk) = state else {
@@ -229,7 +229,7 @@ pub(crate) fn import<A: Allocator + Copy>(
     stop: Stop,
 ) -> Reply<A>
     ensures ends { (export : Export) → IsEntry export.id export.pages → bytes.now ≡ file export.id export.pages →
-        (room : ℕ) → EndsEach (ShowsDesk room) (Calls import_faults stop (ImportComes room export))
+        (capacity : ℕ) → EndsEach (ShowsDesk capacity) (Calls import_faults stop (ImportComes capacity export))
         (λ goods. Left {A = A} [] [] [] goods [] [] []) state.old result state.new }
 {
     let DeskState::Running(desk) = state else {
@@ -247,7 +247,7 @@ pub(crate) fn import<A: Allocator + Copy>(
 
 /// A desk is asked for a document.
 pub(crate) fn ask<A: Allocator + Copy>(state: &DeskState<A>, id: FileId) -> Reply<A>
-    ensures ends { (room : ℕ) → EndsEach (ShowsDesk room) (Looks (AskTells id))
+    ensures ends { (capacity : ℕ) → EndsEach (ShowsDesk capacity) (Looks (AskTells id))
         (λ goods. Left {A = A} [] [] [] goods [] [] []) state.now result state.now }
 {
     let DeskState::Running(desk) = state else {
@@ -266,7 +266,7 @@ pub(crate) fn export<A: Allocator + Copy>(
     exports: &mut Vec<LeftExport<A>, A>,
     id: FileId,
 ) -> Reply<A>
-    ensures ends { (room : ℕ) → EndsEach (ShowsDesk room)
+    ensures ends { (capacity : ℕ) → EndsEach (ShowsDesk capacity)
         (MayLackFirst (Looks (ExportTells (length exports.old.items) id)))
         (λ goods. Left [] [] exports.old.items goods [] [] exports.new.items) state.now result state.now }
 {

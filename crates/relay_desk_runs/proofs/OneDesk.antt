@@ -13,9 +13,9 @@ use Rattle.dm_event_history.specs.Steps.{DeskGoes, Ending, Saves, ending, forget
 use Rattle.dm_event_history.specs.Headline.{AreOfOneDocument, ArePrinted, HaveLeft, IsClean, IsCleanActor, IsCleanExport, IsTheDocument}
 use Rattle.dm_event_history.proofs.{Gives.each_clean_desk_gives, Stays.each_step_keeps_clean}
 
-module _ (labels : List Label) (printed : ArePrinted labels) (room : ℕ) (held : Documents) (clean : HaveLeft labels held) where
+module _ (labels : List Label) (printed : ArePrinted labels) (capacity : ℕ) (held : Documents) (clean : HaveLeft labels held) where
   abbrev desk_of : Documents → Desk
-  desk_of now = record { room = room; actor = Running now }
+  desk_of now = record { capacity = capacity; actor = Running now }
 
   abbrev relay : List Export → Relay
   relay exports = record {
@@ -40,7 +40,7 @@ module _ (labels : List Label) (printed : ArePrinted labels) (room : ℕ) (held 
 
   -- the desk goes on with this
   goes : (exports : List Export) (Acts : ℕ → Actor Documents → Ending ℕ Documents → Type 0) (reply : Reply ℕ)
-      (next : Documents) → Acts room (Running held) (ending reply (Running next) no_goods) →
+      (next : Documents) → Acts capacity (Running held) (ending reply (Running next) no_goods) →
       DeskGoes (relay exports) 0 Acts reply (with_desk (relay exports) 0 (desk_of next) no_goods)
   goes exports Acts reply next acts = record {
     desk = desk_of held;
@@ -52,7 +52,7 @@ module _ (labels : List Label) (printed : ArePrinted labels) (room : ℕ) (held 
   }
 
   pub added : (export : Export) → IsCleanExport labels export → (next : Documents) (answer : Result Imported AddFault) →
-      add_verdict room held export.id export.pages ≡ Becomes next answer → HaveLeft labels next
+      add_verdict capacity held export.id export.pages ≡ Becomes next answer → HaveLeft labels next
   added export sent next answer is =
       let reply : Reply ℕ = pages_reply answer in
       let step : Step {A = ℕ} (relay (export ∷ [])) (events.Import 0 0 stops.None) reply

@@ -18,7 +18,7 @@ pub returns-in-Err-settle : goal.returns-in-Err-settle
 returns-in-Err-settle g c =
     let opens = c.in-Ok.ensures.0 in
     let settles = rw c.settle.ensures.same at c.in-Err-settle.ensures.settles in
-    let found = desk_fault _ c.args.capacity c.in-Err-settle.fault opens.opens.room settles in
+    let found = desk_fault _ c.args.capacity c.in-Err-settle.fault opens.opens.is_capacity settles in
     rw (c.end.ensures.store, c.end.ensures.set, c.settle.ensures.same) (
       _,
       not_opened found.0 opens.moves found.1 (ap move_fault_name c.from.ensures ∙ found.2),

@@ -6,8 +6,8 @@ use Rattle.dm_event_world.specs.{Shows.WorldView, Shows.GoesOn, inner.Events.Ste
 -- Each step of a world is one of the relay that it shows.
 step_stands : {A : Type 0} (old new : WorldView A) (event : Event A) (reply : Reply A) →
     StepsEach old event reply new → GoesOn old event reply new
-step_stands {A} old new event reply steps ranges rooms h s =
-    let sound = (each_run_is_sound A ranges rooms h s.relay s.disjoint s.run).0 in
+step_stands {A} old new event reply steps ranges capacities h s =
+    let sound = (each_run_is_sound A ranges capacities h s.relay s.disjoint s.run).0 in
     let one = steps s.relay sound.order s.shows in
     record {
       are_ranges = s.are_ranges;
