@@ -1,16 +1,15 @@
 -- What an audit tells, gathers and keeps, step by step, and what its silence says.
 use Rattle.std.proofs.Common.{◌≡◌, ◌<◌, ◌+◌, ◌++◌, ◌∷◌, ◌∙◌, ℕ, Bool, Bor, true, false, List, [], Some, ap, append-nil, arith, get_or, inl, inr, sym, length, map, refl}
-use Rattle.std.specs.Prelude.{◌==◌, ◌||◌, ◌≢◌, ◌↔◌, IsTrue, MatchResult, Result, Ok, Err, codes, not, option_map, slice_get}
-use Rattle.std.specs.{List.AllByRecursion, List.flat_map}
+use Rattle.std.specs.Prelude.{◌==◌, ◌||◌, ◌≢◌, ◌↔◌, IfSome, IsSomeAnd, IsTrue, MatchOption, MatchResult, Option, None, Result, Ok, Err, codes, not, option_map, slice_get}
+use Rattle.std.specs.{List.AllByRecursion, List.flat_map, List.list_any}
 use Rattle.std.proofs.KnownBytes.{Appends-nil, Appends-trans}
 use Rattle.std.proofs.lemmas.{Bool.cases_Bool, Bool.cond-false, Bool.cond-true, Bool.eq-eqb, Bool.not-true, Bool.or_right, List.Concat.flat_map-append, List.Elements.filter-append, Option.slice_get-get_or, Option.slice_get-map}
-use Rattle.dm_print_ledger.specs.{Ledger.are_ranges, Verdicts.SilenceIsExact}
-use Rattle.relay_printer_commands.specs.Printers.{AreAllSound, EvidenceView, Gathers, HasGathered, IsSoundPair, ShowsFile, ShowsLine, TellsAudit, TellsLines, are_same, audit_lines, breach_line, breach_lines, evidence_name, kept, pair_lines, shows_none, AuditSays.no_memory, Gathers.file, Gathers.line, IsSoundPair.beside, IsSoundPair.same}
+use Rattle.dm_print_ledger.specs.{Ledger.are_ranges, Verdicts.SilenceIsExact, Verdicts.lacks_ticket, Verdicts.shown_of_ticket}
+use Rattle.relay_printer_commands.specs.Printers.{AreAllSound, EvidenceView, Gathers, HasGathered, IsSoundPair, ShowsFile, ShowsLine, TellsLines, are_same, audit_lines, breach_line, breach_lines, evidence_name, kept, pair_lines, shows_none, Gathers.file, Gathers.line, IsSoundPair.beside as beside_one, IsSoundPair.same, ShowsLine.refused, ShowsLine.ticket}
 use Rattle.relay_shared.proofs.Telling.{told_else}
-use Rattle.relay_shared.specs.Command.{FileView, PutsText, Tells, refusal_name}
-use Rattle.relay_shared.specs.declared.command.Refusal.TheVariants as refusals
+use Rattle.relay_shared.specs.Command.{FileView, PutsText, Tells}
 use Rattle.relay_streams.proofs.Parts.{part_after, part_more}
-use Rattle.relay_streams.specs.{Streams.OutputView, Streams.StaysFailed, Streams.refused_line as line_of, declared.fault.WriteFault.WriteFault}
+use Rattle.relay_streams.specs.{Streams.OutputView, Streams.StaysFailed, declared.fault.WriteFault.WriteFault}
 
 -- ---- lines one after another
 
@@ -31,6 +30,10 @@ pub both : {a b : List ℕ} {x y : Bool} (old mid new : OutputView) → TellsLin
     TellsLines (a ++ b) old (x || y) new
 both {a} {b} old mid new first next = (rw (first.0, next.0) (any_both a b), told_both old mid new first.1 next.1 next.2, λ failed. next.2 (rw (first.2 failed) failed) ∙ first.2 failed)
 
+pub both_said : {a b : List ℕ} (x : Bool) (old mid new : OutputView) → TellsLines a old x mid → TellsLines b mid true new →
+    TellsLines (a ++ b) old true new
+both_said x old mid new first next = rw (or_right x true refl) at (both old mid new first next)
+
 pub put_once : (text : List ℕ) (old new : OutputView) (put : Result (Unit {0}) WriteFault) → PutsText text old put new →
     StaysFailed old put new → TellsLines text old (not (length text == 0)) new
 put_once text old new put puts stuck = (refl, told_else put puts, λ failed. (stuck failed).1)
@@ -40,13 +43,16 @@ is_kept one = length one.fault == 0
 
 -- ---- one more
 
--- what a file or a line shows was kept, or why it shows nothing was told, or that memory was refused
-abbrev pub Tries : {E : Type 0} → List ℕ → ℕ → Result EvidenceView (Bor (List ℕ)) → List EvidenceView → OutputView
-    → Result Bool E → List EvidenceView → OutputView → Type 0
-Tries list place seen sound mid result grown new = MatchResult seen
-    (λ one. MatchResult result (λ more. (more ≡ false) × (grown ≡ sound ++ one ∷ []) × (new ≡ mid))
-    (λ _. TellsLines (line_of (refusal_name refusals.Memory)) mid true new))
-    (λ name. (result ≡ Ok true) × (grown ≡ sound) × TellsLines (shows_none list place name.now).fault mid true new)
+-- what is sound is kept, or one was lost
+abbrev Keeps : Option (List EvidenceView) → List EvidenceView → Type 0
+Keeps sound all = MatchOption sound (kept all ≢ []) (λ some. some ≡ kept all)
+
+-- what a file or a line shows was kept, or none is any more; or why it shows nothing was told
+abbrev pub Tries : List ℕ → ℕ → Result EvidenceView (Bor (List ℕ)) → Option (List EvidenceView) → OutputView → Bool
+    → Option (List EvidenceView) → OutputView → Type 0
+Tries list place seen sound mid more grown new = MatchResult seen
+    (λ one. (more ≡ false) × (new ≡ mid) × IfSome grown (λ all. IsSomeAnd sound (λ some. all ≡ some ++ one ∷ [])))
+    (λ name. (more ≡ true) × (grown ≡ sound) × TellsLines (shows_none list place name.now).fault mid true new)
 
 told_more : (all : List EvidenceView) (one : EvidenceView) {told more : Bool} (old mid new : OutputView) →
     TellsLines (flat_map (λ one. one.fault) all) old told mid → TellsLines one.fault mid more new →
@@ -54,59 +60,107 @@ told_more : (all : List EvidenceView) (one : EvidenceView) {told more : Bool} (o
 told_more all one old mid new before next = rw (flat_map-append (λ one. one.fault) all (one ∷ []), append-nil one.fault)
     (both old mid new before next)
 
-pub one_more : {E : Type 0} (files : List FileView) (lines : List (List ℕ)) (n k m j : ℕ) (list : List ℕ) (place : ℕ)
-    (seen : Result EvidenceView (Bor (List ℕ))) (sound grown : List EvidenceView) (told : Bool) (old mid new : OutputView)
-    (result : Result Bool E) (Shows : EvidenceView → Type 0) →
-    ((one : EvidenceView) → Shows one → (all : List EvidenceView) → Gathers files lines n k all → sound ≡ kept all →
-    Gathers files lines m j (all ++ one ∷ [])) → HasGathered files lines n k sound old told mid →
-    MatchResult seen (λ one. (one.fault ≡ []) × Shows one) (λ name. Shows (shows_none list place name.now)) →
-    Tries list place seen sound mid result grown new →
-    MatchResult result (λ more. HasGathered files lines m j grown old (told || more) new) (λ _. TellsAudit files lines old true new)
-one_more files lines n k m j list place (Ok one) sound grown told old mid new (Ok more) Shows next before shows does =
-    let here : sound ++ one ∷ [] ≡ kept (before.0 ++ one ∷ []) = rw (
-      filter-append is_kept before.0 (one ∷ []),
-      cond-true (is_kept one) (one ∷ []) [] (eq-eqb _ _ (ap length shows.0)),
-    ) (ap (λ some. some ++ one ∷ []) before.2) in
-    (_, next one shows.1 before.0 before.1 before.2, does.1 ∙ here, rw (does.0, does.2) (told_more before.0 one old mid mid before.3 (rw shows.0 (nothing mid))))
-one_more files lines n k m j list place (Ok one) sound grown told old mid new (Err refused) Shows next before shows does =
-    (_, no_memory before.0 one (next one shows.1 before.0 before.1 before.2) shows.0, rw (or_right told true refl) at (both old mid new before.3 does))
-one_more files lines n k m j list place (Err name) sound grown told old mid new (Ok more) Shows next before shows does =
-    let none = shows_none list place name.now in
-    let so : more ≡ true = cc does.0 in
-    let left : sound ≡ kept (before.0 ++ none ∷ []) = before.2 ∙ rw (
-      filter-append is_kept before.0 (none ∷ []),
-      cond-false (is_kept none) (none ∷ []) [] (not-true _ (sym does.2.0)),
-      append-nil (kept before.0),
-    ) refl in
-    (_, next none shows before.0 before.1 before.2, does.1 ∙ left, rw so (told_more before.0 none old mid new before.3 does.2))
-one_more files lines n k m j list place (Err name) sound grown told old mid new (Err refused) Shows next before shows does = absurd (cc does.0)
+kept_one : (all : List EvidenceView) (one : EvidenceView) → one.fault ≡ [] → kept (all ++ one ∷ []) ≡ kept all ++ one ∷ []
+kept_one all one none = filter-append is_kept all (one ∷ [])
+    ∙ ap (λ some. kept all ++ some) (cond-true (is_kept one) (one ∷ []) [] (eq-eqb _ _ (ap length none)))
 
-pub one_more_file : {E F : Type 0} (known : F → FileView) (files : List F) (lines : List (List ℕ)) (i : ℕ) (given : F)
-    (seen : Result EvidenceView (Bor (List ℕ))) (sound grown : List EvidenceView) (told : Bool) (old mid new : OutputView)
-    (result : Result Bool E) → i < length files → given ≡ get_or files i given →
+kept_none : (all : List EvidenceView) (one : EvidenceView) → not (length one.fault == 0) ≡ true → kept (all ++ one ∷ []) ≡ kept all
+kept_none all one some = filter-append is_kept all (one ∷ []) ∙ rw (
+  cond-false (is_kept one) (one ∷ []) [] (not-true _ some),
+  append-nil (kept all),
+) refl
+
+has_one : {X : Type 0} (xs : List X) (x : X) → xs ++ x ∷ [] ≢ []
+has_one [] x e = absurd (cc)
+has_one (y ∷ xs) x e = absurd (cc)
+
+kept_more : (sound grown : Option (List EvidenceView)) (all : List EvidenceView) (one other : EvidenceView) → Keeps sound all →
+    other.fault ≡ [] → IfSome sound (λ some. some ≡ kept all → other ≡ one) →
+    IfSome grown (λ more. IsSomeAnd sound (λ some. more ≡ some ++ one ∷ [])) → Keeps grown (all ++ other ∷ [])
+kept_more sound None all one other keeps none alike grows = rw (kept_one all other none) (has_one (kept all) other)
+kept_more (Some some) (Some more) all one other keeps none alike grows =
+    grows ∙ ap (λ xs. xs ++ one ∷ []) keeps ∙ ap (λ x. kept all ++ x ∷ []) (sym (alike keeps)) ∙ sym (kept_one all other none)
+kept_more None (Some more) all one other keeps none alike grows = absurd grows
+
+same_one : (sound : Option (List EvidenceView)) (all : List EvidenceView) (one : EvidenceView) →
+    IfSome sound (λ some. some ≡ kept all → one ≡ one)
+same_one None all one = tt
+same_one (Some some) all one = λ e. refl
+
+same_sound : (sound : Option (List EvidenceView)) (before now : List EvidenceView) (one other : EvidenceView) →
+    IfSome sound (λ some. before ≡ some) → (before ≡ now → other ≡ one) → IfSome sound (λ some. some ≡ now → other ≡ one)
+same_sound None before now one other is alike = tt
+same_sound (Some some) before now one other is alike = λ e. alike (is ∙ e)
+
+pub one_more : (files : List FileView) (lines : List (List ℕ)) (n k m j : ℕ) (list : List ℕ) (place : ℕ)
+    (seen : Result EvidenceView (Bor (List ℕ))) (sound grown : Option (List EvidenceView)) (told more : Bool)
+    (old mid new : OutputView) (Shows : EvidenceView → Type 0) →
+    ((one : EvidenceView) → Shows one → (all : List EvidenceView) → Gathers files lines n k all → (other : EvidenceView)
+    × (other.fault ≡ one.fault) × IfSome sound (λ some. some ≡ kept all → other ≡ one) × Gathers files lines m j (all ++ other ∷ [])) →
+    HasGathered files lines n k sound old told mid →
+    MatchResult seen (λ one. (one.fault ≡ []) × Shows one) (λ name. Shows (shows_none list place name.now)) →
+    Tries list place seen sound mid more grown new → HasGathered files lines m j grown old (told || more) new
+one_more files lines n k m j list place (Ok one) sound grown told more old mid new Shows next (all, gathers, keeps, tells) shows does =
+    let (other, fault, alike, gathered) = next one shows.1 all gathers in
+    let none : other.fault ≡ [] = fault ∙ shows.0 in (
+      _,
+      gathered,
+      kept_more sound grown all one other keeps none alike does.2,
+      rw (does.0, does.1) (told_more all other old mid mid tells (rw none (nothing mid))),
+    )
+one_more files lines n k m j list place (Err name) sound grown told more old mid new Shows next (all, gathers, keeps, tells) shows does =
+    let (other, fault, alike, gathered) = next (shows_none list place name.now) shows all gathers in (
+      _,
+      gathered,
+      rw (does.1, kept_none all other (rw fault (sym does.2.0))) keeps,
+      rw (does.0) (told_more all other old mid new tells (rw fault does.2)),
+    )
+
+pub one_more_file : {F : Type 0} (known : F → FileView) (files : List F) (lines : List (List ℕ)) (i : ℕ) (given : F)
+    (seen : Result EvidenceView (Bor (List ℕ))) (sound grown : Option (List EvidenceView)) (told more : Bool)
+    (old mid new : OutputView) → i < length files → given ≡ get_or files i given →
     HasGathered (map known files) lines i 0 sound old told mid →
     MatchResult seen (λ one. (one.fault ≡ []) × ShowsFile (i + 1) (known given) one)
     (λ name. ShowsFile (i + 1) (known given) (shows_none (codes "file") (i + 1) name.now)) →
-    Tries (codes "file") (i + 1) seen sound mid result grown new →
-    MatchResult result (λ more. HasGathered (map known files) lines (i + 1) 0 grown old (told || more) new)
-    (λ _. TellsAudit (map known files) lines old true new)
-one_more_file known files lines i given seen sound grown told old mid new result there is = one_more (map known files) lines i 0 (i + 1) 0
-    (codes "file") (i + 1) seen sound grown told old mid new result (ShowsFile (i + 1) (known given)) (λ one shows all gathers kept_is.
-    file (known given) gathers (slice_get-map known files i ∙
-    ap (option_map known) (slice_get-get_or files i given there ∙ ap (λ x. Some x) (sym is))) shows)
+    Tries (codes "file") (i + 1) seen sound mid more grown new →
+    HasGathered (map known files) lines (i + 1) 0 grown old (told || more) new
+one_more_file known files lines i given seen sound grown told more old mid new there is = one_more (map known files) lines i 0
+    (i + 1) 0 (codes "file") (i + 1) seen sound grown told more old mid new (ShowsFile (i + 1) (known given)) (λ one shows all gathers. (
+      one,
+      refl,
+      same_one sound all one,
+      file (known given) gathers (slice_get-map known files i ∙
+          ap (option_map known) (slice_get-get_or files i given there ∙ ap (λ x. Some x) (sym is))) shows,
+    ))
 
-pub one_more_line : {E : Type 0} (files : List FileView) (lines : List (List ℕ)) (k : ℕ) (text : List ℕ)
-    (seen : Result EvidenceView (Bor (List ℕ))) (sound grown : List EvidenceView) (told : Bool) (old mid new : OutputView)
-    (result : Result Bool E) → slice_get lines k ≡ Some text → length text ≢ 0 →
-    HasGathered files lines (length files) k sound old told mid →
-    MatchResult seen (λ one. (one.fault ≡ []) × ShowsLine sound (k + 1) text one)
-    (λ name. ShowsLine sound (k + 1) text (shows_none (codes "line") (k + 1) name.now)) →
-    Tries (codes "line") (k + 1) seen sound mid result grown new →
-    MatchResult result (λ more. HasGathered files lines (length files) (k + 1) grown old (told || more) new)
-    (λ _. TellsAudit files lines old true new)
-one_more_line files lines k text seen sound grown told old mid new result at some = one_more files lines (length files) k (length files)
-    (k + 1) (codes "line") (k + 1) seen sound grown told old mid new result (ShowsLine sound (k + 1) text)
-    (λ one shows all gathers kept_is. line text gathers at some (rw kept_is at shows))
+-- a line shows as much whatever is before it, but for whether its ticket is open
+beside : (before now : List EvidenceView) (place : ℕ) (text : List ℕ) (one : EvidenceView) → ShowsLine before place text one →
+    (other : EvidenceView) × (other.fault ≡ one.fault) × (before ≡ now → other ≡ one) × ShowsLine now place text other
+beside before now place text one (ticket its has is) = (
+  _,
+  refl,
+  λ alike. ap (λ (some : List EvidenceView). record {
+    place = place;
+    fault = [];
+    ticket = Some its;
+    shown = shown_of_ticket its (list_any (λ one. lacks_ticket one.shown its) some);
+  }) (sym alike),
+  ticket its has is,
+)
+beside before now place text one (refused none) = (_, refl, λ alike. refl, refused none)
+
+pub one_more_line : (files : List FileView) (lines : List (List ℕ)) (k : ℕ) (text : List ℕ)
+    (seen : Result EvidenceView (Bor (List ℕ))) (before : List EvidenceView) (sound grown : Option (List EvidenceView))
+    (told more : Bool) (old mid new : OutputView) → slice_get lines k ≡ Some text → length text ≢ 0 →
+    IfSome sound (λ some. before ≡ some) → HasGathered files lines (length files) k sound old told mid →
+    MatchResult seen (λ one. (one.fault ≡ []) × ShowsLine before (k + 1) text one)
+    (λ name. ShowsLine before (k + 1) text (shows_none (codes "line") (k + 1) name.now)) →
+    Tries (codes "line") (k + 1) seen sound mid more grown new →
+    HasGathered files lines (length files) (k + 1) grown old (told || more) new
+one_more_line files lines k text seen before sound grown told more old mid new at some is = one_more files lines (length files) k
+    (length files) (k + 1) (codes "line") (k + 1) seen sound grown told more old mid new (ShowsLine before (k + 1) text)
+    (λ one shows all gathers. let (other, fault, alike, now) = beside before (kept all) (k + 1) text one shows in
+    (other, fault, same_sound sound before (kept all) one other is alike, line text gathers at some now))
 
 -- ---- silence
 
@@ -140,7 +194,7 @@ module _ (exact : SilenceIsExact) where
         let a = both_none _ _ b.0 in
         let g = both_none _ _ a.0 in
         let f = both_none _ _ g.0 in
-        beside ((exact one.shown other.shown ranges its).0.0 (record {
+        beside_one ((exact one.shown other.shown ranges its).0.0 (record {
           numbers = no_breach _ (codes "number") one other f.0;
           apart = no_breach _ (codes "free") one other f.1;
           ahead = no_breach _ (codes "behind") one other a.1;
@@ -151,7 +205,7 @@ module _ (exact : SilenceIsExact) where
   silent_pair : (one other : EvidenceView) → IsTrue (are_ranges one.shown.free) → IsTrue (are_ranges other.shown.free) →
       IsSoundPair one other → breach_lines one other ≡ []
   silent_pair one other ranges its (same is) = cond-true (are_same one other) _ _ is
-  silent_pair one other ranges its (beside sound again) = elim (cases_Bool (are_same one other)) [
+  silent_pair one other ranges its (beside_one sound again) = elim (cases_Bool (are_same one other)) [
     | inl is ↦ cond-true (are_same one other) _ _ is
     | inr is ↦
         let none = (exact one.shown other.shown ranges its).0.1 sound in

@@ -1,5 +1,5 @@
 -- What the commands of printers do to ledgers and streams, and the lines that they write: what these show is this project's own rule.
-use Rattle.std.specs.Prelude.{ℕ, List, [], ◌∷◌, ◌++◌, codes, zero, suc, Option, Some, None, take, drop, ◌≡◌, ◌⊎◌, ◌<◌, ◌+◌, ◌*◌, ◌/◌, Ok, length, map, slice_index, Result, Err, ◌↔◌, ◌≤◌, ◌≢◌, true, false, Bool, ◌&&◌, ◌||◌, ◌==◌, not, nat_eq, if◌then◌else◌, slice_get, IfSome}
+use Rattle.std.specs.Prelude.{ℕ, List, [], ◌∷◌, ◌++◌, codes, zero, suc, Option, Some, None, take, drop, ◌≡◌, ◌⊎◌, ◌<◌, ◌+◌, ◌*◌, ◌/◌, Ok, length, map, slice_index, Result, Err, ◌↔◌, ◌≤◌, ◌≢◌, true, false, Bool, ◌&&◌, ◌||◌, ◌==◌, not, nat_eq, if◌then◌else◌, slice_get, IfSome, MatchOption}
 use Rattle.std.specs.{Fmt.decimal, Option.option_map_or, Cmp.Lexicographic.pointwise, Io.KnownBytes.Appends}
 use Rattle.std.specs.List.{flat_map, All, range_with_len, AllPairs, Contains, list_any, slice_split, AllByRecursion, filter}
 use Rattle.hex.specs.Hex.{encode_lower, decode_sized}
@@ -402,21 +402,22 @@ pair_lines (one ∷ later) = flat_map (breach_lines one) later ++ pair_lines lat
 abbrev pub audit_lines : List EvidenceView → List ℕ
 audit_lines evidence = flat_map (λ one. one.fault) evidence ++ pair_lines (kept evidence)
 
--- What `audit` says: all lines; or, if memory was refused for what one shows, the faults of those before it, and `Memory`.
+-- What `audit` says: all lines; or, if memory was refused for something sound, all faults, and then `Memory`.
 pub data AuditSays (files : List FileView) (lines : List (List ℕ)) : List ℕ → Type 0 where
   all : (evidence : List EvidenceView) → Gathers files lines (length files) (length lines) evidence
       → AuditSays files lines (audit_lines evidence)
-  no_memory : {n k : ℕ} (before : List EvidenceView) (one : EvidenceView) → Gathers files lines n k (before ++ one ∷ [])
-      → one.fault ≡ [] → AuditSays files lines (flat_map (λ one. one.fault) before ++ refused_line (refusal_name Memory))
+  no_memory : (evidence : List EvidenceView) → Gathers files lines (length files) (length lines) evidence → kept evidence ≢ []
+      → AuditSays files lines (flat_map (λ one. one.fault) evidence ++ refused_line (refusal_name Memory))
 
 -- The lines were told, and whether there are any; or the output has failed, with a part of them, and takes no more.
 abbrev pub TellsLines : List ℕ → OutputView → Bool → OutputView → Type 0
 TellsLines text old some new = (some ≡ not (length text == 0)) × Tells text 1 old 1 new × (old.has_failed ≡ true → new ≡ old)
 
--- so many were gathered, of which these have no fault, and it was told which faults the others have
-abbrev pub HasGathered : List FileView → List (List ℕ) → ℕ → ℕ → List EvidenceView → OutputView → Bool → OutputView
+-- The first n files and k lines were gathered, and their faults written. What has none is kept, or some of it was lost.
+abbrev pub HasGathered : List FileView → List (List ℕ) → ℕ → ℕ → Option (List EvidenceView) → OutputView → Bool → OutputView
     → Type 0
-HasGathered files lines n k sound old told new = (all : List EvidenceView) × Gathers files lines n k all × (sound ≡ kept all)
+HasGathered files lines n k sound old told new = (all : List EvidenceView) × Gathers files lines n k all
+    × MatchOption sound (kept all ≢ []) (λ some. some ≡ kept all)
     × TellsLines (flat_map (λ one. one.fault) all) old told new
 
 -- all that `audit` says was told

@@ -1,6 +1,6 @@
 //! `relay audit`: what ledgers and tickets show that breaks what printers rely on.
 
-ghost use Rattle.std.specs.Prelude.{◌≡◌, ◌==◌, ◌++◌, ◌∷◌, ◌<◌, ◌^◌, false, true, ℕ, List, [], Bool, MatchResult, Ok, codes, length, map};
+ghost use Rattle.std.specs.Prelude.{◌≡◌, ◌==◌, ◌++◌, ◌∷◌, ◌<◌, ◌^◌, false, true, ℕ, List, [], IfSome, IsSomeAnd, Some, MatchResult, codes, length, map, option_map};
 ghost use Rattle.std.specs.Iterator.{AlwaysYields, IsFinite};
 ghost use Rattle.std.specs.List.{flat_map, list_any, slice_split};
 ghost use Rattle.dm_print_ledger.specs.Verdicts.{lacks_ticket};
@@ -13,7 +13,7 @@ use dm_print_ledger::{MOST_BYTES, Shown, Ticket};
 use itoa::Buffer;
 use relay_shared::{NamedFile, Refusal, Streams, refuse};
 use relay_streams::{Input, Output};
-use std::alloc::{AllocError, Allocator};
+use std::alloc::Allocator;
 use std::io::{Read, Write};
 use std::marker::Model;
 
@@ -88,7 +88,7 @@ impl Evidence {
         }
     }
 
-    // Whether it is the ledger of the printer that the other, a ticket, is for.
+    // Whether the other is a ticket, and this the ledger of its receiver.
     fn is_receiver(&self, other: &Evidence) -> bool
         ensures { result ≡ test_of_receiver self.now other.now }
     {
@@ -97,7 +97,7 @@ impl Evidence {
             .is_some_and(|ticket| self.shown.is_of(ticket.receiver))
     }
 
-    // Whether both show one ticket, and neither is the ledger of the printer that the other is for.
+    // Whether both show one ticket, and neither is the ledger of the other's receiver.
     fn is_again(&self, other: &Evidence) -> bool
         ensures { result ≡ is_again self.now other.now }
     {
@@ -129,84 +129,98 @@ fn is_lacked(evidence: &[Evidence], ticket: Ticket) -> bool
     evidence.iter().any(|one| one.shown.lacks(ticket))
 }
 
-// Keeps what a file or a line shows, or tells why it shows nothing and gives true; or tells that memory was refused.
+// What is kept, or nothing if memory was refused.
+fn kept_in<A: Allocator>(sound: &Option<Vec<Evidence, A>>) -> &[Evidence]
+    ensures { IfSome (option_map (λ some. some.items) sound.now) (λ some. result.now ≡ some) }
+{
+    match sound {
+        Some(some) => some.as_slice(),
+        None => &[],
+    }
+}
+
+// Keeps what a file or a line shows after what is kept already, or drops it all if memory is refused. A fault is told,
+// and then the answer is true.
 fn gather<A: Allocator, W: Write>(
-    evidence: &mut Vec<Evidence, A>,
+    sound: &mut Option<Vec<Evidence, A>>,
     output: &mut Output<W>,
     list: &str,
     place: usize,
     seen: Result<Evidence, &str>,
-) -> Result<bool, AllocError>
+) -> bool
     ensures { MatchResult seen.entry
-        (λ one. MatchResult result
-        (λ told. (told ≡ false) × (evidence.new.items ≡ evidence.old.items ++ one ∷ []) × (output.new ≡ output.old))
-        (λ _. TellsLines (refused_line (refusal_name Refusal.Memory)) output.old true output.new))
-        (λ name. (result ≡ Ok true) × (evidence.new.items ≡ evidence.old.items)
+        (λ one. (result ≡ false) × (output.new ≡ output.old) × IfSome (option_map (λ some. some.items) sound.new)
+        (λ grown. IsSomeAnd (option_map (λ some. some.items) sound.old) (λ some. grown ≡ some ++ one ∷ [])))
+        (λ name. (result ≡ true)
+        × (option_map (λ some. some.items) sound.new ≡ option_map (λ some. some.items) sound.old)
         × TellsLines (shows_none list.now place name.now).fault output.old true output.new) }
 {
     match seen {
         Ok(one) => {
-            if let Err(fault) = evidence.push(one) {
-                let _ = output.put_refusal(Refusal::Memory.name());
-                return Err(fault.into());
+            let is_kept = match sound {
+                Some(some) => some.push(one).is_ok(),
+                None => false,
+            };
+            if !is_kept {
+                *sound = None;
             }
-            Ok(false)
+            false
         }
         Err(name) => {
             let mut digits = Buffer::new();
             let place = digits.format(place).as_bytes();
             let _ = output.put_all(&[list.as_bytes(), b" ", place, b" ", name.as_bytes(), b"\n"]);
-            Ok(true)
+            true
         }
     }
 }
 
 // Gathers what files show, and says whether any shows nothing.
 fn gather_files<A: Allocator, F: NamedFile, W: Write>(
-    evidence: &mut Vec<Evidence, A>,
+    sound: &mut Option<Vec<Evidence, A>>,
     output: &mut Output<W>,
     files: &[F],
-) -> Result<bool, AllocError>
-    requires { evidence.old.items ≡ [] }
-    ensures { (lines : List (List ℕ)) → let known : List FileView = map F.known files.now in MatchResult result
-        (λ told. HasGathered known lines (length known) 0 evidence.new.items output.old told output.new)
-        (λ _. TellsAudit known lines output.old true output.new) }
+) -> bool
+    requires { option_map (λ some. some.items) sound.old ≡ Some [] }
+    ensures { (lines : List (List ℕ)) → HasGathered (map F.known files.now) lines (length (map F.known files.now)) 0
+        (option_map (λ some. some.items) sound.new) output.old result output.new }
 {
     let mut told = false;
     for (i, file) in files.iter().enumerate() {
         let seen = Evidence::of_file(file, i + 1);
-        told |= gather(evidence, output, "file", i + 1, seen)?;
+        told |= gather(sound, output, "file", i + 1, seen);
     }
-    Ok(told)
+    told
 }
 
-// Gathers what lines show, but for empty ones, and says whether any fault was told, of a file or of a line.
+// Gathers what lines show, except empty ones, and says whether any fault was told, of a file or of a line.
 fn gather_lines<'a, A: Allocator, W: Write, I: Iterator<Item = &'a [u8]> + Drop>(
-    evidence: &mut Vec<Evidence, A>,
+    sound: &mut Option<Vec<Evidence, A>>,
     output: &mut Output<W>,
     lines: I,
     told: bool,
-) -> Result<bool, AllocError>
+) -> bool
     requires can_next { I.can_next lines × IsFinite (I.remaining lines) }
-    requires few { (all : List (List ℕ)) × AlwaysYields I.next_gives (λ line. line.now) lines all × (length all < 2 ^ 64) }
+    requires few { (all : List (List ℕ)) × AlwaysYields I.next_gives (λ line. line.now) lines all
+        × (length all < 2 ^ 64) }
     ensures { (all : List (List ℕ)) → AlwaysYields I.next_gives (λ line. line.now) lines all
         → (files : List FileView) (old : OutputView)
-        → HasGathered files all (length files) 0 evidence.old.items old told output.old → MatchResult result
-        (λ told. HasGathered files all (length files) (length all) evidence.new.items old told output.new)
-        (λ _. TellsAudit files all old true output.new) }
+        → HasGathered files all (length files) 0 (option_map (λ some. some.items) sound.old) old told output.old
+        → HasGathered files all (length files) (length all) (option_map (λ some. some.items) sound.new) old result
+        output.new }
 {
     let (mut place, mut told) = (0, told);
     for line in lines {
         place += 1;
         if !line.is_empty() {
-            let seen = Evidence::of_line(evidence.as_slice(), line, place);
-            told |= gather(evidence, output, "line", place, seen)?;
+            let seen = Evidence::of_line(kept_in(sound), line, place);
+            told |= gather(sound, output, "line", place, seen);
         }
     }
-    Ok(told)
+    told
 }
 
-// Tells what is wrong between two, if it is.
+// Tells what is wrong between two, if this is.
 fn tell_breach<W: Write>(
     output: &mut Output<W>,
     is: bool,
@@ -272,21 +286,22 @@ fn audit<A: Allocator, F: NamedFile, W: Write>(
     ensures { TellsAudit (map F.known files.now) (slice_split (λ byte. byte == 10) bytes.now)
         output.old result output.new }
 {
-    let mut evidence = Vec::new(alloc);
-    let Ok(told) = gather_files(&mut evidence, output, files) else {
-        return true;
-    };
-    let lines = bytes.split(|byte| *byte == b'\n');
-    let Ok(told) = gather_lines(&mut evidence, output, lines, told) else {
-        return true;
-    };
-    told | tell_pairs(output, evidence.as_slice())
+    let mut sound = Some(Vec::new(alloc));
+    let told = gather_files(&mut sound, output, files);
+    let told = gather_lines(&mut sound, output, bytes.split(|byte| *byte == b'\n'), told);
+    match sound {
+        Some(sound) => told | tell_pairs(output, sound.as_slice()),
+        None => {
+            let _ = output.put_refusal(Refusal::Memory.name());
+            true
+        }
+    }
 }
 
-/// Reads ledgers from files, and tickets from the lines of the input, at most 1,048,576 bytes of them. Prints a line for
-/// each file that gives no ledger, and each line that has no ticket and is not empty, as it is read; and then one for
-/// each two that break what printers rely on. Where memory is refused for what a file or a line shows, `refused Memory`
-/// is the last line, and no more is read. The exit status is 0 where it prints none. Nothing is saved or locked.
+/// Reads ledgers from files, and tickets from the lines of the input, at most 1,048,576 bytes of them. Prints a line
+/// for each file that gives no ledger, and each line that has no ticket and is not empty, as it is read; and then one
+/// for each two that break a rule of printers. If memory is refused for what a file or a line shows, the line
+/// `refused Memory` stands in place of these. The exit status is 0 where it prints none. Nothing is saved or locked.
 pub fn audit_command<A: Allocator + Copy, F: NamedFile, R: Read, W: Write, E: Write>(
     alloc: A,
     files: &[F],

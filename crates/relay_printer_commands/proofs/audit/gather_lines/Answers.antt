@@ -1,7 +1,7 @@
 use Rattle.std.proofs.Common.{◌≡◌, ◌<◌, ◌∙◌, ℕ, Bor, List, Option, Some, ap, arith, length, rules, sym}
 use Rattle.std.proofs.lemmas.{Grind.common_steps, Iterator.Consumers.YieldsList-at, Iterator.Consumers.YieldsList-end, Iterator.Consumers.YieldsList-turn}
-use Rattle.std.proofs.lemmas.{Option.slice_get-get_or, Result.err_from_is_err_and, Bool.eqb-false, Bool.eqb-true}
-use Rattle.std.specs.{Prelude.slice_get, Iterator.AlwaysYields, Iterator.Yields}
+use Rattle.std.proofs.lemmas.{Option.slice_get-get_or, Bool.eqb-false, Bool.eqb-true}
+use Rattle.std.specs.{Prelude.option_map, Prelude.slice_get, Iterator.AlwaysYields, Iterator.Yields}
 use Rattle.relay_printer_commands.specs.Printers.{Gathers.empty}
 use Rattle.relay_printer_commands.proofs.AuditSteps.{one_more_line}
 use Rattle.relay_printer_commands.proofs.audit.gather_lines.Goals as goal
@@ -30,9 +30,9 @@ loop-line-preserved-then-not-is_empty g c =
       grind (arith, common_steps, place),
       λ files all old gathered yields.
           let at = line_at g.I.Iterator.next_gives all c.loop-line.yielded yields c.into_iter-line-iterator.ensures.into_iter_gives c.loop-line.yielded_by c.in-Some.is c.next.ensures.steps in
-          rw (c.in_ok-told.was) at (one_more_line files all c.loop-line.place c.in-Some.line.now c.of_line-seen.result _ _ _ _ _ _ c.gather.result
-          (rw (← place) at at.1) (eqb-false _ _ (sym c.is_empty.ensures ∙ c.if-not-is_empty.true)) (so_far files all old gathered yields)
-          (rw c.as_slice.ensures.value at c.of_line-seen.ensures) c.gather.ensures),
+          one_more_line files all c.loop-line.place c.in-Some.line.now c.of_line-seen.result c.kept_in.result.now _ (option_map (λ some. some.items) c.gather-told.new.sound) _ _ _ _ _
+          (rw (← place) at at.1) (eqb-false _ _ (sym c.is_empty.ensures ∙ c.if-not-is_empty.true)) c.kept_in.ensures (so_far files all old gathered yields)
+          c.of_line-seen.ensures c.gather-told.ensures,
     )
 
 pub loop-line-preserved : goal.loop-line-preserved
@@ -52,12 +52,3 @@ returns g c = λ all yields files old gathered.
     let (can, finite, place, so_far) = c.loop-line.invariant in
     let end = YieldsList-end {steps = g.I.Iterator.next_gives} {v = λ line. line.now} (YieldsList-at c.into_iter-line-iterator.ensures.into_iter_gives (record { runs = yields })) c.loop-line.yielded _ c.loop-line.yielded_by _ _ c.in-None.is c.next.ensures.steps in
     rw (place, end.1) at (so_far files all old gathered yields)
-
-pub returns-in_err-told : goal.returns-in_err-told
-returns-in_err-told g c = λ all yields files old gathered.
-    let (can, finite, place, so_far) = c.loop-line.invariant in
-    let at = line_at g.I.Iterator.next_gives all c.loop-line.yielded yields c.into_iter-line-iterator.ensures.into_iter_gives c.loop-line.yielded_by c.in-Some.is c.next.ensures.steps in
-    rw (err_from_is_err_and c.from_residual.result c.from_residual.ensures.1).1
-    (rw (c.in_err-told.was) at (one_more_line files all c.loop-line.place c.in-Some.line.now c.of_line-seen.result _ _ _ _ _ _ c.gather.result
-    (rw (← place) at at.1) (eqb-false _ _ (sym c.is_empty.ensures ∙ c.if-not-is_empty.true)) (so_far files all old gathered yields)
-    (rw c.as_slice.ensures.value at c.of_line-seen.ensures) c.gather.ensures))
