@@ -1,5 +1,5 @@
--- Desks: the names of their faults (that of a label is the label's own), what each call answers and saves, and how
--- their files are opened, looked at, and moved from version 1.
+-- Desks: the names of their faults (a label's fault has its own), what each call answers and saves, and how their files
+-- are opened, looked at, and moved from version 1.
 use Rattle.std.specs.Prelude.{ℕ, List, codes, ◌≡◌, true, Option, Some, None, Result, IsTrue, ◌&&◌, not, length, Ok, Err, is_some, is_none, nat_le, ◌==◌, if◌then◌else◌, ◌-◌, replicate, slice_set, ◌⊎◌, ◌<◌, ◌≤◌, false, IsSomeAnd, ◌≢◌, ◌∷◌, ◌++◌, slice_get, [], take, filter, option_map}
 use Rattle.dm_append_label.specs.{Labels.PageView, Opening.label_fault_name, Opening.LabelOpens}
 use Rattle.dm_assembly_desk.specs.declared.fault.{DeskFault.DeskFault, ScanFault.ScanFault, AskFault.AskFault}
@@ -77,7 +77,7 @@ move_fault_name moves.Damaged = codes "Damaged"
 move_fault_name moves.Device = codes "Device"
 move_fault_name moves.Memory = codes "Memory"
 
--- a move calls the fault of a load, and that of a save, by the same name
+-- how a move names the fault of a load or of a save
 abbrev pub move_fault_of : StoreFault → MoveFault
 move_fault_of storing.Device = moves.Device
 move_fault_of storing.Memory = moves.Memory
@@ -87,7 +87,7 @@ import_fault files.NotPages = importing.NotPages
 import_fault files.Version = importing.Version
 import_fault files.Damaged = importing.Damaged
 
--- a scan and an import call it by the same name why pages were not added
+-- how a scan names the reason why its page was not added
 abbrev pub scan_fault_of : AddFault → ScanFault
 scan_fault_of adds.Conflict = scanning.Conflict
 scan_fault_of adds.Full = scanning.Full
@@ -100,13 +100,13 @@ import_fault_of adds.Full = importing.Full
 import_fault_of adds.Memory = importing.Memory
 import_fault_of adds.Save = importing.Save
 
--- no desk is opened for the reason that a key's bytes are no file
+-- how a desk that can't be opened names the reason why a key's bytes are no file
 abbrev pub desk_fault_of : FileFault → DeskFault
 desk_fault_of files.NotPages = opens.NotPages
 desk_fault_of files.Version = opens.Version
 desk_fault_of files.Damaged = opens.Damaged
 
--- why pages were not added, by why their save was not done
+-- why pages were not added, by the fault of their save
 abbrev pub keep_fault : StoreFault → AddFault
 keep_fault storing.Device = adds.Save
 keep_fault storing.Memory = adds.Memory
@@ -115,33 +115,33 @@ keep_fault storing.Memory = adds.Memory
 
 -- What a desk does for a call: it adds pages, forgets a document, or gives what it holds.
 
--- what a call is to do: to answer this, and nothing else; or to hold these documents, and to answer this then
+-- what a call is to do: only to answer this, or to hold these documents and then to answer this
 pub data Verdict (R : Type 0) : Type 0 where
   Stays : R → Verdict R
   Becomes : Documents → R → Verdict R
 
 -- ---- a save of what is to be held
 
--- the set before and after the save of what is to be held of one document: its file, or that there is none
+-- the set before and after it saves what is to be held of one document: its file, or that there is none
 abbrev pub SavesDocument : SavedSet → ℕ → Option Pages → Outcome → SavedSet → Type 0
 SavesDocument old id (Some pages) outcome new = SavesIn old (map.insert old.content id (file id pages)) outcome new
 SavesDocument old id None outcome new =
     (answer : Result (Unit {0}) StoreFault) × (outcome ≡ outcome_of answer) × RemovesKey old id answer new
 
--- The desk then, over its set: it shows what it is to hold. After a device fault it shows what it held, and saves no
--- more. If memory was refused nothing has changed.
+-- The desk after that, over its set: it shows what it is to hold. After a device fault it shows what it held, and saves
+-- no more. If memory was refused, nothing has changed.
 abbrev pub shown : Documents → Outcome → DeskView → SavedSet → DeskView
 shown held Done old set = record old { saved = set; held = held }
 shown held Faulted old set = record old { saved = set; is_failed = true }
 shown held Refused old set = old
 
--- the documents that the set keeps then, where `old` were held and `held` are to be; after a device fault as planned
+-- the documents that the set then keeps, if `old` were held and `held` are to be; after a device fault as planned
 abbrev pub IsKept : SavePlan → Outcome → Documents → Documents → Documents → Type 0
 IsKept plan Done old held kept = kept ≡ held
 IsKept plan Faulted old held kept = HeldAfterFault plan old held kept
 IsKept plan Refused old held kept = kept ≡ old
 
--- the save of one document ended so, after which these documents are to be held; an honest set keeps files of documents
+-- how the save of one document ended, after which these are to be held; an honest set keeps files of documents
 pub record SaveEnds (id : ℕ) (held : Documents) (outcome : Outcome) (old new : DeskView) : Type 0 where
   pub shows : new ≡ shown held outcome old new.saved
   pub saved : SavesDocument old.saved id (map.get held id) outcome new.saved
@@ -150,14 +150,14 @@ pub record SaveEnds (id : ℕ) (held : Documents) (outcome : Outcome) (old new :
 
 -- ---- a verdict that is carried out
 
--- the answer by how the save ended
+-- the answer, by how the save ended
 abbrev pub answer_by : {R : Type 0} → R → R → R → Outcome → R
 answer_by done memory save Done = done
 answer_by done memory save Faulted = save
 answer_by done memory save Refused = memory
 
--- A verdict on one document is carried out. `memory` and `save` are answered where its save is refused for lack of
--- memory, or meets a device fault.
+-- A verdict on one document is carried out. `memory` is answered if its save is refused for lack of memory, and `save`
+-- if it meets a device fault.
 abbrev pub DeskCarriesOut : {R : Type 0} → R → R → ℕ → Verdict R → DeskView → R → DeskView → Type 0
 DeskCarriesOut memory save id (Stays answer) old result new = (result ≡ answer) × (new ≡ old)
 DeskCarriesOut memory save id (Becomes held answer) old result new =
@@ -165,11 +165,11 @@ DeskCarriesOut memory save id (Becomes held answer) old result new =
 
 -- ---- the verdict, by what is held
 
--- the pages of the document once these are held too
+-- the pages of the document once these are added
 abbrev pub pages_with : Documents → ℕ → Pages → Pages
 pages_with held id pages = union_of_pages (own_pages held id) pages
 
--- what is held then
+-- what is held after that
 abbrev pub with_pages : Documents → ℕ → Pages → Documents
 with_pages held id pages = map.insert held id (pages_with held id pages)
 
@@ -177,13 +177,13 @@ with_pages held id pages = map.insert held id (pages_with held id pages)
 abbrev pub added_to : Documents → ℕ → Pages → ℕ
 added_to held id pages = added_mask (own_pages held id) pages
 
--- the name of what a page or an import was, as lines have it
+-- the name of the kind of a page or an import, as lines have it
 abbrev pub kind_name : Kind → List ℕ
 kind_name New = codes "new"
 kind_name Again = codes "again"
 kind_name Complete = codes "complete"
 
--- some pages are added, and these are held then
+-- the kind of what added some pages, after which these are held
 abbrev pub kind_of : Pages → Kind
 kind_of all = if list_all is_some all then Complete else New
 
@@ -196,7 +196,7 @@ add_kind capacity held id pages =
     if is_none (map.get held id) && nat_le capacity (map.len held) then Err adds.Full else
     Ok (kind_of (pages_with held id pages))
 
--- which pages are added, or why none are, as the first of these says that applies
+-- which pages are added, or why none are, by the first of these that applies
 abbrev pub JudgedAs : ℕ → Documents → ℕ → Pages → Result ℕ AddFault → Type 0
 JudgedAs capacity held id pages (Ok added) = (added ≡ added_to held id pages)
     × (add_kind capacity held id pages ≡ Ok (if added == 0 then Again else kind_of (pages_with held id pages)))
@@ -214,18 +214,18 @@ verdict_by held id pages (Ok kind) = Becomes (with_pages held id pages) (Ok (rep
 abbrev pub add_verdict : ℕ → Documents → ℕ → Pages → Verdict (Result Imported AddFault)
 add_verdict capacity held id pages = verdict_by held id pages (add_kind capacity held id pages)
 
--- ---- what is done of it
+-- ---- what is done
 
 -- the pages of a document at a desk that has not failed
 abbrev pub Adds : ℕ → Pages → DeskView → Result Imported AddFault → DeskView → Type 0
 Adds id pages old result new =
     DeskCarriesOut (Err adds.Memory) (Err adds.Save) id (add_verdict old.capacity old.held id pages) old result new
 
--- the pages of a page's document, of which it alone is given
+-- the pages of a document of which only this one is given
 abbrev pub lone : PageView → Pages
 lone p = slice_set (replicate p.n None) (p.m - 1) (Some p.bytes)
 
--- how a scan names what became of its page
+-- how a scan says what became of its page
 abbrev pub scan_of : PageView → Result Imported AddFault → Result Accepted ScanFault
 scan_of p (Ok reply) = Ok (record { id = p.id; m = p.m; n = p.n; kind = reply.kind })
 scan_of p (Err fault) = Err (scan_fault_of fault)
@@ -247,7 +247,7 @@ pub record AcceptsGrid (grid : GridView)
   pub label : LabelOpens grid opened
   pub scans : Scans opened old result new
 
--- how an import names what became of its pages
+-- how an import says what became of its pages
 abbrev pub import_of : Result Imported AddFault → Result Imported ImportFault
 import_of (Ok reply) = Ok reply
 import_of (Err fault) = Err (import_fault_of fault)
@@ -257,13 +257,12 @@ abbrev pub Imports : ℕ → Pages → DeskView → Result Imported ImportFault 
 Imports id pages old result new =
     (added : Result Imported AddFault) × (result ≡ import_of added) × Adds id pages old added new
 
--- what bytes are: the file of these pages, or none for this reason
+-- what the bytes are: the file of these pages, or no file for this reason
 abbrev pub IsFileReadAs : List ℕ → Result (ℕ × Pages) FileFault → Type 0
 IsFileReadAs bytes (Ok e) = SpellsFile e.0 bytes e.1
 IsFileReadAs bytes (Err fault) = HasNoFile bytes fault
 
--- Bytes at a desk that has not failed: `read` says what they are, and the reply is that to any file that they spell, or
--- to any reason for which they are none.
+-- An import of bytes at a desk that has not failed: the reply is to the file that they spell, or to why they are none.
 pub record ImportsBytes (bytes : List ℕ) (old : DeskView) (result : Result Imported ImportFault)
     (new : DeskView) : Type 0 where
   pub read : Result (ℕ × Pages) FileFault
@@ -281,8 +280,7 @@ abbrev pub Forgets : ℕ → DeskView → Result (Unit {0}) ForgetFault → Desk
 Forgets id old result new =
     DeskCarriesOut (Err forgets.Memory) (Err forgets.Save) id (forget_verdict old.held id) old result new
 
--- What is given is what the verdict says; memory for bytes may be lacking, and then `memory` is answered. `list` gives
--- the bytes in what is given.
+-- What is given is what the verdict says, or `memory` if that was refused for bytes; `list` gives the bytes in it.
 abbrev pub GivesByVerdict : {X F : Type 0} → (X → List ℕ) → F → Result (List ℕ) F → Result X F → Type 0
 GivesByVerdict list memory (Ok bytes) (Ok given) = list given ≡ bytes
 GivesByVerdict list memory (Ok bytes) (Err fault) = fault ≡ memory
@@ -309,7 +307,7 @@ Exports list id found result = GivesByVerdict list exports.Memory (export_verdic
 
 -- What is in the files of a desk: as it is opened, as it is looked at, and as a joint file is moved.
 
--- a running desk over the unchanged set, which holds what an honest set has the files of
+-- a running desk over the unchanged set, which holds the documents whose files an honest set has
 pub record DeskOpens (saved : SavedSet) (capacity : ℕ) (desk : DeskView) : Type 0 where
   pub is_capacity : IsCapacity capacity
   pub same : desk.saved ≡ saved
@@ -325,7 +323,7 @@ pub record FirstFault (content : Contents) (fault : FileFault) : Type 0 where
   pub faulty : HasFileFault key bytes fault
   pub before : (other : ℕ) (others : List ℕ) → other < key → map.get content other ≡ Some others → IsFile other others
 
--- each of its keys has the file of a document, and there is room for them
+-- each key of the set has the file of a document, and there is room for them
 abbrev pub HoldsAll : SavedSet → ℕ → Type 0
 HoldsAll saved capacity = (map.len saved.content ≤ capacity)
     × ((key : ℕ) (bytes : List ℕ) → map.get saved.content key ≡ Some bytes → IsFile key bytes)
@@ -335,7 +333,7 @@ abbrev pub HoldsFaulty : SavedSet → ℕ → FileFault → Type 0
 HoldsFaulty saved capacity fault = IsCapacity capacity
     × (IsTrue saved.is_honest → (map.len saved.content ≤ capacity) × FirstFault saved.content fault)
 
--- Why there is no desk over the set. Where the set itself lacks no memory, that for what is held is lacking only if
+-- Why there is no desk over the set. If the set itself lacks no memory, that for what is held is lacking only if
 -- nothing else is wrong.
 abbrev pub HasDeskFault : SavedSet → ℕ → DeskFault → Type 0
 HasDeskFault saved capacity opens.Capacity = ¬ IsCapacity capacity
@@ -348,14 +346,14 @@ HasDeskFault saved capacity opens.Device = IsCapacity capacity × (saved.load_pl
 HasDeskFault saved capacity opens.Memory = IsCapacity capacity
     × (IsTrue saved.may_lack_memory ⊎ (IsTrue saved.is_honest → HoldsAll saved capacity))
 
--- ---- What is seen in the files of a desk without a desk: each file by itself, so that a damaged one hides no other.
+-- ---- What is seen in a desk's files without a desk: each file by itself, so that a damaged one hides no other.
 
 -- an honest set has bytes under the key, and this is why they are no file of it
 abbrev pub HasUnsound : SavedSet → ℕ → FileFault → Type 0
 HasUnsound saved key fault =
     IsTrue saved.is_honest → IsSomeAnd (map.get saved.content key) (λ bytes. HasFileFault key bytes fault)
 
--- What is seen under a key: no file, what a document's file holds, or bytes that are no file; or the load has failed.
+-- What is seen under a key: no file, what a document's file holds, or bytes that are no file; or the load failed.
 abbrev pub SeesKey : SavedSet → ℕ → Result (Option Held) DeskFault → Type 0
 SeesKey saved key (Ok None) = IsTrue saved.is_honest → map.get saved.content key ≡ None
 SeesKey saved key (Ok (Some held)) =
@@ -393,7 +391,7 @@ pub record SpellsAll (bytes : List ℕ) (held : Documents) : Type 0 where
   pub spelled : bytes ≡ joint_file held
   pub short : length bytes ≤ MOST_JOINT_FILE_BYTES
 
--- what a store holds of documents: nothing, or the joint file of these
+-- what a store holds: nothing, or the joint file of these documents
 abbrev pub HoldsJointFile : Option (List ℕ) → Documents → Type 0
 HoldsJointFile None held = held ≡ map.empty
 HoldsJointFile (Some bytes) held = SpellsAll bytes held
@@ -428,7 +426,7 @@ moved content held k = with_files content (take k (lacked_by content held))
 
 -- ---- how far a move came
 
--- a load may fail so: that of the old store for this, or, if it holds a document, that of the set's keys for that
+-- why a load may fail: that of the old store for this or, if it holds a document, that of the set's keys for that
 abbrev pub MayNotLoad : Saved → Type 0 → Type 0 → Type 0
 MayNotLoad old This That =
     This ⊎ (That × (IsTrue old.is_honest → (held : Documents) × HoldsJointFile old.content held × (0 < map.len held)))
@@ -440,8 +438,8 @@ EndsEarly old set (Err moves.Device) = MayNotLoad old (old.load_plan ≡ LoadsOp
 EndsEarly old set (Err moves.Memory) = MayNotLoad old (IsTrue old.may_lack_memory) (IsTrue set.may_lack_memory)
 EndsEarly old set (Err fault) = IsTrue old.is_honest → IsSomeAnd old.content (λ bytes. HasJointFileFault bytes fault)
 
--- The old store holds these documents, and the saves of the first k that the set lacked are done. These were not to
--- fail, and leave each plan.
+-- The old store holds these documents, and the first k that the set lacked are saved. These saves were not to fail, and
+-- leave each plan.
 pub record MoveReaches (old : Saved) (set : SavedSet) (held : Documents) (k : ℕ) (now : SavedSet) : Type 0 where
   pub joint : IsTrue old.is_honest → HoldsJointFile old.content held
   pub some : 0 < map.len held
@@ -449,7 +447,7 @@ pub record MoveReaches (old : Saved) (set : SavedSet) (held : Documents) (k : �
   pub same : now ≡ record set { content = now.content }
   pub planned : 0 < k → PlanAllows set.save_plan Done set.save_plan
 
--- the answer by the last save, before which that many keys were written
+-- the answer by the last save, before which this many keys were written
 abbrev pub move_answer : ℕ → Result (Unit {0}) StoreFault → Result ℕ MoveFault
 move_answer written (Ok _) = Ok written
 move_answer written (Err fault) = Err (move_fault_of fault)
@@ -470,11 +468,11 @@ pub data Moves (old : Saved) (set : SavedSet) (result : Result ℕ MoveFault) (o
 
 -- ---- what is joined
 
--- the file of a document: that of the set, or else that of what the joint file has of it
+-- the file of a document: the set's or, if it has none, that of what the joint file has of it
 abbrev pub file_in_either : Contents → Documents → ℕ → Option (List ℕ)
 file_in_either content held id = option_or (map.get content id) (option_map (file id) (map.get held id))
 
--- Whatever documents the old store holds: what it and the set hold together is what it was.
+-- Whatever documents the old store holds, it and the set hold together what they held before.
 abbrev pub KeepsFiles : Saved → SavedSet → Saved → SavedSet → Type 0
 KeepsFiles old set old_after set_after = IsTrue old.is_honest → IsTrue set.is_honest →
     (held : Documents) → HoldsJointFile old.content held → (kept : Documents) × HoldsJointFile old_after.content kept

@@ -9,7 +9,7 @@ use Rattle.dm_assembly_desk.specs.declared.file.FileFault.TheVariants.{NotPages,
 use Rattle.dm_store.specs.Saved.{Contents, SavedSet}
 use Rattle.dm_assembly_desk.specs.declared.reply.Held.{Held}
 
--- Page m of a document stands at place m - 1, with its bytes where it is held. There are as many places as pages.
+-- Page m of a document stands at place m - 1, with its bytes if it is held. There are as many places as pages.
 abbrev pub Pages : Type 0
 Pages = List (Option (List ℕ))
 
@@ -53,7 +53,7 @@ missing_mask (p ∷ ps) = 2 * missing_mask ps + (if is_none p then 1 else 0)
 abbrev pub lent_bytes : Option (Bor (List ℕ)) → Option (List ℕ)
 lent_bytes lent = option_copied lent
 
--- each page that is held, and of those that are not the page that is given
+-- each page that is held and, for those that are not, the page that is given
 abbrev pub union_of_pages : Pages → Pages → Pages
 union_of_pages [] given = given
 union_of_pages (p ∷ ps) [] = p ∷ ps
@@ -77,7 +77,7 @@ agree [] given = true
 agree (p ∷ ps) [] = true
 agree (p ∷ ps) (q ∷ qs) = agrees_at p q && agree ps qs
 
--- what is given may be added to what is held: it is of as many pages, and each page that is held has the same bytes
+-- what is given may be added to what is held: it has as many pages, and each page that is also held has the same bytes
 abbrev pub may_join : Option Pages → Pages → Bool
 may_join None given = true
 may_join (Some own) given = length own == length given && agree own given
@@ -99,7 +99,7 @@ page_in_file (Some bytes) = with_length bytes
 abbrev pub pages_in_file : Pages → List ℕ
 pages_in_file pages = flat_map page_in_file pages
 
--- the two codewords of the ID, how many pages the document has, the mask of those that are held, and these
+-- the two codewords of the ID, how many pages the document has, the mask of those that are held, and those pages
 abbrev pub entry : ℕ → Pages → List ℕ
 entry id pages = id_words id ++ length pages ∷ to_be_bytes w16 (mask pages) ++ pages_in_file pages
 
@@ -107,7 +107,7 @@ entry id pages = id_words id ++ length pages ∷ to_be_bytes w16 (mask pages) ++
 abbrev pub IsShort : Option (List ℕ) → Type 0
 IsShort p = IfSome p (λ bytes. length bytes ≤ MOST_PAGE_BYTES)
 
--- what has an entry: an ID, and 2 to 16 pages, of which one is held at least
+-- what has an entry: an ID, and 2 to 16 pages, of which at least one is held
 pub record IsEntry (id : ℕ) (pages : Pages) : Type 0 where
   pub id_fits : id < 64516
   pub least : 2 ≤ length pages
@@ -121,12 +121,12 @@ pub record IsEntry (id : ℕ) (pages : Pages) : Type 0 where
 unfoldable pub file : ℕ → Pages → List ℕ
 file id pages = 68 ∷ 77 ∷ 80 ∷ 71 ∷ 2 ∷ entry id pages
 
--- the bytes are the file of these pages of the document of this ID
+-- the bytes are the file of these pages of the document with this ID
 pub record SpellsFile (id : ℕ) (bytes : List ℕ) (pages : Pages) : Type 0 where
   pub sound : IsEntry id pages
   pub spelled : bytes ≡ file id pages
 
--- the bytes are a file of the document of this ID
+-- the bytes are a file of the document with this ID
 abbrev pub IsFile : ℕ → List ℕ → Type 0
 IsFile id bytes = (pages : Pages) × SpellsFile id bytes pages
 
@@ -140,7 +140,7 @@ IsMarked bytes = take 4 bytes ≡ 68 ∷ 77 ∷ 80 ∷ 71 ∷ []
 abbrev pub IsOfOtherVersion : List ℕ → Type 0
 IsOfOtherVersion bytes = IsSomeAnd (slice_get bytes 4) (λ version. version ≢ 2)
 
--- why the bytes are no file of the document of this ID
+-- why the bytes are no file of the document with this ID
 abbrev pub HasFileFault : ℕ → List ℕ → FileFault → Type 0
 HasFileFault id bytes NotPages = ¬ IsMarked bytes
 HasFileFault id bytes Version = IsMarked bytes × IsOfOtherVersion bytes
@@ -154,11 +154,11 @@ HasNoFile bytes Damaged = IsMarked bytes × (¬ IsOfOtherVersion bytes) × ((id 
 
 -- ---- What a desk holds, a finite map from IDs to the pages of their documents, and the set that keeps it.
 
--- the pages of each document of which one is held, by the number of its ID
+-- the pages of each document of which at least one is held, by its ID
 abbrev pub Documents : Type 0
 Documents = map.FinMap nat_cmp Pages
 
--- the pages of a document; none where none is held
+-- the pages of a document; none if none is held
 abbrev pub own_pages : Documents → ℕ → Pages
 own_pages held id = unwrap_or (map.get held id) []
 
@@ -166,7 +166,7 @@ own_pages held id = unwrap_or (map.get held id) []
 abbrev pub page_at : Documents → ℕ → ℕ → Option (List ℕ)
 page_at held id m = page (own_pages held id) m
 
--- how many pages a document of which one is held has; 0 for any other
+-- how many pages the document has, if any is held, and else 0
 abbrev pub count_at : Documents → ℕ → ℕ
 count_at held id = length (own_pages held id)
 
@@ -178,19 +178,19 @@ KeepsPages old new = (id m : ℕ) (bytes : List ℕ) → page_at old id m ≡ So
 abbrev pub AreEntries : Documents → Type 0
 AreEntries held = (id : ℕ) (pages : Pages) → map.get held id ≡ Some pages → IsEntry id pages
 
--- the set holds the file of each document under the number of its ID, and nothing else
+-- the set holds the file of each document under its ID, and nothing else
 pub record HoldsFiles (content : Contents) (held : Documents) : Type 0 where
   pub entries : AreEntries held
   pub files : (id : ℕ) → map.get content id ≡ option_map (file id) (map.get held id)
 
--- its set, what it holds, for how many documents it has room, and whether a save failed
+-- a desk's set, what it holds, its capacity, and whether a save failed
 pub record DeskView : Type 0 where
   pub saved : SavedSet
   pub held : Documents
   pub capacity : ℕ
   pub is_failed : Bool
 
--- the room that a desk may have
+-- a capacity that a desk may have
 pub record IsCapacity (capacity : ℕ) : Type 0 where
   pub least : 1 ≤ capacity
   pub most : capacity ≤ MOST_CAPACITY
@@ -203,10 +203,10 @@ pub record DeskIsInOrder (desk : DeskView) : Type 0 where
   pub entries : AreEntries desk.held
   pub saved : desk.is_failed ≡ false → IsTrue desk.saved.is_honest → HoldsFiles desk.saved.content desk.held
 
--- the list of what a desk holds
+-- what a desk says of a document that it holds
 abbrev pub summary : ℕ × Pages → Held
 summary e = record { id = e.0; n = length e.1; mask = mask e.1 }
 
--- one of each document, by rising ID
+-- the same of each document, by rising ID
 abbrev pub summaries : Documents → List Held
 summaries held = each summary (map.entries held)

@@ -1,19 +1,19 @@
 //! Desks, which gather the pages of documents from scanned labels, and save each document in a file of its own.
 //!
-//! [`Desk::open`] makes a desk over a set of stores, which holds the documents whose files the set has, and settles what
-//! it found; after [`Desk::open_unsettled`] that is left to [`Desk::settle`].
-//! [`Desk::accept`] opens a scanned label and saves its page, [`Desk::pages`] lends what is held of a document,
-//! [`Desk::held`] lists all documents, [`Desk::document`] joins the pages of one where each of them is held, and
-//! [`Desk::forget`] lets it go. [`Desk::export`] gives the pages held of a document as a file, and [`Desk::import`]
-//! adds those of such a file. [`move_pages`] moves the documents of a file of version 1, in which all stand together,
-//! to a set. [`held_at`] and [`JointFile`] say without a desk what one file holds.
+//! [`Desk::open`] makes a desk over a set of stores. It holds the documents whose files the set has, and settles what
+//! it found; after [`Desk::open_unsettled`] that is left to [`Desk::settle`]. [`Desk::accept`] opens a scanned label
+//! and saves its page, [`Desk::pages`] lends what is held of a document, [`Desk::held`] lists all documents,
+//! [`Desk::document`] joins the pages of one if all of them are held, and [`Desk::forget`] drops it. [`Desk::export`]
+//! gives the held pages of a document as a file, and [`Desk::import`] adds those of such a file. [`move_pages`] moves
+//! the documents of a joint file, in which version 1 kept them all, to a set. [`held_at`] and [`JointFile`] say without
+//! a desk what one file holds.
 //!
-//! Proved: each answer is that to what is held, and each refusal the first that applies. A page is saved before it is
-//! answered, and one that is held keeps its bytes until its document is forgotten, or a `forget` answers `Save`. A
-//! document is given only where each of its pages is held, and then it is these, joined in order. A call on one
-//! document leaves all others. Every refusal but a failed save leaves the desk and its set as they were; after one that
-//! failed the set holds the old or the new file, and the desk answers `Failed` until it is opened again. A desk that is
-//! opened on what an honest set kept holds exactly that. A file that is looked at without a desk is described as it is,
+//! Proved: each answer follows from what is held, and each refusal is the first that applies. A page is saved before it
+//! is answered, and a held page keeps its bytes until its document is forgotten, or a `forget` answers `Save`. A
+//! document is given only if each of its pages is held, and then it is these, joined in order. A call on one document
+//! leaves all others. Every refusal but a failed save leaves the desk and its set as they were; after a failed save the
+//! set holds the old or the new file, and the desk answers `Failed` until it is opened again. A desk that is opened on
+//! what an honest set kept holds exactly that. A file that is looked at without a desk is described as it is,
 //! or the reason is named why it is no file of pages.
 #![tactic(auto)]
 

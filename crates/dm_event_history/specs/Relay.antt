@@ -8,8 +8,8 @@ use Rattle.dm_assembly_desk.specs.Documents.{Pages, Documents}
 use Rattle.dm_size.specs.declared.size.Size.{Size}
 use Rattle.dm_encodation.specs.declared.scheme.Scheme.{Scheme}
 
--- one that runs shows what its store holds; one whose save failed shows what it did before, and its store holds that or
--- what it was to save; one that is down shows nothing
+-- A printer or desk with content C. If it runs, it shows what its store holds. If a save failed, it shows what it
+-- showed before, and its store holds either that or the new content. If it is down, it shows nothing.
 pub data Actor (C : Type 0) : Type 0 where
   Running : C → Actor C
   Failed : C → C → Actor C
@@ -25,13 +25,13 @@ content_shown (Running held) = Some held
 content_shown (Failed shown stored) = Some shown
 content_shown (Down stored) = None
 
--- all that it shows and stores is so
+-- this holds of all that it shows and stores
 abbrev pub HasAll : {C : Type 0} → (C → Type 0) → Actor C → Type 0
 HasAll Q (Running held) = Q held
 HasAll Q (Failed shown stored) = Q shown × Q stored
 HasAll Q (Down stored) = Q stored
 
--- a desk has room for that many documents
+-- a desk, and how many documents it has room for
 pub record Desk : Type 0 where
   pub capacity : ℕ
   pub actor : Actor Documents
@@ -43,7 +43,7 @@ pub record CutDocument : Type 0 where
   pub scheme : Scheme
   pub parts : List (List ℕ)
 
--- a label that left: its page, the document that it is cut from, and its grid
+-- a label that left: its page, the document that it was cut from, and its grid
 pub record Label : Type 0 where
   pub page : PageView
   pub cut : CutDocument
@@ -54,14 +54,14 @@ pub record Export : Type 0 where
   pub id : ℕ
   pub pages : Pages
 
--- where numbers went: one to a print, those of a ticket to the printer that took it, those of a range nowhere, since
--- their ticket was saved as given and did not leave
+-- where IDs went: one was used by a print; those of a ticket went to the printer that took it; those of a range were
+-- lost, since their ticket was saved as given and did not leave
 pub data Move : Type 0 where
   Used : ℕ → Move
   Took : ℕ → Move
   Lost : Range → Move
 
--- what leaves by a call, and the numbers that it moves
+-- what leaves by a call, and the IDs that it moves
 pub record Goods : Type 0 where
   pub labels : List Label
   pub tickets : List TicketView
@@ -71,7 +71,7 @@ pub record Goods : Type 0 where
 abbrev pub no_goods : Goods
 no_goods = record { labels = []; tickets = []; exports = []; moves = [] }
 
--- the printers and desks by their numbers; and what left and which numbers moved, the first of them first
+-- the printers and desks, by their numbers; and what left and which IDs moved, in order
 pub record Relay : Type 0 where
   pub printers : List (Actor LedgerView)
   pub desks : List Desk
@@ -80,7 +80,7 @@ pub record Relay : Type 0 where
   pub exports : List Export
   pub moves : List Move
 
--- that printer, or that desk, is so from now on, and these goods left
+-- the relay in which this printer or desk has changed, and these goods left
 abbrev pub with_printer : Relay → ℕ → Actor LedgerView → Goods → Relay
 with_printer relay printer actor goods = record {
   printers = slice_set relay.printers printer actor;
@@ -101,7 +101,7 @@ with_desk relay number desk goods = record {
   moves = relay.moves ++ goods.moves;
 }
 
--- printers, numbered on from there, of whose ranges nothing was used
+-- printers with these unused ranges, numbered from `number` on
 abbrev pub fresh_from : ℕ → List Range → List (Actor LedgerView)
 fresh_from number [] = []
 fresh_from number (range ∷ ranges) = Running (opening number range) ∷ fresh_from (number + 1) ranges
@@ -109,7 +109,7 @@ fresh_from number (range ∷ ranges) = Running (opening number range) ∷ fresh_
 abbrev pub empty_desk : ℕ → Desk
 empty_desk capacity = record { capacity = capacity; actor = Running finite.empty }
 
--- a relay that begins
+-- the relay that a run begins with
 abbrev pub start : List Range → List ℕ → Relay
 start ranges capacities = record {
   printers = fresh_from 0 ranges;

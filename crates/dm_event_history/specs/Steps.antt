@@ -1,5 +1,4 @@
--- What becomes of a call: it is made, it is stopped, its save fails, or memory is refused. Then what each call comes
--- to.
+-- What becomes of a call: it is done or stopped, or its save fails, or memory is refused. Then what each call comes to.
 use Rattle.std.specs.Prelude.{◌≡◌, ◌⊎◌, ℕ, [], ◌++◌, map, take, ◌+◌, Option, None, Some, List, ◌∷◌, length, Result, Ok, Err, IsOk, IsSomeAnd, IsTrue, is_some, ◌==◌, Bool, false, true, ◌<◌, slice_get, All}
 use Rattle.dm_store.specs.declared.fuse.Kept.TheVariants.{Old, New}
 use Rattle.dm_print_ledger.specs.Ledger.{TicketView, LedgerView, is_sound, is_range}
@@ -36,24 +35,24 @@ use Rattle.dm_assembly_desk.specs.declared.fault.DeskFault.TheVariants as desk_f
 
 -- ---- calls
 
--- What a call comes to, where nothing is to happen to it: it saves this, lets these goods out and answers so, or it
--- answers without a save, or memory for it is refused.
+-- What a call comes to if nothing stops it: it saves this content, lets these goods out and gives this answer; or it
+-- answers without a save; or memory for it is refused.
 pub data Course (A C : Type 0) : Type 0 where
   Saves : C → Goods → Reply A → Course A C
   Answers : Reply A → Course A C
   LacksMemory : Course A C
 
--- how a call of one kind tells that its printer or desk has failed, that its save did, and that its memory was refused
+-- the replies of a kind of call when its printer or desk had failed, when its save fails, and when memory is refused
 pub record Faults (A : Type 0) : Type 0 where
   pub failed : Reply A
   pub save : Reply A
   pub memory : Reply A
 
--- a call that is refused so tells these
+-- those of a kind of call that is refused in this way
 abbrev pub faults_of : {A F : Type 0} → (F → Reply A) → F → F → F → Faults A
 faults_of refused failed save memory = record { failed = refused failed; save = refused save; memory = refused memory }
 
--- a call ends: it is answered so, its printer or desk is so, and these goods left
+-- how a call ends: with this reply, with its printer or desk like this, and with these goods
 pub record Ending (A C : Type 0) : Type 0 where
   pub reply : Reply A
   pub actor : Actor C
@@ -66,7 +65,7 @@ ending reply actor goods = record { reply = reply; actor = actor; goods = goods 
 abbrev pub lost : TicketView → Move
 lost ticket = Lost ticket.range
 
--- of a call that saved and was not answered at most a number of labels left, and no ticket
+-- if a call saved and was not answered, at most this many of its labels left, and no ticket
 abbrev pub cut_off : ℕ → Goods → Goods
 cut_off most goods = record {
   labels = take most goods.labels;
@@ -75,9 +74,9 @@ cut_off most goods = record {
   moves = goods.moves ++ map lost goods.tickets;
 }
 
--- The table: how a call that comes to this ends under a stop.
+-- The table: how a call ends, by its stop and by what it comes to.
 abbrev pub ends : {A C : Type 0} → Faults A → Stop → Course A C → Actor C → Ending A C
--- stopped before the new content is stored, whatever it would have come to
+-- it is stopped before the new content is stored, whatever it would have come to
 ends faults BeforeSave course old = ending replies.Stopped (Down (stored_of old)) no_goods
 ends faults (InSave Old) course old = ending replies.Stopped (Down (stored_of old)) no_goods
 -- it saves
@@ -91,46 +90,46 @@ ends faults stops.None (Answers reply) old = ending reply old no_goods
 ends faults (SaveFault kept) (Answers reply) old = ending reply old no_goods
 ends faults (InSave New) (Answers reply) old = ending replies.Stopped (Down (stored_of old)) no_goods
 ends faults (AfterLabels most) (Answers reply) old = ending replies.Stopped (Down (stored_of old)) no_goods
--- its memory is refused
+-- memory is refused
 ends faults stops.None LacksMemory old = ending faults.memory old no_goods
 ends faults (SaveFault kept) LacksMemory old = ending faults.memory old no_goods
 ends faults (InSave New) LacksMemory old = ending replies.Memory old no_goods
 ends faults (AfterLabels most) LacksMemory old = ending replies.Memory old no_goods
 
--- A call that is stopped before the new content is stored is not asked what it comes to.
+-- If a call is stopped before the new content is stored, nothing is asked of what it comes to.
 abbrev pub Reaches : Stop → Type 0 → Type 0
 Reaches BeforeSave Came = Unit {0}
 Reaches (InSave Old) Came = Unit {0}
 Reaches stop Came = Came
 
--- A call of a printer or a desk that saves, by what it comes to where that runs. One that has failed answers so; one
--- that is down is not called, and no stop is taken notice of.
+-- A saving call of a printer or desk, by what it comes to if that runs. One that has failed says so; one that is down
+-- is not called, and then the stop has no effect.
 abbrev pub Calls : {A C : Type 0} → Faults A → Stop → (C → Course A C → Type 0) → Actor C → Ending A C → Type 0
 Calls {A} {C} faults stop Comes (Running held) end =
     (course : Course A C) × Reaches stop (Comes held course) × (end ≡ ends faults stop course (Running held))
 Calls faults stop Comes (Failed shown stored) end = end ≡ ends faults stop (Answers faults.failed) (Failed shown stored)
 Calls faults stop Comes (Down stored) end = end ≡ ending replies.Down (Down stored) no_goods
 
--- Memory may be refused first, for what the relay keeps of the call: then nothing changes.
+-- Memory may be refused first, for what the world keeps of the call; then nothing changes.
 abbrev pub MayLackFirst : {A C : Type 0} → (Actor C → Ending A C → Type 0) → Actor C → Ending A C → Type 0
 MayLackFirst Acts (Running held) end = (end ≡ ending replies.Memory (Running held) no_goods) ⊎ Acts (Running held) end
 MayLackFirst Acts (Failed shown stored) end =
     (end ≡ ending replies.Memory (Failed shown stored) no_goods) ⊎ Acts (Failed shown stored) end
 MayLackFirst Acts (Down stored) end = Acts (Down stored) end
 
--- A call that saves nothing is answered by what is shown, also by one that has failed.
+-- A call that saves nothing is answered from what is shown, even by one that has failed.
 abbrev pub Looks : {A C : Type 0} → (C → Reply A → Goods → Type 0) → Actor C → Ending A C → Type 0
 Looks Tells (Running held) end = Tells held end.reply end.goods × (end.actor ≡ Running held)
 Looks Tells (Failed shown stored) end = Tells shown end.reply end.goods × (end.actor ≡ Failed shown stored)
 Looks Tells (Down stored) end = end ≡ ending replies.Down (Down stored) no_goods
 
--- A restart runs on with what is stored; where memory is refused, which `refused` tells, it is down.
+-- After a restart it runs with what is stored; if memory is refused, the reply is `refused`, and it is down.
 abbrev pub Restarts : {A C : Type 0} → Reply A → Actor C → Ending A C → Type 0
 Restarts refused old end =
     (end ≡ ending replies.Restarted (Running (stored_of old)) no_goods)
     ⊎ (end ≡ ending refused (Down (stored_of old)) no_goods)
 
--- What a verdict on a ledger comes to: it is saved and this leaves by it, or it is the answer.
+-- What a verdict on a ledger comes to: the new ledger is saved and goods leave, or the fault is the answer.
 abbrev pub IsCourse : {A F : Type 0} → (F → Reply A) → Result LedgerView F → (Goods → Reply A → Type 0) →
     Course A LedgerView → Type 0
 IsCourse refuses verdict Leaves (Saves next goods reply) = (verdict ≡ Ok next) × Leaves goods reply
@@ -147,13 +146,13 @@ abbrev pub HasParts : Size → Scheme → List ℕ → Option (List (List ℕ)) 
 HasParts size scheme document None = HasNoEnds size scheme document
 HasParts size scheme document (Some parts) = AreParts size scheme document parts
 
--- it is the label of this page of the document
+-- the label is that of this page of the document
 pub record IsLabelFor (cut : CutDocument) (page : PageView) (label : Label) : Type 0 where
   pub page_is : label.page ≡ page
   pub cut_is : label.cut ≡ cut
   pub grid_is : IsLabelOf cut.size cut.scheme page label.grid
 
--- they are, in order, the labels of these parts of the document, from page m on
+-- the labels are, in order, those of these parts of the document, from page m on
 abbrev pub AreLabelsFor : CutDocument → ℕ → ℕ → List (List ℕ) → List Label → Type 0
 AreLabelsFor cut id m [] [] = Unit {0}
 AreLabelsFor cut id m (part ∷ parts) (label ∷ labels) =
@@ -187,7 +186,7 @@ PrintComes before document size scheme ledger course =
 abbrev pub give_faults : {A : Type 0} → Faults A
 give_faults = faults_of GiveRefused give_fault.Failed give_fault.Save give_fault.Memory
 
--- what a give comes to: the numbers leave by a ticket; a number of tickets left before
+-- what a give comes to: the IDs leave on a ticket, after `before` other tickets
 abbrev pub GiveComes : {A : Type 0} → ℕ → ℕ → Range → LedgerView → Course A LedgerView → Type 0
 GiveComes before receiver range ledger course =
     IsTrue (is_sound ledger) × IsCourse GiveRefused (give_verdict ledger receiver range) (λ goods reply.
@@ -199,7 +198,7 @@ GiveComes before receiver range ledger course =
 abbrev pub take_faults : {A : Type 0} → Faults A
 take_faults = faults_of TakeRefused take_fault.Failed take_fault.Save take_fault.Memory
 
--- what a take comes to: the numbers of the ticket, which left under this number, are free here
+-- what a take comes to: the IDs of the ticket, which left as number `number`, are free here
 abbrev pub TakeComes : {A : Type 0} → ℕ → TicketView → LedgerView → Course A LedgerView → Type 0
 TakeComes number ticket ledger course =
     IsTrue (is_sound ledger) × IsTrue (is_range ticket.range) × IsCourse TakeRefused (take_verdict ledger ticket) (λ goods reply.
@@ -210,11 +209,11 @@ abbrev pub IsSaving : {A C : Type 0} → Course A C → Type 0
 IsSaving (Saves next goods reply) = Unit {0}
 IsSaving course = ⊥
 
--- A call comes to what is wanted of it; if that is a save, memory for it may be refused.
+-- A call comes to what is wanted; if that is a save, memory for it may be refused.
 abbrev pub MayBe : {A C : Type 0} → Course A C → Course A C → Type 0
 MayBe wanted course = (course ≡ wanted) ⊎ ((course ≡ LacksMemory) × IsSaving wanted)
 
--- what a verdict comes to; `tells` makes a reply of its answer
+-- what a verdict comes to; `tells` turns its answer into a reply
 abbrev pub verdict_course : {A R : Type 0} → (R → Reply A) → Verdict R → Course A Documents
 verdict_course tells (Stays answer) = Answers (tells answer)
 verdict_course tells (Becomes next answer) = Saves next no_goods (tells answer)
@@ -228,11 +227,11 @@ abbrev pub scan_reply : {A : Type 0} → Result Accepted ScanFault → Reply A
 scan_reply (Ok accepted) = Scanned accepted
 scan_reply (Err fault) = ScanRefused fault
 
--- of a page that is added
+-- the reply to a scan whose page was added with this outcome
 abbrev pub page_reply : {A : Type 0} → PageView → Result imported_type.Imported AddFault → Reply A
 page_reply page added = scan_reply (scan_of page added)
 
--- what a scan comes to, by what its grid is read as: of the document its page alone is added
+-- what a scan comes to, by what its grid is read as: that page alone is added
 abbrev pub scan_course : {A : Type 0} → ℕ → Documents → Result PageView LabelFault → Course A Documents
 scan_course capacity held (Ok page) = verdict_course (page_reply page) (add_verdict capacity held page.id (lone page))
 scan_course capacity held (Err fault) = Answers (ScanRefused (scan_fault.Label fault))
@@ -250,7 +249,7 @@ abbrev pub import_reply : {A : Type 0} → Result imported_type.Imported ImportF
 import_reply (Ok imported) = Imported imported
 import_reply (Err fault) = ImportRefused fault
 
--- of pages that are added
+-- the reply to an import whose pages were added with this outcome
 abbrev pub pages_reply : {A : Type 0} → Result imported_type.Imported AddFault → Reply A
 pages_reply added = import_reply (import_of added)
 
@@ -282,7 +281,7 @@ AskTells id held reply goods =
     (answer : Result (List ℕ) AskFault) × Asks (λ bytes. bytes) (finite.get held id) answer
     × (reply ≡ ask_reply answer) × (goods ≡ no_goods)
 
--- Of what is held of a document the export has the pages; memory for it may be refused. So many left before.
+-- The export has the held pages of the document, and leaves after `before` others; memory for it may be refused.
 abbrev pub ExportsHeld : {A : Type 0} → ℕ → ℕ → Option Pages → Reply A → Goods → Type 0
 ExportsHeld before id None reply goods = (reply ≡ ExportRefused export_fault.NotHeld) × (goods ≡ no_goods)
 ExportsHeld before id (Some pages) reply goods =
@@ -293,14 +292,14 @@ ExportsHeld before id (Some pages) reply goods =
 abbrev pub ExportTells : {A : Type 0} → ℕ → ℕ → Documents → Reply A → Goods → Type 0
 ExportTells before id held reply goods = ExportsHeld before id (finite.get held id) reply goods
 
--- ---- Who acts by an event, which events may have saved, what one event does to a relay, and runs of events.
+-- ---- Who acts in an event, which events may have saved, what an event does to a relay, and runs of events.
 
 -- a printer or a desk, by its number
 pub data Named : Type 0 where
   PrinterAt : ℕ → Named
   DeskAt : ℕ → Named
 
--- the one that an event names
+-- the one that acts in an event
 abbrev pub actor_of : {A : Type 0} → Event A → Named
 actor_of (Print printer document size scheme stop) = PrinterAt printer
 actor_of (Scan desk label flips stop) = DeskAt desk
@@ -313,13 +312,13 @@ actor_of (Take printer ticket stop) = PrinterAt printer
 actor_of (Export desk id) = DeskAt desk
 actor_of (Import desk export stop) = DeskAt desk
 
--- whether two are one
+-- whether they are the same
 abbrev pub is_same : Named → Named → Bool
 is_same (PrinterAt one) (PrinterAt other) = one == other
 is_same (DeskAt one) (DeskAt other) = one == other
 is_same one other = false
 
--- what is to happen to the call of an event; a restart, an ask and an export have no such thing
+-- the stop of an event's call; a restart, an ask and an export have none
 abbrev pub stop_of : {A : Type 0} → Event A → Option Stop
 stop_of (Print printer document size scheme stop) = Some stop
 stop_of (Scan desk label flips stop) = Some stop
@@ -329,18 +328,18 @@ stop_of (Take printer ticket stop) = Some stop
 stop_of (Import desk export stop) = Some stop
 stop_of event = None
 
--- a save that meets a device fault leaves the new content
+-- the save meets a device fault and leaves the new content
 abbrev pub leaves_new : Option Stop → Bool
 leaves_new (Some (SaveFault New)) = true
 leaves_new stop = false
 
--- a call that is stopped had saved, if it came so far
+-- the call is stopped after its save, if it has one
 abbrev pub stops_after_save : Option Stop → Bool
 stops_after_save (Some (InSave New)) = true
 stops_after_save (Some (AfterLabels count)) = true
 stops_after_save stop = false
 
--- whether an event that was answered so may have saved
+-- whether an event with this reply may have saved
 abbrev pub may_save : {A : Type 0} → Event A → Reply A → Bool
 may_save event (Printed id first count) = true
 may_save event (Given index ticket) = true
@@ -357,7 +356,7 @@ may_save event (ImportRefused import_fault.Save) = leaves_new (stop_of event)
 may_save event Stopped = stops_after_save (stop_of event)
 may_save event other = false
 
--- the call is to end before its reply
+-- the call ends before its reply
 abbrev pub IsStopping : Stop → Type 0
 IsStopping stops.None = ⊥
 IsStopping (SaveFault kept) = ⊥
@@ -365,13 +364,13 @@ IsStopping stop = Unit {0}
 
 -- ---- what is there
 
--- the label left, and the modules are in its grid
+-- the label left, and these modules are in its grid
 abbrev pub HasModules : Relay → ℕ → List (ℕ × ℕ) → Type 0
 HasModules relay number flips =
     (label : Label) × (slice_get relay.labels number ≡ Some label)
     × All (λ flip. (flip.0 < side label.grid.size) × (flip.1 < side label.grid.size)) flips
 
--- what an event names is there
+-- all that an event names is there
 abbrev pub IsNamedThere : {A : Type 0} → Relay → Event A → Type 0
 IsNamedThere relay (Print printer document size scheme stop) = printer < length relay.printers
 IsNamedThere relay (Give printer receiver range stop) = printer < length relay.printers
@@ -386,7 +385,7 @@ IsNamedThere relay (RestartDesk desk) = desk < length relay.desks
 
 -- ---- printers and desks
 
--- an event at this printer ends so
+-- this is how an event at this printer ends
 pub record PrinterGoes {A : Type 0} (old : Relay) (printer : ℕ)
     (Acts : Actor LedgerView → Ending A LedgerView → Type 0) (reply : Reply A) (new : Relay) : Type 0 where
   pub actor : Actor LedgerView
@@ -396,7 +395,7 @@ pub record PrinterGoes {A : Type 0} (old : Relay) (printer : ℕ)
   pub reply_is : reply ≡ end.reply
   pub new_is : new ≡ with_printer old printer end.actor end.goods
 
--- an event at this desk ends so, by its room
+-- this is how an event at this desk ends, given its capacity
 pub record DeskGoes {A : Type 0} (old : Relay) (number : ℕ)
     (Acts : ℕ → Actor Documents → Ending A Documents → Type 0) (reply : Reply A) (new : Relay) : Type 0 where
   pub desk : Desk
@@ -406,7 +405,7 @@ pub record DeskGoes {A : Type 0} (old : Relay) (number : ℕ)
   pub reply_is : reply ≡ end.reply
   pub new_is : new ≡ with_desk old number (record { capacity = desk.capacity; actor = end.actor }) end.goods
 
--- an event whose printer, desk, label, ticket or export is there
+-- what an event does if its printer, desk, label, ticket or export is there
 abbrev pub Acts : {A : Type 0} → Relay → Event A → Reply A → Relay → Type 0
 Acts old (Print printer document size scheme stop) reply new =
     PrinterGoes old printer
@@ -433,36 +432,36 @@ Acts old (Export desk id) reply new =
     DeskGoes old desk (λ capacity. MayLackFirst (Looks (ExportTells (length old.exports) id))) reply new
 Acts old (RestartDesk desk) reply new = DeskGoes old desk (λ capacity. Restarts (DeskRefused desk_fault.Memory)) reply new
 
--- one step: an event that names what is not there is answered `NoSuch`, and changes nothing
+-- one step: if something that the event names is not there, the answer is `NoSuch`, and nothing changes
 abbrev pub Step : {A : Type 0} → Relay → Event A → Reply A → Relay → Type 0
 Step old event reply new =
     (IsNamedThere old event × Acts old event reply new)
     ⊎ ((¬ IsNamedThere old event) × (reply ≡ NoSuch) × (new ≡ old))
 
--- an event, what it was answered, and the relay before it
+-- an event, its reply, and the relay before it
 pub record Moment (A : Type 0) : Type 0 where
   pub before : Relay
   pub event : Event A
   pub reply : Reply A
 
--- these moments, the newest of them first, led from a relay to another
+-- these moments, the newest first, led from one relay to another
 abbrev pub IsRun : {A : Type 0} → Relay → List (Moment A) → Relay → Type 0
 IsRun from [] end = end ≡ from
 IsRun from (moment ∷ earlier) end = IsRun from earlier moment.before × Step moment.before moment.event moment.reply end
 
--- these moments, the first of them first, after earlier ones: the newest first
+-- the moments of `onto later earlier` are newest first; those of `later` are given oldest first
 abbrev pub onto : {A : Type 0} → List (Moment A) → List (Moment A) → List (Moment A)
 onto [] earlier = earlier
 onto (moment ∷ later) earlier = onto later (moment ∷ earlier)
 
--- each moment, the first of them first, is that of its event and its reply
+-- the moments, oldest first, are those of these events and replies
 abbrev pub AreMomentsOf : {A : Type 0} → List (Event A) → List (Reply A) → List (Moment A) → Type 0
 AreMomentsOf [] [] [] = Unit {0}
 AreMomentsOf (event ∷ events) (reply ∷ replies) (moment ∷ moments) =
     (moment.event ≡ event) × (moment.reply ≡ reply) × AreMomentsOf events replies moments
 AreMomentsOf events replies moments = ⊥
 
--- an event and what it is answered
+-- an event and its reply
 pub record EventAndReply (A : Type 0) : Type 0 where
   pub event : Event A
   pub reply : Reply A
@@ -470,7 +469,7 @@ pub record EventAndReply (A : Type 0) : Type 0 where
 abbrev pub said : {A : Type 0} → Event A → Reply A → EventAndReply A
 said event reply = record { event = event; reply = reply }
 
--- from this relay on just this may be said, the first of it first
+-- from this relay on, these events may get these replies, in this order
 abbrev pub MaySay : {A : Type 0} → Relay → List (EventAndReply A) → Type 0
 MaySay from [] = Unit {0}
 MaySay from (one ∷ more) = (next : Relay) × Step from one.event one.reply next × MaySay next more

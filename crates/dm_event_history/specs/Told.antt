@@ -1,5 +1,5 @@
--- When replies may be given, and what they tell: who is down, who has failed, why events are refused, and that only
--- memory is open.
+-- When replies may be given, and what they tell: who is down, who has failed, and why events are refused; and that only
+-- memory leaves an outcome open.
 use Rattle.std.specs.Prelude.{◌≡◌, ◌≢◌, ◌+◌, ◌==◌, ◌&&◌, ◌||◌, not, ℕ, Bool, true, false, if◌then◌else◌, None, Option, Some, option_map, ◌<◌, List, [], ◌∷◌, slice_get, ◌↔◌, ◌⊎◌, IsSomeAnd, IsSome, ◌≤◌, length}
 use Rattle.std.specs.{Option.option_map_or, Ordering.nat_cmp, List.Sorted.IsStrictlySortedBy}
 use Rattle.dm_size.specs.declared.size.Size.{Size}
@@ -42,13 +42,13 @@ IsDownAt relay (PrinterAt printer) =
     (actor : Actor LedgerView) × (slice_get relay.printers printer ≡ Some actor) × IsDown actor
 IsDownAt relay (DeskAt number) = (desk : Desk) × (slice_get relay.desks number ≡ Some desk) × IsDown desk.actor
 
--- an event to which one that is down answers `Down`
+-- an event that a printer or desk which is down answers with `Down`
 abbrev pub NeedsRunning : {A : Type 0} → Event A → Type 0
 NeedsRunning (RestartPrinter printer) = ⊥
 NeedsRunning (RestartDesk desk) = ⊥
 NeedsRunning event = Unit {0}
 
--- the event is a call that is to end before its reply
+-- the event is a call that ends before its reply
 abbrev pub IsStopped : {A : Type 0} → Event A → Type 0
 IsStopped event = IsSomeAnd (stop_of event) IsStopping
 
@@ -66,9 +66,9 @@ tells_of_save Forgotten = true
 tells_of_save (Imported imported) = is_new imported.kind
 tells_of_save other = false
 
--- `NoSuch` is answered exactly where something named is not there; else `Down` exactly where the one that is named is
--- down, and this is no restart; else `Stopped` or `Memory` where the call is to end before its reply, and `Stopped`
--- only there. A reply tells of a save only where nothing was to happen to the call.
+-- The reply is `NoSuch` exactly if something that is named is not there; otherwise `Down` exactly if the one that acts
+-- is down and the event is no restart; otherwise `Stopped` or `Memory` if the call ends before its reply, and `Stopped`
+-- only then. A reply tells of a save only if the call has no stop.
 pub record IsLegal {A : Type 0} (old : Relay) (event : Event A) (reply : Reply A) : Type 0 where
   pub no_such : (reply ≡ NoSuch) ↔ (¬ IsNamedThere old event)
   pub down : (reply ≡ replies.Down) ↔ (IsNamedThere old event × NeedsRunning event × IsDownAt old (actor_of event))
@@ -83,7 +83,7 @@ EachStepIsLegal A = (old new : Relay) (event : Event A) (reply : Reply A) → St
 
 -- ---- who is down, and who has failed
 
--- whether the one that answers so is down then, if it was before
+-- whether the one that gives this reply is down after it, given whether it was before
 abbrev pub down_after : {A : Type 0} → Reply A → Bool → Bool
 down_after Stopped before = true
 down_after (PrinterRefused fault) before = true
@@ -93,7 +93,7 @@ down_after NoSuch before = before
 down_after Memory before = before
 down_after other before = false
 
--- whether the one that answers so has failed then, if it had before
+-- whether the one that gives this reply has failed after it, given whether it had before
 abbrev pub failed_after : {A : Type 0} → Reply A → Bool → Bool
 failed_after (PrintRefused print_fault.Save) before = true
 failed_after (GiveRefused give_fault.Save) before = true
@@ -114,7 +114,7 @@ tells_failed (ForgetRefused forget_fault.Failed) = true
 tells_failed (ImportRefused import_fault.Failed) = true
 tells_failed other = false
 
--- its last reply but `Down`, `NoSuch` and `Memory` was `Stopped`, or a restart that was refused
+-- its last reply, `Down`, `NoSuch` and `Memory` aside, was `Stopped` or the refusal of a restart
 abbrev pub is_down : {A : Type 0} → List (Moment A) → Named → Bool
 is_down [] who = false
 is_down (moment ∷ earlier) who =
@@ -131,8 +131,8 @@ IsAsTold down failed (relays.Running held) = (down ≡ false) × (failed ≡ fal
 IsAsTold down failed (relays.Failed shown stored) = (down ≡ false) × (failed ≡ true)
 IsAsTold down failed (relays.Down stored) = down ≡ true
 
--- The printers and desks that are down are those of which the replies tell so; and of those that run just those have
--- failed that answered `Save` since they were last restarted.
+-- The printers and desks that are down are those that replies say are down. Of the others, exactly those have failed
+-- that answered `Save` since their last restart.
 pub record AreAsTold {A : Type 0} (h : List (Moment A)) (relay : Relay) : Type 0 where
   pub printers : (printer : ℕ) (actor : Actor LedgerView) → slice_get relay.printers printer ≡ Some actor →
       IsAsTold (is_down h (PrinterAt printer)) (is_failed h (PrinterAt printer)) actor
@@ -154,8 +154,8 @@ IsFramedSo grid (ScanRefused (scan_fault.Label fault)) = ⊥
 IsFramedSo grid (ScanRefused fault) = HasGoodFrame grid
 IsFramedSo grid reply = Unit {0}
 
--- A fair scan is refused as its label for its finder patterns alone; `Save` is answered only where the save was to
--- fail, and `TooLong` only where the document has no parts.
+-- A fair scan is refused by its label only for its finder patterns. `Save` is answered only if the save was to fail,
+-- and `TooLong` only if the document has no parts.
 pub record IsRefusedSo {A : Type 0} (old : Relay) (event : Event A) (reply : Reply A) : Type 0 where
   pub framed : (desk number : ℕ) (flips : List (ℕ × ℕ)) (stop : Stop) (label : Label) →
       event ≡ Scan desk number flips stop → slice_get old.labels number ≡ Some label → IsFairEvent old event →
@@ -169,15 +169,15 @@ abbrev pub EachStepIsRefusedSo : Type 0 → Type 0
 EachStepIsRefusedSo A = (old new : Relay) (event : Event A) (reply : Reply A) → ArePrinted old.labels →
     Step old event reply new → IsRefusedSo old event reply
 
--- `Failed` is answered only where the printer or the desk answered `Save` since it was last restarted
+-- `Failed` is answered only if the printer or desk answered `Save` since its last restart
 abbrev pub EachFailedFailed : Type 0 → Type 0
 EachFailedFailed A = (ranges : List Range) (capacities : List ℕ) (moment : Moment A) (earlier : List (Moment A))
     (end : Relay) → IsRun (start ranges capacities) (moment ∷ earlier) end → tells_failed moment.reply ≡ true →
     is_failed earlier (actor_of moment.event) ≡ true
 
--- ---- tickets and numbers
+-- ---- tickets and IDs
 
--- no ticket is taken twice, and no take is refused since a number of it is free at its receiver
+-- no ticket is taken twice, and no take is refused because one of its IDs is free at its receiver
 pub record TakesOnce {A : Type 0} (h : List (Moment A)) (relay : Relay) : Type 0 where
   pub once : (i j ticket : ℕ) → slice_get relay.moves i ≡ Some (Took ticket) →
       slice_get relay.moves j ≡ Some (Took ticket) → i ≡ j
@@ -188,12 +188,12 @@ abbrev pub EachRunTakesOnce : Type 0 → Type 0
 EachRunTakesOnce A = (ranges : List Range) (capacities : List ℕ) (h : List (Moment A)) (end : Relay) →
     AreDisjoint ranges → IsRun (start ranges capacities) h end → TakesOnce h end
 
--- how many numbers are free in what a printer stores
+-- how many IDs are free in what a printer stores
 abbrev pub stock : Relay → ℕ → ℕ
 stock relay printer =
     option_map_or (λ (actor : Actor LedgerView). free_count (stored_of actor).free) (slice_get relay.printers printer) 0
 
--- how many numbers a printer loses by an event that saved, and how many it gains
+-- how many IDs a printer loses by an event that saved, and how many it gains
 abbrev pub loses : {A : Type 0} → Relay → Event A → ℕ
 loses before (Print printer document size scheme stop) = 1
 loses before (Give printer receiver range stop) = size_of range
@@ -204,20 +204,20 @@ gains before (Take printer ticket stop) =
     option_map_or (λ (given : TicketView). size_of given.range) (slice_get before.tickets ticket) 0
 gains before event = 0
 
--- an event of the printer saved: it may have, and its reply tells so or the stock is another in the relay after it
+-- an event of the printer saved: it may have, and its reply says so or the stock changed
 abbrev pub has_saved : {A : Type 0} → Moment A → Relay → ℕ → Bool
 has_saved moment after printer =
     is_same (actor_of moment.event) (PrinterAt printer) && may_save moment.event moment.reply
     && (tells_of_save moment.reply || not (stock moment.before printer == stock after printer))
 
--- what the events of a printer that saved count together
+-- the sum of a count over the events of a printer that saved
 abbrev pub sum_saved : {A : Type 0} → (Relay → Event A → ℕ) → List (Moment A) → Relay → ℕ → ℕ
 sum_saved count [] end printer = 0
 sum_saved count (moment ∷ earlier) end printer =
     (if has_saved moment end printer then count moment.before moment.event else 0)
     + sum_saved count earlier moment.before printer
 
--- `Exhausted` is answered only where no number is free: the printer used and gave just what it began with and took
+-- `Exhausted` is answered only if no ID is free: the printer used and gave exactly what it began with and took
 abbrev pub EachExhaustedIsSo : Type 0 → Type 0
 EachExhaustedIsSo A = (ranges : List Range) (capacities : List ℕ) (moment : Moment A) (earlier : List (Moment A))
     (end : Relay) (printer : ℕ) (range : Range) (document : List ℕ) (size : Size) (scheme : Scheme) (stop : Stop) →
@@ -232,7 +232,7 @@ EachExhaustedIsSo A = (ranges : List Range) (capacities : List ℕ) (moment : Mo
 abbrev pub stored_at : Relay → ℕ → Option LedgerView
 stored_at relay printer = option_map (λ (actor : Actor LedgerView). stored_of actor) (slice_get relay.printers printer)
 
--- one for a give, and the serial of the ticket that an event takes, if this is its giver
+-- 1 for a give; and the serial of the ticket that an event takes, if this is its giver
 abbrev pub gives : {A : Type 0} → Relay → Event A → ℕ
 gives before (Give printer receiver range stop) = 1
 gives before event = 0
@@ -242,7 +242,7 @@ serial_from before (Take printer number stop) giver = option_map_or
     (λ (ticket : TicketView). if ticket.giver == giver then Some ticket.serial else None) (slice_get before.tickets number) None
 serial_from before event giver = None
 
--- the serial of the newest ticket from a giver that a printer took by an event that saved
+-- the serial of the newest ticket from a giver that a printer took in an event that saved
 abbrev pub newest_saved : {A : Type 0} → List (Moment A) → Relay → ℕ → ℕ → Option ℕ
 newest_saved [] end printer giver = None
 newest_saved (moment ∷ earlier) end printer giver =
@@ -262,14 +262,14 @@ abbrev pub EachRunCountsTickets : Type 0 → Type 0
 EachRunCountsTickets A = (ranges : List Range) (capacities : List ℕ) (h : List (Moment A)) (end : Relay) (printer : ℕ) →
     IsRun (start ranges capacities) h end → CountsTickets h end printer
 
--- and the newest has the greatest serial
+-- each ticket that is taken has a greater serial than those taken before from its giver
 abbrev pub EachTakeIsLater : Type 0 → Type 0
 EachTakeIsLater A = (ranges : List Range) (capacities : List ℕ) (moment : Moment A) (earlier : List (Moment A)) (end : Relay)
     (printer giver serial last : ℕ) → IsRun (start ranges capacities) (moment ∷ earlier) end →
     has_saved moment end printer ≡ true → serial_from moment.before moment.event giver ≡ Some serial →
     newest_saved earlier moment.before printer giver ≡ Some last → last < serial
 
--- ---- what is open
+-- ---- what is left open
 
 -- the reply tells that memory was refused
 abbrev pub IsOfMemory : {A : Type 0} → Reply A → Type 0
@@ -286,8 +286,8 @@ IsOfMemory (ExportRefused export_fault.Memory) = Unit {0}
 IsOfMemory (DeskRefused desk_fault.Memory) = Unit {0}
 IsOfMemory reply = ⊥
 
--- Nothing is open but memory: two steps from one relay by one event end alike, or one of them was refused memory. And a
--- reply fixes the step: two of one reply end alike, whatever it is.
+-- Only memory leaves an outcome open: two steps from one relay by one event end alike, unless one was refused memory.
+-- And a reply fixes the step: two steps with one reply end alike, whatever it is.
 abbrev pub NothingIsOpenButMemory : Type 0 → Type 0
 NothingIsOpenButMemory A = (old one other : Relay) (event : Event A) (reply answer : Reply A) →
     Step old event reply one → Step old event answer other →
@@ -295,18 +295,18 @@ NothingIsOpenButMemory A = (old one other : Relay) (event : Event A) (reply answ
 
 -- ---- Replies of desks that agree with what was printed, and with what was scanned, imported and forgotten there.
 
--- the label of this number is that of page m of a document
+-- the label with this number is of page m of the document
 abbrev pub IsLabelOfPage : List Label → ℕ → ℕ → ℕ → Type 0
 IsLabelOfPage labels number id m =
     (label : Label) × (slice_get labels number ≡ Some label) × (label.page.id ≡ id) × (label.page.m ≡ m)
 
--- the export of this number has page m of a document
+-- the export with this number has page m of the document
 abbrev pub HasExported : List relays.Export → ℕ → ℕ → ℕ → Type 0
 HasExported exports number id m =
     (export : relays.Export) × (slice_get exports number ≡ Some export) × (export.id ≡ id)
     × IsSome (page export.pages m)
 
--- a scan at the desk was answered with this page, or an import there of an export that has it was done
+-- a scan at the desk was answered with this page, or an export that has it was imported there
 abbrev pub TakesPage : {A : Type 0} → Relay → Event A → Reply A → ℕ → ℕ → ℕ → Type 0
 TakesPage before (Scan desk number flips stop) (Scanned accepted) at id m =
     (desk ≡ at) × (accepted.id ≡ id) × (accepted.m ≡ m)
@@ -314,7 +314,7 @@ TakesPage before (Import desk number stop) (Imported imported) at id m =
     (desk ≡ at) × HasExported before.exports number id m
 TakesPage before event reply at id m = ⊥
 
--- a scan at the desk of a label of this page may have saved, or an import there of an export that has it
+-- a scan of a label of this page may have saved at the desk, or an import of an export that has it may
 abbrev pub MayTake : {A : Type 0} → Relay → Event A → Reply A → ℕ → ℕ → ℕ → Type 0
 MayTake before (Scan desk number flips stop) reply at id m =
     (desk ≡ at) × (may_save (Scan desk number flips stop) reply ≡ true) × IsLabelOfPage before.labels number id m
@@ -322,25 +322,25 @@ MayTake before (Import desk number stop) reply at id m =
     (desk ≡ at) × (may_save (Import desk number stop) reply ≡ true) × HasExported before.exports number id m
 MayTake before event reply at id m = ⊥
 
--- a forget of the document at the desk was answered `Forgotten`
+-- the desk answered `Forgotten` for the document
 abbrev pub ForgetsDocument : {A : Type 0} → Event A → Reply A → ℕ → ℕ → Type 0
 ForgetsDocument (Forget desk name stop) Forgotten at id = (desk ≡ at) × (name ≡ id)
 ForgetsDocument event reply at id = ⊥
 
--- a forget of the document at the desk may have saved
+-- a forget of the document may have saved at the desk
 abbrev pub MayForget : {A : Type 0} → Event A → Reply A → ℕ → ℕ → Type 0
 MayForget (Forget desk name stop) reply at id =
     (desk ≡ at) × (name ≡ id) × (may_save (Forget desk name stop) reply ≡ true)
 MayForget event reply at id = ⊥
 
--- page m of a document is surely held at a desk: a scan or an import took it, and no later forget may have saved
+-- page m of a document is surely held at a desk: a scan or import took it, and no forget may have saved since
 abbrev pub IsSurelyHeld : {A : Type 0} → List (Moment A) → ℕ → ℕ → ℕ → Type 0
 IsSurelyHeld [] desk id m = ⊥
 IsSurelyHeld (moment ∷ earlier) desk id m =
     TakesPage moment.before moment.event moment.reply desk id m
     ⊎ ((¬ MayForget moment.event moment.reply desk id) × IsSurelyHeld earlier desk id m)
 
--- page m of a document is possibly held at a desk: a scan or an import may have saved it, and no later forget was done
+-- page m of a document is possibly held at a desk: a scan or import may have saved it, and no forget was done since
 abbrev pub IsPossiblyHeld : {A : Type 0} → List (Moment A) → ℕ → ℕ → ℕ → Type 0
 IsPossiblyHeld [] desk id m = ⊥
 IsPossiblyHeld (moment ∷ earlier) desk id m =
@@ -351,17 +351,17 @@ IsPossiblyHeld (moment ∷ earlier) desk id m =
 abbrev pub Has : Documents → ℕ → ℕ → Type 0
 Has held id m = IsSome (page_at held id m)
 
--- all that is surely held there is among these, and each of these is possibly held
+-- these include all that is surely held there, and each of them is possibly held
 pub record IsBetween {A : Type 0} (h : List (Moment A)) (desk : ℕ) (held : Documents) : Type 0 where
   pub surely : (id m : ℕ) → IsSurelyHeld h desk id m → Has held id m
   pub possibly : (id m : ℕ) → Has held id m → IsPossiblyHeld h desk id m
 
--- so it is of all that the desks show and store
+-- this holds of all that the desks show and store
 abbrev pub AreBetween : {A : Type 0} → List (Moment A) → Relay → Type 0
 AreBetween h relay = (number : ℕ) (desk : Desk) → slice_get relay.desks number ≡ Some desk →
     HasAll (IsBetween h number) desk.actor
 
--- what was printed under an ID, by the labels that left
+-- what was printed under an ID, going by the labels that left
 abbrev pub docs : List Label → ℕ → Option CutDocument
 docs [] id = None
 docs (label ∷ labels) id = if label.page.id == id then Some label.cut else docs labels id
@@ -392,7 +392,7 @@ pub record IsTrueDocument (known : Known) (desk id : ℕ) (bytes : List ℕ) : T
   pub same : bytes ≡ document.bytes
   pub possibly : (m : ℕ) → 1 ≤ m → m ≤ length document.parts → known.may_hold desk id m
 
--- some but not all pages of the document are named, none of them surely held, and each other possibly held
+-- some but not all pages of the document are named as missing; none of these is surely held, and each other possibly is
 pub record IsTrulyMissing (known : Known) (desk id missing : ℕ) : Type 0 where
   pub document : CutDocument
   pub printed : docs known.labels id ≡ Some document
@@ -404,7 +404,7 @@ pub record IsTrulyMissing (known : Known) (desk id missing : ℕ) : Type 0 where
 
 -- ---- scans
 
--- by the kind of the answer to a scan of page m of n: whether it and the document's other pages are held
+-- what the kind of the answer to a scan of page m of n says of whether it and the other pages are held
 abbrev pub IsKindSafe : Known → ℕ → ℕ → ℕ → ℕ → Kind → Type 0
 IsKindSafe known desk id m n Again = known.may_hold desk id m
 IsKindSafe known desk id m n New =
@@ -412,7 +412,7 @@ IsKindSafe known desk id m n New =
 IsKindSafe known desk id m n Complete =
     (¬ known.holds desk id m) × ((other : ℕ) → 1 ≤ other → other ≤ n → other ≢ m → known.may_hold desk id other)
 
--- the page that was told is that of the scanned label, and of this kind
+-- the answer names the page of the scanned label, and its kind is safe
 pub record IsAcceptedSafe (known : Known) (desk number : ℕ) (accepted : Accepted) : Type 0 where
   pub label : Label
   pub has_left : slice_get known.labels number ≡ Some label
@@ -423,8 +423,7 @@ pub record IsAcceptedSafe (known : Known) (desk number : ℕ) (accepted : Accept
 
 -- ---- exports and imports
 
--- what is exported, of a document of n pages that was printed, is possibly held, and all that is surely held is
--- exported
+-- the document was printed, with n pages; what is exported is possibly held, and all that is surely held is exported
 pub record IsExportSafe (known : Known) (desk id n mask : ℕ) : Type 0 where
   pub document : CutDocument
   pub printed : docs known.labels id ≡ Some document
@@ -432,7 +431,7 @@ pub record IsExportSafe (known : Known) (desk id n mask : ℕ) : Type 0 where
   pub possibly : (m : ℕ) → names mask m ≡ true → known.may_hold desk id m
   pub surely : (m : ℕ) → known.holds desk id m → names mask m ≡ true
 
--- by the kind of the answer to an import of this export, of which these pages were added
+-- what the kind of the answer says, if this export was imported and these of its pages were added
 abbrev pub IsImportKindSafe : Known → ℕ → relays.Export → ℕ → Kind → Type 0
 IsImportKindSafe known desk export added Again = Unit {0}
 IsImportKindSafe known desk export added New =
@@ -440,7 +439,7 @@ IsImportKindSafe known desk export added New =
 IsImportKindSafe known desk export added Complete =
     (m : ℕ) → 1 ≤ m → m ≤ length export.pages → ¬ (names added m ≡ true) → known.may_hold desk export.id m
 
--- what was told is of the export; the pages that were added were not held, and those of it that were not added were
+-- the answer is about the export; the pages that were added were not held, and its other pages were
 pub record IsImportedSafe (known : Known) (desk : ℕ) (export : relays.Export) (imported : imported_type.Imported)
     : Type 0 where
   pub id_is : imported.id ≡ export.id
@@ -454,14 +453,14 @@ pub record IsImportedSafe (known : Known) (desk : ℕ) (export : relays.Export) 
 
 -- ---- desks that are full
 
--- that many other documents have a page that may be held at the desk: these, by rising ID
+-- at least `count` other documents, by rising ID, each have a page that may be held at the desk
 pub record MayHoldOthers (known : Known) (desk id count : ℕ) : Type 0 where
   pub others : List ℕ
   pub enough : count ≤ length others
   pub rising : IsStrictlySortedBy nat_cmp others
   pub each : (i other : ℕ) → slice_get others i ≡ Some other → (other ≢ id) × (m : ℕ) × known.may_hold desk other m
 
--- a desk that is full holds no page of this document, and pages of as many others as it has room for
+-- the desk is full: it holds no page of this document, and pages of as many others as it has room for
 abbrev pub IsFullFor : Relay → Known → ℕ → ℕ → Type 0
 IsFullFor before known number id =
     IsNotSurelyHeld known number id
@@ -469,7 +468,7 @@ IsFullFor before known number id =
 
 -- ---- any reply
 
--- What is so of the reply. A scan, or an import, is never refused for a conflict, nor an import for its export's bytes.
+-- What holds of each reply. No scan or import is refused for a conflict, and no import for the bytes of its export.
 abbrev pub IsSafe : {A : Type 0} → Relay → Known → Event A → Reply A → Type 0
 IsSafe before known (Scan desk number flips stop) (Scanned accepted) = IsAcceptedSafe known desk number accepted
 IsSafe before known (Scan desk number flips stop) (ScanRefused scan_fault.Conflict) = ⊥
@@ -494,12 +493,12 @@ IsSafe before known (Import desk number stop) (ImportRefused import_fault.Full) 
 IsSafe before known event reply = Unit {0}
 
 -- As long as each scan that may have saved its page was fair, desks show and store all that is surely held there, and
--- nothing but what is possibly held.
+-- only what is possibly held.
 abbrev pub EachFairDeskIsBetween : Type 0 → Type 0
 EachFairDeskIsBetween A = (ranges : List Range) (capacities : List ℕ) (h : List (Moment A)) (end : Relay) →
     AreDisjoint ranges → IsRun (start ranges capacities) h end → AreSavedFair h → AreBetween h end
 
--- As long as each scan that may have saved its page was fair each reply is safe, but that to a scan that is not fair.
+-- As long as each scan that may have saved its page was fair, each reply is safe, except to a scan that is not fair.
 abbrev pub EachFairReplyIsSafe : Type 0 → Type 0
 EachFairReplyIsSafe A = (ranges : List Range) (capacities : List ℕ) (moment : Moment A) (earlier : List (Moment A))
     (end : Relay) → AreDisjoint ranges → IsRun (start ranges capacities) (moment ∷ earlier) end → AreSavedFair earlier →

@@ -1,4 +1,4 @@
--- Worked runs, and what would not be one. A document of four digits is printed in two labels of side 12.
+-- Worked runs, and what is no run. A document of four digits is printed on two labels of side 12.
 use Rattle.std.specs.Prelude.{ℕ, List, [], ◌∷◌}
 use Rattle.dm_size.specs.declared.size.Size.TheVariants.{Side12}
 use Rattle.dm_encodation.specs.declared.scheme.Scheme.TheVariants.{Ascii}
@@ -40,7 +40,7 @@ one_printer = start (range 0 9 ∷ []) (4 ∷ 4 ∷ [])
 abbrev pub two_printers : Relay
 two_printers = start (range 0 9 ∷ range 10 19 ∷ []) (4 ∷ [])
 
--- a document is gathered at one desk, and not at the other
+-- a document is gathered at one desk and not at the other
 abbrev pub gathered : (A : Type 0) → List (EventAndReply A)
 gathered A =
     said (print 0 None) (Printed 0 0 2) ∷
@@ -58,7 +58,7 @@ stopped stop id =
     said (RestartPrinter 0) Restarted ∷
     said (print 0 None) (Printed id 0 2) ∷ []
 
--- a range moves, and its ticket is not taken twice; of another that was lost nothing is left
+-- a range moves, and its ticket is not taken twice; of another range, which was lost, nothing is left
 abbrev pub range_moved : (A : Type 0) → List (EventAndReply A)
 range_moved A =
     said (Give 0 1 (range 5 9) None) (Given 0 first_ticket) ∷
@@ -82,7 +82,7 @@ pub record AreRuns (A : Type 0) : Type 0 where
   pub before_is : MaySay one_printer (stopped {A = A} (InSave Old) 0)
   pub moved_is : MaySay two_printers (range_moved A)
 
--- and these are none: a number is used by a save that was done, and by no other
+-- and these are none: an ID is used by a save that was done, and by no other
 pub record AreNone (A : Type 0) : Type 0 where
   pub not_used : ¬ MaySay one_printer (stopped {A = A} (AfterLabels 0) 0)
   pub used : ¬ MaySay one_printer (stopped {A = A} (InSave Old) 1)

@@ -1,4 +1,4 @@
--- Worlds of printers and desks as contracts see them, which relay one shows, and what holds of their runs.
+-- Worlds of printers and desks as contracts see them, which relay a world shows, and what holds of their runs.
 use Rattle.std.specs.Prelude.{◌≡◌, ◌<◌, ℕ, Some, List, length, slice_get, All, ◌≤◌, Bool, true, false, map, ◌∷◌, IsTrue, ◌↔◌, [], codes}
 use Rattle.std.specs.FinMap as finite
 use Rattle.dm_size.specs.Sizes.{side}
@@ -39,14 +39,14 @@ label_name label = (label.id, label.number, label.count)
 abbrev pub AreWithin : GridView → List (ℕ × ℕ) → Type 0
 AreWithin grid flips = All (λ flip. (flip.0 < side grid.size) × (flip.1 < side grid.size)) flips
 
--- what a scan names is there; no other event is looked at
+-- the event is a scan, and what it names is there; no other event is looked at
 abbrev pub IsLookedAt : {A : Type 0} → WorldView A → Event A → Type 0
 IsLookedAt {A} world (Scan desk number flips stop) =
     (desk < length world.desks)
     × (label : LeftLabel A) × (slice_get world.labels number ≡ Some label) × AreWithin label.grid flips
 IsLookedAt world event = ⊥
 
--- the grid of a scan of what is there, its label's with the modules flipped, is near the label's
+-- if the event is a scan of something that is there, its grid is near that of the label
 abbrev pub IsFairIn : {A : Type 0} → WorldView A → Event A → Type 0
 IsFairIn {A} world (Scan desk number flips stop) =
     IsLookedAt world (Scan desk number flips stop) → (label : LeftLabel A) →
@@ -55,13 +55,13 @@ IsFairIn world event = Unit {0}
 
 -- ---- Which relay a world shows.
 
--- an honest store, or set, in which nothing is to fail
+-- the store or set is honest, and nothing in it is to fail
 pub record IsReady (is_honest : Bool) (loads : LoadPlan) (saves : SavePlan) : Type 0 where
   pub honest : is_honest ≡ true
   pub loads_fine : loads ≡ LoadsFine
   pub saves_fine : saves ≡ SavesFine
 
--- the store is as it should be, and holds this ledger
+-- the store is ready, and holds this ledger
 pub record StoresLedger (saved : Saved) (ledger : LedgerView) : Type 0 where
   pub ready : IsReady saved.is_honest saved.load_plan saved.save_plan
   pub holds : HoldsLedger saved ledger
@@ -74,14 +74,14 @@ ShowsPrinter (printer_actors.Running view) (Failed shown stored) =
 ShowsPrinter (printer_actors.Down saved) (Down stored) = StoresLedger saved stored
 ShowsPrinter actor other = ⊥
 
--- the set is as it should be, and holds these documents, for which there is room
+-- the set is ready, and holds these documents, for which there is room
 pub record StoresDocuments (saved : SavedSet) (capacity : ℕ) (held : Documents) : Type 0 where
   pub ready : IsReady saved.is_honest saved.load_plan saved.save_plan
   pub holds : HoldsFiles saved.content held
   pub is_capacity : IsCapacity capacity
   pub few : finite.len held ≤ capacity
 
--- a running desk has this room and holds that
+-- a running desk has this capacity, holds these documents, and its set stores those
 pub record DeskIs (view : DeskView) (capacity : ℕ) (held stored : Documents) (is_failed : Bool) : Type 0 where
   pub store : StoresDocuments view.saved capacity stored
   pub capacity_is : view.capacity ≡ capacity
@@ -120,12 +120,11 @@ pub record Shows {A : Type 0} (world : WorldView A) (relay : Relay) : Type 0 whe
   pub entries : (number : ℕ) (export : Export) → slice_get relay.exports number ≡ Some export →
       IsEntry export.id export.pages
 
--- each range has numbers, all of them of IDs
+-- each range has at least one number, and all its numbers are those of IDs
 abbrev pub AreIdRanges : List Range → Type 0
 AreIdRanges ranges = All (λ range. IsTrue (is_range range)) ranges
 
--- The world, whose printers began with these ranges and whose desks have room for that many documents each. Of the
--- moments of the history the newest is the first.
+-- The world has this history, newest moment first, from printers with these ranges and desks with these capacities.
 pub record StandsFor {A : Type 0} (ranges : List Range) (capacities : List ℕ) (world : WorldView A) (h : List (Moment A))
     : Type 0 where
   pub are_ranges : AreIdRanges ranges
@@ -135,13 +134,13 @@ pub record StandsFor {A : Type 0} (ranges : List Range) (capacities : List ℕ) 
   pub run : IsRun (start ranges capacities) h relay
   pub shows : Shows world relay
 
--- a world that stood for a history stands for it with one moment more, of this event and this reply
+-- a world that stood for a history now stands for it with one more moment, of this event and this reply
 abbrev pub GoesOn : {A : Type 0} → WorldView A → Event A → Reply A → WorldView A → Type 0
 GoesOn {A} old event reply new = (ranges : List Range) (capacities : List ℕ) (h : List (Moment A)) →
     (s : StandsFor ranges capacities old h) →
     StandsFor ranges capacities new (record { before = s.relay; event = event; reply = reply } ∷ h)
 
--- the same of several events, each with its reply
+-- the same for several events, each with its reply
 abbrev pub GoesOnByAll : {A : Type 0} → WorldView A → List (Event A) → List (Reply A) → WorldView A → Type 0
 GoesOnByAll {A} old events replies new = (ranges : List Range) (capacities : List ℕ) (h : List (Moment A)) →
     StandsFor ranges capacities old h →
@@ -149,7 +148,7 @@ GoesOnByAll {A} old events replies new = (ranges : List Range) (capacities : Lis
 
 -- ---- the headline
 
--- a scan of what is there: no other event is looked at
+-- the event is a scan of something that is there; no other event is looked at
 abbrev pub MayBeLookedAt : {A : Type 0} → Relay → Event A → Type 0
 MayBeLookedAt {A} relay (Scan desk number flips stop) = relays.IsNamedThere {A = A} relay (Scan desk number flips stop)
 MayBeLookedAt relay event = ⊥
@@ -159,9 +158,9 @@ abbrev pub first_of : {A : Type 0} → List (Moment A) → Relay → Relay
 first_of [] end = end
 first_of (moment ∷ later) end = moment.before
 
--- The answers to these events are those of the moments of a run, the first of them first. An event that was given is a
--- moment, and was found honest exactly if it is fair. Only a scan of what is there can go without being given, if memory
--- for the look is refused.
+-- The answers to these events are those of the moments of a run, oldest first. An event that was given is a moment, and
+-- was found honest exactly if it is fair. Only a scan of something that is there can fail to be given, if memory for
+-- the look at it is refused.
 abbrev pub AreAnswers : {A : Type 0} → List (Event A) → List (Answer A) → List (Moment A) → Relay → Type 0
 AreAnswers [] [] [] end = Unit {0}
 AreAnswers (event ∷ events) (Given is_honest reply ∷ answers) (moment ∷ later) end =
@@ -171,16 +170,15 @@ AreAnswers (event ∷ events) (NotGiven ∷ answers) later end =
     MayBeLookedAt (first_of later end) event × AreAnswers events answers later end
 AreAnswers events answers moments end = ⊥
 
--- these answers were heard, one after another
+-- these answers were heard one after another
 abbrev pub HearsAll : {A L : Type 0} → (L → Answer A → L → Type 0) → L → List (Answer A) → L → Type 0
 HearsAll hears first [] last = last ≡ first
 HearsAll {A} {L} hears first (answer ∷ answers) last =
     (next : L) × hears first answer next × HearsAll hears next answers last
 
 -- The headline. The events had these answers in a run of a relay whose printers began with these ranges, and whose
--- desks have room for that many documents. No ID was printed twice; whatever document a clean desk gave for an ID is
--- the one document printed under it; and all desks were clean as long as each scan that may have saved its page was
--- fair.
+-- desks have these capacities. No ID was printed twice; whatever document a clean desk gave for an ID is the one
+-- document printed under it; and all desks were clean as long as each scan that may have saved its page was fair.
 pub record IsWatched {A : Type 0} (ranges : List Range) (capacities : List ℕ) (events : List (Event A))
     (answers : List (Answer A)) : Type 0 where
   pub are_ranges : AreIdRanges ranges
@@ -195,7 +193,7 @@ pub record IsWatched {A : Type 0} (ranges : List Range) (capacities : List ℕ) 
 
 -- ---- why no world begins
 
--- the first of these that applies, and memory where none does
+-- the first of these that applies, or memory if none does
 abbrev pub HasWorldFault : List Range → List ℕ → WorldFault → Type 0
 HasWorldFault ranges capacities faults.Range = ¬ AreIdRanges ranges
 HasWorldFault ranges capacities faults.Overlap = AreIdRanges ranges × (¬ AreDisjoint ranges)

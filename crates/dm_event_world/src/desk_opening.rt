@@ -9,14 +9,14 @@ use dm_assembly_desk::{Desk, MOST_CAPACITY};
 use dm_store::MemSet;
 use std::alloc::{AllocError, Allocator};
 
-// Whether a desk may have room for that many documents.
+// Whether a desk may have this capacity.
 fn is_capacity(capacity: u16) -> bool
     ensures { IsTrue result ↔ IsCapacity capacity }
 {
     1 <= capacity && capacity <= MOST_CAPACITY
 }
 
-/// Whether desks may have room for that many documents each.
+/// Whether desks may have these capacities.
 pub(crate) fn are_capacities(capacities: &[u16]) -> bool
     ensures { IsTrue result ↔ All IsCapacity capacities.now }
 {

@@ -1,8 +1,8 @@
 //! Events at one printer.
 //!
-//! A printer that is down answers so. Then the memory that the event itself needs is asked for. A call that is stopped
-//! before its save is not made. Any other is made, the next save's plan being that of the stop; and if it is to end
-//! before its reply the printer is down then, over its store, unless the call's own memory was refused.
+//! A printer that is down says so. Otherwise the memory that the event itself needs is asked for. A call that is
+//! stopped before its save is not made. Any other is made, with the stop's plan for the next save; if it is to end
+//! before its reply, the printer is down afterwards, over its store, unless the call's own memory was refused.
 
 ghost use Rattle.std.specs.Prelude.{◌≡◌, ℕ, false, ◌+◌, ◌≤◌, ◌++◌, [], IfOk, IsTrue, length, take, vec_len, vec_capacity, if◌then◌else◌};
 ghost use Rattle.dm_print_ledger.specs.Verdicts.{Prints, GivesTicket, TakesTicket};

@@ -46,7 +46,7 @@ impl<A: Allocator + Copy> Model for World<A> {
 
 impl<A: Allocator + Copy> World<A> {
     /// A world of printers that were just created, number p with range p, and of desks that hold nothing, number d with
-    /// room for that many documents. Either list may be empty.
+    /// capacity d. Either list may be empty.
     ///
     /// # Errors
     /// `Range`, `Overlap` or `Capacity`, the first that applies; `Memory` where none does and the allocator refuses.

@@ -7,7 +7,7 @@ use Rattle.dm_print_ledger.specs.declared.fault.OpenFault.TheVariants.{NotALedge
 use Rattle.dm_store.specs.Saved.{Saved}
 use Rattle.dm_finder_frame.specs.Frame.{GridView}
 
--- there are numbers in it, each of an ID
+-- it has at least one number, and all of them are those of IDs
 abbrev pub is_range : Range → Bool
 is_range range = nat_le range.first range.last && nat_le range.last GREATEST
 
@@ -43,11 +43,11 @@ abbrev pub last_taken : List Giver → ℕ → Option ℕ
 last_taken [] number = None
 last_taken (giver ∷ givers) number = if giver.number == number then Some giver.serial else last_taken givers number
 
--- a ticket of this serial is not after the last taken from a printer
+-- a ticket with this serial is no newer than the last taken from the printer
 abbrev pub is_old : List Giver → ℕ → ℕ → Bool
 is_old givers number serial = option_map_or (nat_le serial) (last_taken givers number) false
 
--- the givers after a ticket is taken, of which its giver and its serial are given
+-- the givers after a ticket with this giver and serial is taken
 abbrev pub givers_with : List Giver → Giver → List Giver
 givers_with [] last = last ∷ []
 givers_with (giver ∷ givers) last =
@@ -55,7 +55,7 @@ givers_with (giver ∷ givers) last =
     if giver.number == last.number then last ∷ givers else
     last ∷ giver ∷ givers
 
--- they rise by their numbers, from a number on
+-- the givers rise by their numbers, from a number on
 abbrev pub givers_from : ℕ → List Giver → Bool
 givers_from from [] = true
 givers_from from (giver ∷ givers) = nat_le from giver.number && givers_from (giver.number + 1) givers
@@ -84,7 +84,7 @@ pub record TicketView : Type 0 where
   pub receiver : ℕ
   pub range : Range
 
--- its store, its ledger as last known to be saved, and whether a save failed, after which it does nothing more
+-- a printer's store, its ledger as last known to be saved, and whether a save failed, after which it saves nothing more
 pub record PrinterView : Type 0 where
   pub saved : Saved
   pub ledger : LedgerView
@@ -94,7 +94,7 @@ pub record PrinterView : Type 0 where
 abbrev pub running : Saved → LedgerView → PrinterView
 running saved ledger = record { saved = saved; ledger = ledger; is_failed = false }
 
--- its ID, how many labels it had, and those that were not taken yet, in order
+-- a job's ID, how many labels it had, and those that were not taken yet, in order
 pub record JobView : Type 0 where
   pub id : ℕ
   pub count : ℕ
@@ -112,7 +112,7 @@ number_in bytes at = 256 * slice_index bytes at + slice_index bytes (at + 1)
 
 -- ---- version 2
 
--- its free numbers are at most 64 ranges, which rise and do not touch, and its givers at most 64, which rise
+-- its free numbers are in at most 64 ranges, which rise and do not touch, and its at most 64 givers rise
 abbrev pub is_sound : LedgerView → Bool
 is_sound ledger =
     are_ranges ledger.free && nat_le (length ledger.free) MOST_RANGES
@@ -134,7 +134,7 @@ ledger_bytes ledger =
     (length ledger.givers ∷ (flat_map giver_bytes ledger.givers ++
     two_bytes (65535 - free_count ledger.free))))
 
--- what that many pairs of numbers make, from a place on
+-- what is made of this many pairs of numbers, from a place on
 abbrev pub pairs_in : {X : Type 0} → (ℕ → ℕ → X) → List ℕ → ℕ → ℕ → List X
 pairs_in make bytes at zero = []
 pairs_in make bytes at (suc n) = make (number_in bytes at) (number_in bytes (at + 2)) ∷ pairs_in make bytes (at + 4) n
@@ -180,7 +180,7 @@ pub record FirstLedger : Type 0 where
   pub last : ℕ
   pub next : ℕ
 
--- its numbers are in order
+-- the three numbers are in order
 abbrev pub are_in_order : FirstLedger → Bool
 are_in_order ledger =
     nat_le ledger.first ledger.last && nat_le ledger.last GREATEST
@@ -192,11 +192,11 @@ first_bytes ledger =
     68 ∷ 77 ∷ 76 ∷ 71 ∷ 1 ∷ (two_bytes ledger.first ++ (two_bytes ledger.last ++ (two_bytes ledger.next ++
     two_bytes (65535 - ledger.next))))
 
--- the one whose numbers stand in the bytes
+-- the ledger whose numbers stand in the bytes
 abbrev pub first_in : List ℕ → FirstLedger
 first_in bytes = record { first = number_in bytes 5; last = number_in bytes 7; next = number_in bytes 9 }
 
--- It says no number, and knows of no ticket.
+-- what it says: no number of a printer, and no ticket
 abbrev pub shown_of_first : FirstLedger → ShownView
 shown_of_first ledger = record {
   number = None;
@@ -229,7 +229,7 @@ pub data SpellsLedger (bytes : List ℕ) : ShownView → Type 0 where
   first : (ledger : FirstLedger) → IsTrue (are_in_order ledger) → bytes ≡ first_bytes ledger
       → SpellsLedger bytes (shown_of_first ledger)
 
--- bytes are read exactly where they are those of a sound ledger
+-- bytes are read as a ledger exactly if they are those of a sound one
 abbrev pub ReadsWhatIsSpelled : Type 0
 ReadsWhatIsSpelled = (bytes : List ℕ) (shown : ShownView) → (read_ledger bytes ≡ Ok shown) ↔ SpellsLedger bytes shown
 

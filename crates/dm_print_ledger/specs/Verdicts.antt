@@ -1,5 +1,5 @@
--- Printers: how one is created and opened, the verdicts on a print, a give and a take, what ledgers and tickets show
--- of one another, and the names of the faults.
+-- Printers: how one is created and opened, the verdicts on a print, a give and a take, what ledgers and tickets show of
+-- one another, and the names of the faults.
 use Rattle.std.specs.Prelude.{◌≡◌, ◌⊎◌, ℕ, [], ◌∷◌, None, Result, Ok, Err, IsTrue, IsSome, IfOk, MatchBool, ◌+◌, ◌≤◌, ◌↔◌, ◌&&◌, ◌||◌, not, true, false, List, Some, ◌==◌, if◌then◌else◌, length, nat_lt, Bool, ◌-◌, ◌++◌, nat_le, min, max, Option, unwrap_or, IsSomeAnd, is_some, codes, ◌<◌, ◌≢◌, MatchOption}
 use Rattle.std.specs.{Option.option_map_or, Option.option_or, List.list_any, List.Contains}
 use Rattle.dm_store.specs.Saved.{Saved, Replaces, LoadsOpen}
@@ -23,11 +23,11 @@ use Rattle.dm_print_ledger.specs.declared.fault.OpenFault.TheVariants as open_fa
 
 -- ---- creation
 
--- the ledger of a printer with this number of whose range nothing was used
+-- the ledger of a printer with this number and this range, of which nothing was used
 abbrev pub opening : ℕ → Range → LedgerView
 opening number range = record { number = number; next_serial = 0; free = range ∷ []; givers = [] }
 
--- a store before and after a first ledger was to be saved where nothing is held, and how it ended
+-- a store that holds nothing, before and after a first ledger was to be saved, and how that ended
 abbrev pub SavesFirst : {X : Type 0} → Saved → LedgerView → Result X CreateFault → Saved → Type 0
 SavesFirst old ledger (Ok _) new =
     (IsTrue old.is_honest → old.content ≡ None) × Replaces old (ledger_bytes ledger) (Ok tt) new
@@ -38,7 +38,7 @@ SavesFirst old ledger (Err creating.Device) new =
 SavesFirst old ledger (Err creating.Memory) new = (new ≡ old) × IsTrue old.may_lack_memory
 SavesFirst old ledger (Err creating.Range) new = ⊥
 
--- a printer of this number that runs over its store, with this range free, or why there is none
+-- a printer with this number that runs over its store, with this range free, or why there is none
 pub record Creates (old : Saved) (number : ℕ) (range : Range) (answer : Result PrinterView CreateFault) (new : Saved)
     : Type 0 where
   pub saves : MatchBool (is_range range)
@@ -64,25 +64,25 @@ are_free ranges range = list_any (λ one. covers one range) ranges
 abbrev pub has_free : List Range → Range → Bool
 has_free ranges range = list_any (λ one. meets one range) ranges
 
--- the least number of the ranges, if there are some
+-- the least number of the ranges, if there are any
 abbrev pub least : List Range → ℕ
 least [] = 0
 least (one ∷ ranges) = one.first
 
--- the number alone
+-- the range of this number alone
 abbrev pub single : ℕ → Range
 single n = record { first = n; last = n }
 
--- the numbers from one on and below another, if there are some
+-- the numbers from one on and below another, if there are any
 abbrev pub span : ℕ → ℕ → List Range
 span from to = if nat_lt from to then record { first = from; last = to - 1 } ∷ [] else []
 
--- what one range has below another, and above it
+-- the parts of one range below another and above it
 abbrev pub parts : Range → Range → List Range
 parts one range =
     span one.first (min (one.last + 1) range.first) ++ span (max one.first (range.last + 1)) (one.last + 1)
 
--- the ranges without the numbers of one
+-- the ranges without the numbers of one range
 abbrev pub without : List Range → Range → List Range
 without [] range = []
 without (one ∷ ranges) range = parts one range ++ without ranges range
@@ -112,36 +112,36 @@ pub record IsLeastFree (ranges : List Range) (number : ℕ) : Type 0 where
   pub free : is_free ranges number ≡ true
   pub least : (other : ℕ) → is_free ranges other ≡ true → number ≤ other
 
--- the numbers of the range, which were free, are free no longer
+-- the numbers of the range were free, and are free no longer
 pub record TakesOut (old : List Range) (range : Range) (new : List Range) : Type 0 where
   pub ranges : IsTrue (are_ranges new)
   pub free : (number : ℕ) → is_free new number ≡ (is_free old number && not (is_in range number))
   pub count : free_count new + size_of range ≡ free_count old
 
--- the numbers of the range, which were not free, are free too
+-- the numbers of the range were not free, and are now
 pub record PutsIn (old : List Range) (range : Range) (new : List Range) : Type 0 where
   pub ranges : IsTrue (are_ranges new)
   pub free : (number : ℕ) → is_free new number ≡ (is_in range number || is_free old number)
   pub count : free_count new ≡ free_count old + size_of range
 
--- a range beside the ranges: what its tests and changes are
+-- what the tests and changes of a range beside the ranges mean for their numbers
 pub record AreNumbers (ranges : List Range) (range : Range) : Type 0 where
   pub all : (are_free ranges range ≡ true) ↔ AreFree ranges range
   pub none : (has_free ranges range ≡ false) ↔ AreTaken ranges range
   pub taken_out : are_free ranges range ≡ true → TakesOut ranges range (without ranges range)
   pub put_in : has_free ranges range ≡ false → PutsIn ranges range (union_with_range ranges range)
 
--- so it is of all ranges that rise and do not touch
+-- this holds of all ranges that rise and do not touch
 abbrev pub RangesAreNumbers : Type 0
 RangesAreNumbers = (ranges : List Range) (range : Range) → IsTrue (are_ranges ranges)
     → IsTrue (is_range range) → AreNumbers ranges range
 
--- where there are ranges, the first number is the least
+-- if there are ranges, the first number is the least
 abbrev pub FirstIsLeast : Type 0
 FirstIsLeast = (one : Range) (ranges : List Range) → IsTrue (are_ranges (one ∷ ranges))
     → IsLeastFree (one ∷ ranges) (least (one ∷ ranges))
 
--- a ticket of this serial was the last from this printer, and all else is as before
+-- the last ticket from this printer now has this serial, and all else is as before
 pub record NotesSerial (old : List Giver) (number serial : ℕ) (new : List Giver) : Type 0 where
   pub givers : IsTrue (are_givers new)
   pub last : (other : ℕ) → last_taken new other ≡ (if number == other then Some serial else last_taken old other)
@@ -151,13 +151,13 @@ abbrev pub longest : List Range → ℕ
 longest [] = 0
 longest (one ∷ ranges) = max (size_of one) (longest ranges)
 
--- the last numbers, so many, of the last of the ranges that has as many
+-- the last `count` numbers of the last range that has that many
 abbrev pub last_of : List Range → ℕ → Option Range
 last_of [] count = None
 last_of (one ∷ ranges) count = option_or (last_of ranges count) (if nat_le count (size_of one)
     then Some (record { first = one.last + 1 - count; last = one.last }) else None)
 
--- so many numbers that follow one another and are all free, and no other such ones end later
+-- a range of `count` free numbers, and no other such range ends later
 pub record AreLastFree (ranges : List Range) (count : ℕ) (range : Range) : Type 0 where
   pub is : IsTrue (is_range range)
   pub size : size_of range ≡ count
@@ -165,27 +165,27 @@ pub record AreLastFree (ranges : List Range) (count : ℕ) (range : Range) : Typ
   pub last : (other : Range) → IsTrue (is_range other) → size_of other ≡ count → AreFree ranges other
       → other.last ≤ range.last
 
--- at most so many numbers follow one another and are all free, and so many do
+-- the longest range of free numbers has this many
 pub record IsLongest (ranges : List Range) (most : ℕ) : Type 0 where
   pub bound : (range : Range) → IsTrue (is_range range) → AreFree ranges range → size_of range ≤ most
   pub there : (most ≡ 0) ⊎ ((range : Range) × IsTrue (is_range range) × AreFree ranges range × (size_of range ≡ most))
 
--- the last of so many are found, where there are so many
+-- the last `count` are found, if a range has that many
 abbrev pub LastIsFound : Type 0
 LastIsFound = (ranges : List Range) (count : ℕ) → IsTrue (are_ranges ranges) → 1 ≤ count → IsLongest ranges (longest ranges)
     × MatchOption (last_of ranges count) (longest ranges < count) (AreLastFree ranges count)
 
--- givers are noted, each with its last serial
+-- each giver is noted with its last serial
 abbrev pub GiversAreNoted : Type 0
 GiversAreNoted = (givers : List Giver) (last : Giver) → IsTrue (are_givers givers)
     → NotesSerial givers last.number last.serial (givers_with givers last)
 
--- what is read from what a store holds
+-- what the content of a store is read as
 abbrev pub show_verdict : Option (List ℕ) → Result ShownView OpenFault
 show_verdict None = Err Absent
 show_verdict (Some bytes) = read_ledger bytes
 
--- the ledger with which the printer of a number goes on
+-- the ledger with which the printer with this number goes on
 abbrev pub numbered : ℕ → Result ShownView OpenFault → Result LedgerView OpenFault
 numbered number (Err fault) = Err fault
 numbered number (Ok shown) = if unwrap_or shown.number number == number
@@ -199,14 +199,14 @@ open_verdict content number = numbered number (show_verdict content)
 abbrev pub HoldsLedger : Saved → LedgerView → Type 0
 HoldsLedger saved ledger = IsTrue saved.is_honest → open_verdict saved.content ledger.number ≡ Ok ledger
 
--- A call that loads answers the verdict on what an honest store holds, unless the load failed. A load meets a device
--- fault only under an open plan, and lacks memory only where the store's calls may.
+-- A call that loads answers with the verdict on what an honest store holds, unless the load failed. A load meets a
+-- device fault only under an open plan, and lacks memory only if the store's calls may.
 pub record LoadsLedger {X : Type 0} (saved : Saved) (verdict result : Result X OpenFault) : Type 0 where
   pub answer : IsTrue saved.is_honest → (result ≡ verdict) ⊎ ((result ≡ Err Device) ⊎ (result ≡ Err Memory))
   pub device : result ≡ Err Device → saved.load_plan ≡ LoadsOpen
   pub memory : result ≡ Err Memory → IsTrue saved.may_lack_memory
 
--- a printer of this number that runs over the store, or why there is none
+-- a printer with this number that runs over the store, or why there is none
 abbrev pub PrinterOpens : Saved → ℕ → Result PrinterView OpenFault → Type 0
 PrinterOpens saved number (Err fault) = LoadsLedger saved (open_verdict saved.content number) (Err fault)
 PrinterOpens saved number (Ok printer) =
@@ -218,8 +218,8 @@ pub record PrinterIsInOrder (printer : PrinterView) : Type 0 where
   pub sound : IsTrue (is_sound printer.ledger)
   pub held : printer.is_failed ≡ false → HoldsLedger printer.saved printer.ledger
 
--- The next ledger was saved, and is gone on with. Or memory was refused where it may lack, and nothing changed. Or the
--- save met a device fault: the ledger stays, and nothing is saved any more.
+-- The next ledger was saved, and is the printer's from now on. Or memory was refused, if it may be, and nothing
+-- changed. Or the save met a device fault: the ledger stays, and nothing is saved any more.
 abbrev pub SavesLedger : {X F : Type 0} → Type 0 → F → F → LedgerView → PrinterView → Result X F → PrinterView → Type 0
 SavesLedger may_lack memory save next old (Ok _) new =
     Replaces old.saved (ledger_bytes next) (Ok tt) new.saved
@@ -229,9 +229,9 @@ SavesLedger may_lack memory save next old (Err fault) new =
     ⊎ ((fault ≡ save) × Replaces old.saved (ledger_bytes next) (Err replacing.Device) new.saved
     × (new ≡ record old { saved = new.saved; is_failed = true }))
 
--- A printer that failed before answers so, and does nothing. One that runs answers a refusal and does nothing, or saves
--- the ledger of the verdict, which is sound. The first three are the faults that each call has, and then comes where
--- memory may lack.
+-- A printer that failed before says so, and does nothing. One that runs answers a refusal and does nothing, or saves
+-- the ledger of the verdict, which is sound. The first three arguments are the faults that each call has, the fourth is
+-- when memory may be refused.
 pub record CarriesOut {X F : Type 0} (failed_before memory save : F) (may_lack : Type 0) (verdict : Result LedgerView F)
     (old : PrinterView) (result : Result X F) (new : PrinterView) : Type 0 where
   pub in_order : PrinterIsInOrder old
@@ -259,16 +259,16 @@ give_verdict old receiver range =
     if nat_lt MOST_RANGES (length (without old.free range)) then Err giving.Ranges else
     Ok (record old { next_serial = old.next_serial + 1; free = without old.free range })
 
--- the ticket of a range given
+-- the ticket of a range that is given
 abbrev pub ticket_of : LedgerView → ℕ → Range → TicketView
 ticket_of old receiver range =
     record { giver = old.number; serial = old.next_serial; receiver = receiver; range = range }
 
--- the calls of a printer's store may be refused their memory
+-- calls of the printer's store may be refused memory
 abbrev pub MayLack : PrinterView → Type 0
 MayLack printer = IsTrue printer.saved.may_lack_memory
 
--- what a printer answers to a range that it is to give, and what it is then; it takes no memory but the store's
+-- what a printer answers when it is to give a range, and what it is afterwards; it takes no memory but the store's
 abbrev pub GivesTicket : PrinterView → ℕ → Range → Result TicketView GiveFault → PrinterView → Type 0
 GivesTicket old receiver range result new =
     CarriesOut giving.Failed giving.Memory giving.Save (MayLack old) (give_verdict old.ledger receiver range)
@@ -293,14 +293,14 @@ take_verdict old ticket =
       givers = givers_with old.givers (giver_of ticket);
     })
 
--- what a printer answers to a ticket that it is to take, and what it is then; it takes no memory but the store's
+-- what a printer answers when it is to take a ticket, and what it is afterwards; it takes no memory but the store's
 abbrev pub TakesTicket : PrinterView → TicketView → Result (Unit {0}) TakeFault → PrinterView → Type 0
 TakesTicket old ticket result new =
     CarriesOut taking.Failed taking.Memory taking.Save (MayLack old) (take_verdict old.ledger ticket) old result new
 
 -- ---- what ledgers and tickets show of one another
 
--- a ticket shows that its giver gave it, and, if it is open, its numbers
+-- a ticket shows that its giver gave it and, if it is open, which numbers are free
 abbrev pub shown_of_ticket : TicketView → Bool → ShownView
 shown_of_ticket ticket is_open = record {
   number = None;
@@ -309,15 +309,15 @@ shown_of_ticket ticket is_open = record {
   givers = giver_of ticket ∷ [];
 }
 
--- nothing is shown
+-- what shows nothing
 abbrev pub shown_of_none : ShownView
 shown_of_none = record { number = None; next_serial = 0; free = []; givers = [] }
 
--- the ledger is that of the printer of a number
+-- the ledger is that of the printer with this number
 abbrev pub is_of : ShownView → ℕ → Bool
 is_of shown number = option_map_or (λ own. own == number) shown.number false
 
--- the ticket is for its printer, which has not taken it
+-- the ledger is that of the ticket's receiver, which has not taken it
 abbrev pub lacks_ticket : ShownView → TicketView → Bool
 lacks_ticket shown ticket = is_of shown ticket.receiver && not (is_old shown.givers ticket.giver ticket.serial)
 
@@ -325,16 +325,16 @@ lacks_ticket shown ticket = is_of shown ticket.receiver && not (is_old shown.giv
 abbrev pub are_of_one : ShownView → ShownView → Bool
 are_of_one one other = option_map_or (is_of other) one.number false
 
--- some number is shown by both as free
+-- both show some number as free
 abbrev pub share_numbers : ShownView → ShownView → Bool
 share_numbers one other = list_any (has_free other.free) one.free
 
--- some ticket is shown by both
+-- both show some ticket
 abbrev pub share_ticket : ShownView → ShownView → Bool
 share_ticket one other = list_any (λ last. list_any (λ its. (last.number == its.number) && (last.serial == its.serial))
     other.givers) one.givers
 
--- the other shows a ticket of its printer that it did not give yet
+-- the other shows a ticket from its printer that it has not given yet
 abbrev pub lacks_gift : ShownView → ShownView → Bool
 lacks_gift one other = list_any (λ last. is_of one last.number && nat_le one.next_serial last.serial) other.givers
 
@@ -346,8 +346,8 @@ is_older one other = are_of_one one other && (nat_lt one.next_serial other.next_
 abbrev pub is_behind : ShownView → ShownView → Bool
 is_behind one other = lacks_gift one other || is_older one other
 
--- What two ledgers of a sound site show, or a ledger and a ticket, or two tickets: they are not of one printer, no number
--- is free in both, and each has a next serial after those of its tickets that the other shows.
+-- What two ledgers of a sound site show, or a ledger and a ticket, or two tickets: they are not of one printer, no
+-- number is free in both, and the next serial of each is after those of its tickets that the other shows.
 pub record AreBeside (one other : ShownView) : Type 0 where
   pub numbers : (number : ℕ) → one.number ≡ Some number → other.number ≢ Some number
   pub apart : (number : ℕ) → is_free one.free number ≡ true → is_free other.free number ≡ false
@@ -355,14 +355,14 @@ pub record AreBeside (one other : ShownView) : Type 0 where
   pub other_ahead : (last : Giver) → Contains one.givers last → other.number ≡ Some last.number
       → last.serial < other.next_serial
 
--- none of these tests finds anything
+-- none of the tests finds anything
 pub record IsSilent (one other : ShownView) : Type 0 where
   pub numbers : are_of_one one other ≡ false
   pub apart : share_numbers one other ≡ false
   pub ahead : is_behind one other ≡ false
   pub other_ahead : is_behind other one ≡ false
 
--- They find nothing exactly beside one another, and a shared ticket exactly where both show it.
+-- The tests find nothing exactly if the two are beside one another, and a shared ticket exactly if both show it.
 abbrev pub SilenceIsExact : Type 0
 SilenceIsExact = (one other : ShownView) → IsTrue (are_ranges one.free) → IsTrue (are_ranges other.free)
     → (IsSilent one other ↔ AreBeside one other)
@@ -385,7 +385,7 @@ AreLabels size scheme id n m (part ∷ parts) (grid ∷ grids) =
 AreLabels size scheme id n m [] (grid ∷ grids) = ⊥
 AreLabels size scheme id n m (part ∷ parts) [] = ⊥
 
--- a job of which no label was taken yet, with the label of each part, under this ID
+-- a job under this ID with the label of each part, of which none was taken yet
 pub record IsJobOf (size : Size) (scheme : Scheme) (id : ℕ) (parts : List (List ℕ)) (job : JobView) : Type 0 where
   pub id_is : job.id ≡ id
   pub count_is : job.count ≡ length parts
@@ -395,22 +395,21 @@ pub record IsJobOf (size : Size) (scheme : Scheme) (id : ℕ) (parts : List (Lis
 
 -- ---- print
 
--- the parts of a document end there, or it has none
+-- the parts of the document end there, or it has none
 abbrev pub IsCutting : Size → Scheme → List ℕ → Option (List ℕ) → Type 0
 IsCutting size scheme document None = HasNoEnds size scheme document
 IsCutting size scheme document (Some ends) = AreEnds size scheme document ends
 
--- it has as many labels as its parts have ends
+-- the document has this many labels
 abbrev pub HasLabels : Size → Scheme → List ℕ → ℕ → Type 0
 HasLabels size scheme document count = (ends : List ℕ) × AreEnds size scheme document ends × (count ≡ length ends)
 
--- the job of a document whose parts end there, under the least number that is free
+-- the job of a document whose parts end there, under the least free number
 abbrev pub IsMade : LedgerView → Size → Scheme → List ℕ → Option (List ℕ) → JobView → Type 0
 IsMade ledger size scheme document cutting job = IsSomeAnd cutting (λ ends.
     IsJobOf size scheme (least ledger.free) (parts_from document 0 ends) job)
 
--- What a printer answers to a document, and what it is then. Its job was made before the save, also if that failed; the
--- job takes memory.
+-- What a printer answers to a document, and what it is afterwards. The job takes memory, and is made before the save.
 pub record Prints (old : PrinterView) (size : Size) (scheme : Scheme) (document : List ℕ)
     (result : Result JobView PrintFault) (new : PrinterView) : Type 0 where
   pub cutting : Option (List ℕ)

@@ -44,7 +44,7 @@ impl<S: Store, A: Allocator + Copy> Printer<S, A> {
         self.ledger.left()
     }
 
-    /// The last IDs, so many, that are free and follow one another.
+    /// The last `count` free IDs in a row.
     ///
     /// # Errors
     /// There are none, or none were asked for. It has how many the longest range of free IDs has.

@@ -6,7 +6,7 @@ use Rattle.std.specs.FinMap as map
 use Rattle.dm_store.specs.declared.store.StoreFault.{StoreFault}
 use Rattle.dm_store.specs.Saved.{LoadsOpen, SavesOpen, Saved, Contents, SavedSet}
 
--- the bytes of the file under a name, or None where no file is
+-- the bytes of the file under a name, or None if there is no file
 abbrev pub Content : Type 0
 Content = Option (List ℕ)
 
@@ -24,7 +24,7 @@ pub record KeepsFile (old : DiskState) (name : List ℕ) (new : DiskState) : Typ
   pub synced : old.is_synced name → new.is_synced name
   pub left : (content : Content) → new.may_leave name content → old.may_leave name content
 
--- so it is of every name
+-- the same for every name
 abbrev pub KeepsAll : DiskState → DiskState → Type 0
 KeepsAll old new = (name : List ℕ) → KeepsFile old name new
 
@@ -33,15 +33,15 @@ abbrev pub ReadsFile : {V : Type 0} → (V → List ℕ) → DiskState → List 
 ReadsFile bytes old name limit answer =
     IfOk answer (λ read. option_map bytes read ≡ option_map (take (limit + 1)) (old.seen name))
 
--- A file is made under the name, in place of the one that is there, and the bytes are written to it. Nothing is said of
--- what a stop may leave there, nor of what a write that fails leaves.
+-- A file is made under the name, in place of any that is there, and the bytes are written to it. Nothing is said of
+-- what a stop may leave there, or of what a failed write leaves.
 pub record WritesFile (old : DiskState) (name bytes : List ℕ) (answer : Result (Unit {0}) StoreFault) (new : DiskState)
     : Type 0 where
   pub others : (other : List ℕ) → other ≢ name → KeepsFile old other new
   pub done : IsOk answer → new.seen name ≡ Some bytes
 
--- The bytes of the file are brought to the disk. The file's entry in its folder is not: what a stop may leave under the
--- name is as before. A sync that fails may lose what was written, unless it was on the disk before.
+-- The bytes of the file are brought to the disk, but not the file's entry in its folder: what a stop may leave under
+-- the name is as before. A failed sync may lose what was written, unless it was on the disk before.
 pub record Syncs (old : DiskState) (name : List ℕ) (answer : Result (Unit {0}) StoreFault)
     (new : DiskState) : Type 0 where
   pub others : (other : List ℕ) → other ≢ name → KeepsFile old other new
@@ -59,8 +59,8 @@ pub record Renames (old : DiskState) (from to : List ℕ) (answer : Result (Unit
   pub left : old.is_synced from
       → (content : Content) → new.may_leave to content → old.may_leave to content ⊎ (content ≡ old.seen from)
 
--- This content is put under the name: bytes, or no file. A stop leaves there what it left before, or this content. Of
--- a draft nothing is said.
+-- This content is put under the name: bytes, or no file. A stop leaves there what it left before, or this content.
+-- Nothing is said of a draft.
 pub record PutsFile (old : DiskState) (name draft : List ℕ) (wanted : Content) (answer : Result (Unit {0}) StoreFault)
     (new : DiskState) : Type 0 where
   pub others : (other : List ℕ) → other ≢ name → other ≢ draft → KeepsFile old other new
@@ -77,13 +77,13 @@ Removes old name answer new = PutsFile old name name None answer new
 abbrev pub IsSettled : DiskState → List ℕ → Type 0
 IsSettled disk name = (content : Content) → disk.may_leave name content → content ≡ disk.seen name
 
--- The entry of the name in its folder is brought to the disk, or the want of one. If the file's bytes are there too, it
--- is settled then.
+-- The entry of the name in its folder, or its absence, is brought to the disk. If the file's bytes are there too, the
+-- name is settled then.
 abbrev pub SyncsEntry : DiskState → List ℕ → Result (Unit {0}) StoreFault → DiskState → Type 0
 SyncsEntry old name answer new = IsOk answer → old.is_synced name → IsSettled new name
 
 -- A save of this content under a name by way of a draft, or a remove, done or not. A stop in it, or after it, leaves
--- what it might have left before, or this content; and once it is done, this content alone. No third name is touched.
+-- what it might have left before, or this content; once it is done, only this content. No third name is touched.
 pub record SavesFile (old : DiskState) (name draft : List ℕ) (wanted : Content) (answer : Result (Unit {0}) StoreFault)
     (new : DiskState) : Type 0 where
   pub puts : PutsFile old name draft wanted answer new
@@ -121,7 +121,7 @@ unfoldable pub held_below : (ℕ → Content) → ℕ → Contents
 held_below found zero = map.empty
 held_below found (suc n) = with_found (held_below found n) n (found n)
 
--- what a reader finds under the name of a key's file; of a disk that is not honest nothing is said
+-- what a reader finds under the name of a key's file, if the disk is honest
 abbrev pub found_in : DiskState → List ℕ → ℕ → Content
 found_in disk folder key = if disk.is_honest then disk.seen (key_path folder key) else None
 

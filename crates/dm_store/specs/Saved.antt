@@ -14,8 +14,8 @@ pub data LoadPlan : Type 0 where
   LoadsFine : LoadPlan
   LoadsOpen : LoadPlan
 
--- what the next save does where memory is there: it is done, it meets a device fault that leaves the old content, one
--- that leaves the new content, or any of these
+-- what the next save does if there is memory: it is done; it meets a device fault that leaves the old content, or one
+-- that leaves the new content; or any of these
 pub data SavePlan : Type 0 where
   SavesFine : SavePlan
   FaultOld : SavePlan
@@ -28,8 +28,8 @@ pub data Outcome : Type 0 where
   Faulted : Outcome
   Refused : Outcome
 
--- What a store or a set holds, of type X; whether it is honest: it holds what it was given to hold; whether its calls may
--- be refused for lack of memory, as those of each one here may; and its plans: one for loads, one for the next save.
+-- What a store or a set holds, of type X; whether it is honest, and so holds what it was given to hold; whether its
+-- calls may lack memory, as those of every store here may; and its plans: one for loads, one for the next save.
 pub record SavedIn (X : Type 0) : Type 0 where
   pub content : X
   pub is_honest : Bool
@@ -41,8 +41,7 @@ pub record SavedIn (X : Type 0) : Type 0 where
 abbrev pub Saved : Type 0
 Saved = SavedIn (Option (List ℕ))
 
--- Before and after a load, and its answer. `seen` gives what contracts see of what was loaded: of one that is honest,
--- this.
+-- Before and after a load, and its answer: if it is honest, what was wanted. `seen` gives what contracts see of that.
 pub record GivesLoaded {X V W : Type 0} (seen : V → W) (old : SavedIn X) (wanted : W) (answer : Result V StoreFault)
     (new : SavedIn X) : Type 0 where
   pub same : new ≡ old
@@ -61,7 +60,7 @@ outcome_of (Ok _) = Done
 outcome_of (Err faults.Device) = Faulted
 outcome_of (Err faults.Memory) = Refused
 
--- the plan allows this end of a save, and goes on to the next plan
+-- the plan allows this end of a save, and is then followed by the next plan
 abbrev pub PlanAllows : SavePlan → Outcome → SavePlan → Type 0
 -- a save that is refused for lack of memory leaves each plan
 PlanAllows SavesFine Refused next = next ≡ SavesFine
@@ -78,7 +77,7 @@ PlanAllows FaultNew Faulted next = next ≡ SavesFine
 -- an open plan allows each end, and stays
 PlanAllows SavesOpen outcome next = next ≡ SavesOpen
 
--- what is held after a device fault, where `old` was held and `new` was to be
+-- what is held after a device fault, if `old` was held and `new` was to be
 abbrev pub HeldAfterFault : {X : Type 0} → SavePlan → X → X → X → Type 0
 HeldAfterFault FaultOld old new held = held ≡ old
 HeldAfterFault FaultNew old new held = held ≡ new
@@ -99,7 +98,7 @@ pub record SavesIn {X : Type 0} (old : SavedIn X) (content : X) (outcome : Outco
 abbrev pub Replaces : Saved → List ℕ → Result (Unit {0}) StoreFault → Saved → Type 0
 Replaces old bytes answer new = SavesIn old (Some bytes) (outcome_of answer) new
 
--- a call was refused for lack of memory only if those of this store or set may be
+-- a call was refused for lack of memory only if calls of this store or set may be
 abbrev pub MayLackMemory : {X : Type 0} → SavedIn X → Result (Unit {0}) StoreFault → Type 0
 MayLackMemory saved answer = IsErrOf answer faults.Memory → IsTrue saved.may_lack_memory
 
@@ -120,7 +119,7 @@ abbrev pub LoadsKey : {V : Type 0} → (V → List ℕ) → SavedSet → ℕ →
 LoadsKey bytes old key limit answer new =
     GivesLoaded (option_map bytes) old (option_map (take (limit + 1)) (map.get old.content key)) answer new
 
--- The set before and after what was loaded is settled, and the answer: it may fail where a load may.
+-- The set before and after what was loaded is settled, and the answer. This may fail whenever a load may.
 abbrev pub Settles : SavedSet → Result (Unit {0}) StoreFault → SavedSet → Type 0
 Settles old answer new = GivesLoaded (λ done. done) old tt answer new
 
@@ -128,8 +127,8 @@ Settles old answer new = GivesLoaded (λ done. done) old tt answer new
 abbrev pub SavesKey : SavedSet → ℕ → List ℕ → Result (Unit {0}) StoreFault → SavedSet → Type 0
 SavesKey old key bytes answer new = SavesIn old (map.insert old.content key bytes) (outcome_of answer) new
 
--- The set before and after a remove of one key, and its answer. If the key isn't there nothing changes, nor do the
--- plans, and only an open plan of saves allows a fault, that of the device.
+-- The set before and after a remove of one key, and its answer. If the key isn't there, neither content nor plans
+-- change, and only an open plan of saves allows a fault, that of the device.
 pub record RemovesKey
     (old : SavedSet) (key : ℕ) (answer : Result (Unit {0}) StoreFault) (new : SavedSet) : Type 0 where
   pub there : IsSome (map.get old.content key) → SavesIn old (map.remove old.content key) (outcome_of answer) new
@@ -179,7 +178,7 @@ turn_of_load (Some (suc _)) = Passes
 turn_of_load (Some zero) = Stopped
 turn_of_load None = Stopped
 
--- and with a replace or a remove, by what the first call after them leaves
+-- and with a replace or a remove, by what the first call after those leaves
 abbrev pub turn_of_save : Option ℕ → Kept → Turn
 turn_of_save (Some (suc _)) kept = Passes
 turn_of_save (Some zero) New = Made
@@ -192,13 +191,12 @@ after_call (Some (suc n)) = Some n
 after_call (Some zero) = None
 after_call None = None
 
--- the answer of a call that is made and then stopped: a device fault in place of Ok, and any fault as it is
+-- the answer of a call that is made and then stopped: a device fault in place of Ok, or the call's own fault
 abbrev pub stopped_answer : {T F : Type 0} → F → Result T F → Result T F
 stopped_answer device (Ok _) = Err device
 stopped_answer device (Err fault) = Err fault
 
--- By its turn a call is made of the one within, and that answers; or it is made and then stopped; or the one within is
--- left alone.
+-- By its turn, a call is made of the one within, which answers, or it is made and then stopped, or it is not made.
 abbrev pub Goes : {S T F : Type 0} → Turn → F → (Result T F → S → Type 0) → S → Result T F → S → Type 0
 Goes Passes device Does old answer new = Does answer new
 Goes {S} {T} {F} Made device Does old answer new =
@@ -207,8 +205,8 @@ Goes Stopped device Does old answer new = (answer ≡ Err device) × (new ≡ ol
 
 -- ---- codes
 
--- How what contracts see of a store and of a set is coded as pairs, lists, numbers and truth values, which a model asks
--- of its value. Nothing here says what a store does.
+-- How the view of a store and of a set is coded as pairs, lists, numbers and truth values, which a model requires of
+-- its value. Nothing here says what a store does.
 
 -- a plan as truth values, and back
 abbrev pub load_bit : LoadPlan → Bool

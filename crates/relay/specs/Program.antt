@@ -1,5 +1,5 @@
--- What a command does, from the store and the set of the file that it names, and its streams, to the exit status, the
--- store, the set and the streams: a line for each command. What a command does not need it leaves as it was.
+-- What a command does to the store and the set at the path that it names, and to its streams, and with which exit
+-- status: a line for each command. What a command does not need, it leaves as it was.
 use Rattle.std.specs.Prelude.{◌≡◌, ◌==◌, ℕ, List, [], ◌∷◌, ◌++◌, Option, Bool, true, false, codes, max, string_bytes, ◌≢◌, ◌⊎◌, map, unwrap_or, IsSome, None, Some, Result, Ok, Err}
 use Rattle.std.specs.{Borrow.Bor, List.before_first, Str.Lines.lines, Option.option_copied, Io.KnownBytes.Appends, Io.KnownBytes.Keeps}
 use Rattle.relay_command.specs.declared.command.Command.{Command}
@@ -22,17 +22,17 @@ use Rattle.dm_store.specs.declared.store.StoreFault.TheVariants as faults
 abbrev pub ReadsPart : ℕ → StreamsView → StreamsView → Type 0
 ReadsPart most old new = TakesPart old.input.remaining new.input.remaining most
 
--- what a command does that names no file
+-- what a command that names no file does
 abbrev pub OnStreams : (StreamsView → ℕ → StreamsView → Type 0) → OnDesk → ℕ → OnDesk → Type 0
 OnStreams Ends old status new = Ends old.streams status new.streams × (new.files ≡ old.files)
 
--- what a command of a printer does: the store at its path is that of the ledger, and not of a joint file
+-- what a command of a printer does: the store at its path is the ledger's, not a joint file's
 abbrev pub OnFile : (OnLedger → ℕ → OnLedger → Type 0) → OnDesk → ℕ → OnDesk → Type 0
 OnFile Ends old status new = Ends (ledger_at old.files.joint old.streams) status (ledger_at new.files.joint new.streams)
     × (new.files.set ≡ old.files.set)
 
--- What a command does over the store at the path that it names and the set beside it, and, of `scan`, `read`, `audit` and
--- `import`, over the files to be read; `A` is what it allocates in.
+-- What a command does over the store at the path that it names and the set beside it, and, of `scan`, `read`, `audit`
+-- and `import`, over the files to be read; `A` is what it allocates in.
 abbrev pub Does : Type 0 → Command → List FileView → OnDesk → ℕ → OnDesk → Type 0
 Does A (Words side scheme) inputs old status new =
     OnStreams (EndsWords (record { side = side; scheme = scheme })) old status new
@@ -99,13 +99,13 @@ refuses_on_errors other = saves_output other
 
 -- ---- the standard streams
 
--- the bytes that are left on the input, and those that the output and the standard error got, where they are known
+-- the bytes that are left on the input, and those that the output and the standard error have got, where they are known
 pub record StandardView : Type 0 where
   pub input : Option (List ℕ)
   pub output : Option (List ℕ)
   pub errors : Option (List ℕ)
 
--- the streams of a command that begins: over buffers that hold nothing, none of which has failed
+-- the streams of a command that begins: their buffers hold nothing, and none has failed
 abbrev pub streams_over : StandardView → StreamsView
 streams_over standard = record {
   input = record { remaining = standard.input; has_failed = false };
@@ -133,13 +133,13 @@ PutsRefusal false name old status new =
 abbrev pub ShowsOnErrors : List ℕ → StandardView → StandardView → Type 0
 ShowsOnErrors text old new = (new.input ≡ old.input) × (new.output ≡ old.output) × ShowsPart old.errors new.errors text
 
--- so do those of a note, or nothing happens
+-- the first bytes of a note go there, or nothing happens
 abbrev pub Notes : StandardView → StandardView → Type 0
 Notes old new = (new ≡ old) ⊎ ((note : List ℕ) × ShowsOnErrors note old new)
 
--- What a command has written is out, and its status is the program's. Or the output has refused a write, and the first
--- bytes of what the command has written are out: then the standard error is told, with the status 1; or it need not be,
--- and the status is the command's own, which is not 0. Of what is written there the first bytes are out.
+-- What a command wrote is out, and its status is the program's. Or the output refused a write, and the first bytes of
+-- what the command wrote are out: then a refusal goes to the standard error and the status is 1; or the command's own
+-- status is not 0, and stands. Of what is written to the standard error, the first bytes are out.
 pub data PutsOut (wrote : Option (List ℕ)) (told : OutputView) (ended status : ℕ) (out errors : Option (List ℕ))
     : Type 0 where
   lets_all_out : Keeps wrote out → status ≡ ended → IsPartOut told.contents errors →
@@ -149,8 +149,8 @@ pub data PutsOut (wrote : Option (List ℕ)) (told : OutputView) (ended status :
   says_so : (after : OutputView) → IsPartOut wrote out → TellsRefusal (write_fault_name Write) told status after →
       IsPartOut after.contents errors → PutsOut wrote told ended status out errors
 
--- What a command does between the standard streams, with these files before and after. The status is 0 only if that of
--- the command is, and all that it has written is out.
+-- What a command does between the standard streams, with these files before and after. The status is 0 only if the
+-- command's is, and all that it wrote is out.
 pub record DoesBetween (A : Type 0) (command : Command) (inputs : List FileView) (before : DeskFiles)
     (old : StandardView) (status : ℕ) (after : DeskFiles) (new : StandardView) : Type 0 where
   pub ended : ℕ
@@ -161,7 +161,7 @@ pub record DoesBetween (A : Type 0) (command : Command) (inputs : List FileView)
 
 -- ---- a command of a line
 
--- the standard streams, and what is at the paths
+-- the standard streams, and what is at each path
 pub record SystemView : Type 0 where
   pub standard : StandardView
   pub places : PlacesView
@@ -169,13 +169,13 @@ pub record SystemView : Type 0 where
 abbrev pub system_at : StandardView → PlacesView → SystemView
 system_at standard places = record { standard = standard; places = places }
 
--- With the files before and after, which are those at the path that a command names: at each other path is what was there.
--- A command that names none has files of its own, and changes nothing at any.
+-- The files before and after are those at the path that a command names, and what is at each other path stays as it
+-- was. A command that names no path has files of its own, and changes nothing at any path.
 abbrev pub IsAt : Option (List ℕ) → DeskFiles → PlacesView → DeskFiles → PlacesView → Type 0
 IsAt None before old after new = new ≡ old
 IsAt (Some path) before old after new = (before ≡ old path) × (new path ≡ after) × KeepsOthers path old new
 
--- What a command does with the files at the path that it names. Then something may be noted on the standard error.
+-- What a command does with the files at the path that it names. Afterwards a note may go to the standard error.
 pub record DoesAt (A : Type 0) (command : Command) (inputs : List FileView) (old : SystemView) (status : ℕ)
     (new : SystemView) : Type 0 where
   pub before : DeskFiles
@@ -189,7 +189,7 @@ abbrev pub save_fault_name : StoreFault → List ℕ
 save_fault_name faults.Device = codes "Save"
 save_fault_name faults.Memory = codes "Memory"
 
--- The output of a command is saved; or it is not, and the line of a refusal goes to the standard error.
+-- The output of a command was saved; or it was not, and the line of a refusal goes to the standard error.
 abbrev pub TellsSave : Result (Unit {0}) StoreFault → StandardView → ℕ → StandardView → Type 0
 TellsSave (Ok _) old status new = (new ≡ old) × (status ≡ 0)
 TellsSave (Err fault) old status new =
@@ -204,7 +204,7 @@ pub record SavesOutput (path bytes : List ℕ) (old : SystemView) (status : ℕ)
 abbrev pub with_output : SystemView → Option (List ℕ) → SystemView
 with_output system output = record system { standard = record system.standard { output = output } }
 
--- A command writes these bytes, and they are saved as the file at a path if it has ended with 0. The output is as it was.
+-- A command writes these bytes, and if it ended with 0 they are saved as the file at a path. The output is as it was.
 pub record DoesAndSaves (A : Type 0) (command : Command) (path : List ℕ) (old : SystemView) (status : ℕ) (new : SystemView) :
     Type 0 where
   pub ended : ℕ
@@ -218,7 +218,7 @@ pub record DoesAndSaves (A : Type 0) (command : Command) (path : List ℕ) (old 
 unfoldable pub ids_in : List ℕ → List (List ℕ)
 ids_in text = map (λ line. before_first (λ byte. byte == 32) line) (lines text)
 
--- The documents of these IDs are exported in turn, as files of those names in a folder, or memory is refused for one.
+-- The documents with these IDs are exported in turn, to files of those names in a folder, or memory is refused for one.
 pub data ExportsEach (A : Type 0) (file folder : List ℕ) : List (List ℕ) → SystemView → ℕ → SystemView → Type 0 where
   no_id : {now : SystemView} → ExportsEach A file folder [] now 0 now
   next_id : {later : List (List ℕ)} {old now new : SystemView} {one others : ℕ} (from id : Bor (List ℕ)) → from.now ≡ file →
@@ -230,8 +230,8 @@ pub data ExportsEach (A : Type 0) (file folder : List ℕ) : List (List ℕ) →
 abbrev pub NamesFiles : CommandLine → Type 0
 NamesFiles line = IsSome (named_path line.command) ⊎ (named_images line ≢ [])
 
--- What a line does: its command, with the files to be read that it names, whose output is saved if it names a file for it;
--- or it exports all documents that `held` lists, if that ends with 0; or nothing, since memory is refused, which it says.
+-- What a line does: its command, with the files that it names to be read and, if it names one, the file for its output;
+-- or the exports of all documents that `held` lists, if that ends with 0; or nothing, since memory is refused.
 pub data DoesFor (A : Type 0) (inputs : List ℕ → FileView) (line : CommandLine) (old : SystemView) (status : ℕ)
     (new : SystemView) : Type 0 where
   does_here : saved_path line ≡ None → ((file folder : Bor (List ℕ)) → line.command ≢ ExportAll file folder) →
@@ -247,27 +247,27 @@ pub data DoesFor (A : Type 0) (inputs : List ℕ → FileView) (line : CommandLi
   lacks_memory : NamesFiles line → new.places ≡ old.places → PutsRefusal (refuses_on_errors line.command) (codes "Memory")
       old.standard status new.standard → DoesFor A inputs line old status new
 
--- this was done; or nothing was, since memory was refused, as it may be under this condition
+-- this was done; or nothing was, since memory was refused, which may happen only under this condition
 abbrev pub OrNothing : {E : Type 0} → (SystemView → ℕ → SystemView → Type 0) → Type 0 → SystemView → Result ℕ E → SystemView → Type 0
 OrNothing Does May old (Ok status) new = Does old status new
 OrNothing Does May old (Err _) new = May × (new ≡ old)
 
 -- ---- a line
 
--- The help is out, and the status is 0; or the output has refused it, and the standard error has the line of a refusal.
+-- The help is out, and the status is 0; or the output refused it, and the standard error has the line of a refusal.
 abbrev pub Helps : List ℕ → StandardView → ℕ → StandardView → Type 0
 Helps text old status new = (new.input ≡ old.input)
     × ((Appends old.output new.output text × (new.errors ≡ old.errors) × (status ≡ 0))
     ⊎ (ShowsPart old.output new.output text × TellsOut (write_fault_name Write) old.errors status new.errors))
 
--- What a line that is not taken does, by its fault: a help goes to the output, why it is wrong to the standard error.
+-- What a line that is no command does, by its fault: a help goes to the output, what is wrong to the standard error.
 abbrev pub Informs : LineFault → StandardView → ℕ → StandardView → Type 0
 Informs (Line text given) old status new =
     (Helps (string_bytes text) old status new × (given ≡ 0)) ⊎ (ShowsOnErrors (string_bytes text) old new × (status ≡ given))
 Informs Memory old status new = PutsRefusal true (codes "Memory") old status new
 
--- What a line does whose first word after the program's name is this one: what was found on it is done; or it is not
--- taken. `inputs` are the files to be read, by their names.
+-- What a line does, if this is its first word after the program's name: what was found on it is done, or it is no
+-- command. `inputs` are the files to be read, by their names.
 pub data Runs (A : Type 0) (inputs : List ℕ → FileView) (name : Option (List ℕ)) (old : SystemView) (status : ℕ)
     (new : SystemView) : Type 0 where
   does : (line : CommandLine) → IsNamed name line.command → IsFound line → DoesFor A inputs line old status new →

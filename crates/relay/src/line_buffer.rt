@@ -9,9 +9,9 @@ use std::alloc::{Allocator, Global};
 use std::io::{self, Error, ErrorKind, Write};
 use std::marker::Model;
 
-/// A buffer before a writer. What is written goes out where a line ends, once there are as many bytes as `least`, or
-/// where it is flushed: in one write, unless the writer takes less. So lines of programs that write to one file don't
-/// mix. Once a write has failed nothing goes out any more, so what is told as not written never comes later.
+/// A buffer in front of a writer. What is written goes out at the end of a line, once there are at least `least` bytes,
+/// or at a flush: in one write, unless the writer takes less. So lines of programs that write to one file don't mix.
+/// After a failed write nothing more goes out, so what is reported as not written never comes later.
 #[derive(Drop)]
 pub(crate) struct LineBuffer<W: Write, A: Allocator = Global> {
     writer: W,

@@ -31,7 +31,7 @@ pub enum Command<'a> {
     Print { file: &'a str, number: u16, labels: Labels, scheme: Scheme },
     /// Gives the IDs from first to last to the printer `to`.
     Give { file: &'a str, number: u16, to: u16, first: u16, last: u16 },
-    /// Gives the last IDs that are free in one range, so many, to the printer `to`.
+    /// Gives the last `count` free IDs in a row to the printer `to`.
     GiveLast { file: &'a str, number: u16, to: u16, count: u16 },
     /// Takes a ticket, in either of its forms.
     Take { file: &'a str, number: u16, ticket: &'a str },

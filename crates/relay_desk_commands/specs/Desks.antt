@@ -1,4 +1,4 @@
--- What the commands of desks do to files and streams, and the lines that they write: what these show is this project's own rule.
+-- What the commands of desks do to files and streams, and the lines that they write, which are this project's own.
 use Rattle.std.specs.Prelude.{ℕ, List, [], ◌∷◌, ◌++◌, codes, zero, suc, take, ◌+◌, ◌^◌, ◌==◌, Bool, if◌then◌else◌, ◌≡◌, ◌<◌, Option, None, IfSome, Result, Ok, Err, MatchResult, true, false, ◌≤◌, ◌⊎◌, ◌||◌, Some, is_err, IsOk, IsTrue, IsSomeAnd, IsSome, IfOk}
 use Rattle.std.specs.Fmt.{decimal}
 use Rattle.dm_assembly_desk.specs.Documents.{names, Documents, DeskView, KeepsPages, DeskIsInOrder, Pages, summary, count_at, page_at}
@@ -35,11 +35,11 @@ use Rattle.dm_append_label.specs.declared.fault.LabelFault.TheVariants as labels
 abbrev pub forgotten_line : ℕ → List ℕ
 forgotten_line id = codes "forgotten " ++ (id_text id ++ 10 ∷ [])
 
--- a space and the number of page m, if the mask does not name it
+-- a space and the number of page m, unless the mask has it
 abbrev pub missing_page : ℕ → ℕ → List ℕ
 missing_page mask m = if names mask m then [] else 32 ∷ decimal m
 
--- so for each of the first pages, up to this one
+-- the same for each page up to this one
 abbrev pub missing_pages : ℕ → ℕ → List ℕ
 missing_pages mask zero = []
 missing_pages mask (suc m) = missing_pages mask m ++ missing_page mask (suc m)
@@ -61,17 +61,17 @@ held_line held =
 abbrev pub unsound_line : ℕ → List ℕ → List ℕ
 unsound_line key name = codes "file " ++ (word_text key ++ (32 ∷ (name ++ 10 ∷ [])))
 
--- the file of an older version, and why it is not sound
+-- the joint file, and why it is not sound
 abbrev pub unsound_joint_line : List ℕ → List ℕ
 unsound_joint_line name = codes "file joint " ++ (name ++ 10 ∷ [])
 
 -- What `deliver`, `export`, `forget`, `import` and `scan` do to the files of a desk, and what they write. `scan` prints
--- a line for each image of a file, in order, up to the end of the file, a plain image, bytes that are no image, or the
--- greatest number of images; and nothing after a save that failed.
+-- a line for each image of a file, in order, until the file ends, after a plain image, at bytes that are no image, or
+-- after 65,536 images. After a failed save it prints nothing.
 
 -- ---- a desk's files
 
--- the store of the joint file of an older version, and the set of one file for each document
+-- the store of the joint file, in which version 1 kept all documents, and the set with a file for each document
 pub record DeskFiles : Type 0 where
   pub joint : Saved
   pub set : SavedSet
@@ -88,21 +88,20 @@ desk_at joint set streams = record { files = record { joint = joint; set = set }
 abbrev pub MovesFiles : DeskFiles → DeskFiles → Type 0
 MovesFiles before after = (written : ℕ) × Moves before.joint before.set (Ok written) after.joint after.set
 
--- the documents were moved, and then a desk with this room was opened on the set
+-- the documents were moved, and then a desk with this capacity was opened on the set
 pub record OpensDesk (before : DeskFiles) (capacity : ℕ) (joint : Saved) (desk : DeskView) : Type 0 where
   pub moves : MovesFiles before (record { joint = joint; set = desk.saved })
   pub opens : DeskOpens desk.saved capacity desk
 
--- There is no desk with this room, and this is the name of the reason: the joint file could not be moved; or the desk
--- was not opened.
+-- No desk with this capacity was opened, for the reason of this name: of the move of the joint file, or of opening.
 pub data HasNoDesk (before : DeskFiles) (capacity : ℕ) (name : List ℕ) (after : DeskFiles) : Type 0 where
   not_moved : (fault : MoveFault) → Moves before.joint before.set (Err fault) after.joint after.set
       → name ≡ move_fault_name fault → HasNoDesk before capacity name after
   not_opened : (fault : DeskFault) → MovesFiles before after → HasDeskFault after.set capacity fault
       → name ≡ desk_fault_name fault → HasNoDesk before capacity name after
 
--- How a command ends that opens a desk with this room: there is none, and the line of a refusal says why; or it was
--- opened, and the rest is done there.
+-- How a command that needs a desk with this capacity ends. None was opened, and the line of a refusal says why; or one
+-- was, and the rest is done there.
 pub data EndsAtDesk (Refuses : List ℕ → StreamsView → ℕ → StreamsView → Type 0) (capacity : ℕ)
     (Rest : DeskView → StreamsView → ℕ → OnDesk → Type 0) (old : OnDesk) (status : ℕ) (new : OnDesk) : Type 0 where
   no_desk : (name : List ℕ) → HasNoDesk old.files capacity name new.files → Refuses name old.streams status new.streams
@@ -116,8 +115,7 @@ pub data EndsAtDesk (Refuses : List ℕ → StreamsView → ℕ → StreamsView 
 abbrev pub IsTextOfId : List ℕ → ℕ → Type 0
 IsTextOfId text id = (id < 64516) × (decode_sized text 2 ≡ Ok (id_words id))
 
--- How a command ends that names a document by a text: that is the text of no ID, and nothing is done; or it
--- ends so for the ID.
+-- How a command that is given the text of an ID ends: it is none, and nothing is done; or as it ends for that ID.
 pub data EndsOnId (Refuses : List ℕ → StreamsView → ℕ → StreamsView → Type 0) (text : List ℕ)
     (Ends : ℕ → OnDesk → ℕ → OnDesk → Type 0) (old : OnDesk) (status : ℕ) (new : OnDesk) : Type 0 where
   no_id : ((id : ℕ) → ¬ IsTextOfId text id) → new.files ≡ old.files
@@ -127,47 +125,46 @@ pub data EndsOnId (Refuses : List ℕ → StreamsView → ℕ → StreamsView �
 
 -- ---- what is given out
 
--- The desk gives out these bytes by what it holds, or nothing, for a reason of this name: so it was told, and its set
--- stays as it was.
+-- By what it holds, the desk gives bytes, or the name of a reason why not. That was written, and the set is as it was.
 abbrev pub GivesOut : (Documents → Result (List ℕ) (List ℕ) → Type 0) → DeskView → StreamsView → ℕ → OnDesk → Type 0
 GivesOut Gives desk old status new = (given : Result (List ℕ) (List ℕ)) × Gives desk.held given
     × MatchResult given (λ bytes. TellsBytes bytes old status new.streams)
     (λ name. RefusesOnErrors name old status new.streams)
     × (new.files.set ≡ desk.saved)
 
--- an answer, a fault of which goes by its name
+-- an answer in which a fault is replaced by its name
 abbrev pub ByName : {F : Type 0} → (F → List ℕ) → (Result (List ℕ) F → Type 0) → Result (List ℕ) (List ℕ) → Type 0
 ByName {F} name Answers (Ok bytes) = Answers (Ok bytes)
 ByName {F} name Answers (Err named) = (fault : F) × Answers (Err fault) × (named ≡ name fault)
 
--- what a desk gives out of a document: the document, or the file of its pages
+-- what a desk gives of a document: the whole of it, or the file of its pages
 abbrev pub Yields : Given → ℕ → Documents → Result (List ℕ) (List ℕ) → Type 0
 Yields Document id held given = ByName ask_fault_name (Asks (λ (bytes : List ℕ). bytes) (map.get held id)) given
 Yields File id held given = ByName export_fault_name (Exports (λ (bytes : List ℕ). bytes) id (map.get held id)) given
 
--- how a command ends that gives out something of a document
+-- how a command that gives something of a document ends
 abbrev pub EndsGiving : Given → List ℕ → OnDesk → ℕ → OnDesk → Type 0
 EndsGiving what text =
     EndsOnId RefusesOnErrors text (λ id. EndsAtDesk RefusesOnErrors MOST_CAPACITY (GivesOut (Yields what id)))
 
--- how `deliver` ends, which gives out the document
+-- how `deliver` ends, which gives the document
 abbrev pub EndsDeliver : List ℕ → OnDesk → ℕ → OnDesk → Type 0
 EndsDeliver text = EndsGiving Document text
 
--- how `export` ends, which gives out the file of the pages that are held
+-- how `export` ends, which gives the file of the pages that are held
 abbrev pub EndsExport : List ℕ → OnDesk → ℕ → OnDesk → Type 0
 EndsExport text = EndsGiving File text
 
--- ---- what is let go, and what is taken in
+-- ---- what is forgotten, and what is imported
 
--- a desk that was opened has answered to a call, and this was told
+-- an open desk answered a call, and the answer was written
 abbrev pub AnswersCall : {X F : Type 0} → (X → List ℕ) → (F → List ℕ) → (DeskView → Result X F → DeskView → Type 0)
     → DeskView → StreamsView → ℕ → OnDesk → Type 0
 AnswersCall {X} {F} line name Call desk old status new =
     (after : DeskView) × (reply : Result X F) × Call desk reply after × (new.files.set ≡ after.saved)
     × TellsAnswer line name reply old.output status new.streams.output
 
--- how `forget` ends, by what the desk has answered
+-- how `forget` ends, by what the desk answered
 abbrev pub EndsForget : List ℕ → OnDesk → ℕ → OnDesk → Type 0
 EndsForget text = EndsOnId RefusesOnOutput text (λ id. EndsAtDesk RefusesOnOutput MOST_CAPACITY
     (λ desk old status new. OnlyOutput old new.streams
@@ -177,8 +174,8 @@ EndsForget text = EndsOnId RefusesOnOutput text (λ id. EndsAtDesk RefusesOnOutp
 abbrev pub import_line : Imported → List ℕ
 import_line reply = imported_line reply.id reply.n reply.added (kind_name reply.kind)
 
--- What `import` does with a file: it was not read, and was refused; or these are its first bytes, one more than the
--- greatest file has, or all if they are fewer, and the desk has answered.
+-- What `import` does with a file. It could not be read, and was refused; or these are its first bytes, at most one more
+-- than the greatest file has, and the desk answered.
 pub data ImportsFile (file : FileView) : DeskView × OutputView → ℕ → DeskView × OutputView → Type 0 where
   file_not_read : {desk : DeskView} {old new : OutputView} {status : ℕ} (fault : InputFault) → GivesNothing file fault
       → TellsRefusal (input_fault_name fault) old status new → ImportsFile file (desk, old) status (desk, new)
@@ -187,10 +184,10 @@ pub data ImportsFile (file : FileView) : DeskView × OutputView → ℕ → Desk
       → ImportsBytes bytes desk reply after → TellsAnswer import_line import_fault_name reply old status new
       → ImportsFile file (desk, old) status (after, new)
 
--- How `import` ends over its input: that could not be read; or these bytes of it were read, the desk was opened, and has
--- answered. Nothing went to the standard error. Over files: memory was refused for their bytes; or the desk was opened, and
--- they were taken in, until the output or a save has failed. What was held stays held, and is in order with the set of the
--- desk.
+-- How `import` ends. Of its input: it could not be read; or these bytes were read, and the desk was opened and
+-- answered. Nothing went to the standard error. Of files: memory was refused for their bytes; or the desk was opened,
+-- and they were imported in turn until the output or a save failed. What was held stays held, in order with the desk's
+-- set.
 pub data EndsImport (capacity : ℕ) : List FileView → OnDesk → ℕ → OnDesk → Type 0 where
   not_read : {old new : OnDesk} {status : ℕ} {files : List FileView} (fault : InputFault)
       → HasInputFault old.streams.input new.streams.input fault → new.files ≡ old.files
@@ -214,7 +211,7 @@ pub record AtDesk : Type 0 where
   pub desk : DeskView
   pub errors : OutputView
 
--- the refusal of a picture was noted, and, if it is of the image itself, maybe a change after which the image is read
+-- the refusal of a picture was noted and, if it is of the image itself, perhaps a change after which it would be read
 abbrev pub NotesPicture : Bool → Picture → ℕ → Option ℕ → List ℕ → OutputView → OutputView → Type 0
 NotesPicture of_image p number id name old new =
     (ending : List ℕ) × EndsNote of_image p ending × NotesImage number id name ending old new
@@ -229,24 +226,25 @@ is_of_image fault = false
 abbrev pub IsIdOn : GridView → ℕ → Type 0
 IsIdOn grid id = (page : PageView) × (corrected wrong : ℕ) × OpensAs grid page corrected wrong × (page.id ≡ id)
 
--- the answer rests on what the desk held before, and nothing was saved
+-- the answer is that the page is held already
 abbrev pub is_held_again : Kind → Bool
 is_held_again Again = true
 is_held_again other = false
 
+-- the answer follows from what the desk held, and nothing was saved
 abbrev pub rests_on_held : Result Accepted ScanFault → Bool
 rests_on_held (Ok reply) = is_held_again reply.kind
 rests_on_held (Err Conflict) = true
 rests_on_held (Err Full) = true
 rests_on_held (Err other) = false
 
--- the desk would have answered so to the grid, but what it holds could not be settled
+-- the desk's answer to the grid rests on what it holds, and that could not be settled
 abbrev pub IsUnsettled : GridView → StoreFault → DeskView → Type 0
 IsUnsettled grid why desk = (reply : Result Accepted ScanFault) × (rests_on_held reply ≡ true)
     × AcceptsGrid grid desk reply desk × Settles desk.saved (Err why) desk.saved
 
--- What is said of a picture, and the desk and the standard error afterwards: its grid is handed to the desk, or it has
--- none; a refusal is noted.
+-- What is said of a picture, and the desk and the standard error afterwards. The picture's grid is handed to the desk,
+-- if it has one; a refusal is noted.
 pub data ScansPicture (number : ℕ) (p : Picture) (before : AtDesk) : Said → AtDesk → Type 0 where
   accepted : {desk : DeskView} (grid : GridView) (reply : Accepted) → HasShape p → IsGridInside p grid
       → AcceptsGrid grid before.desk (Ok reply) desk → ScansPicture number p before
@@ -263,7 +261,7 @@ pub data ScansPicture (number : ℕ) (p : Picture) (before : AtDesk) : Said → 
       → NotesPicture true p number None (shape_fault_name Shape) before.errors errors
       → ScansPicture number p before (refusal_of (shape_fault_name Shape)) (record before { errors = errors })
 
--- `scan` as a command over images: after a save that failed it reads no more
+-- `scan` as a command over images: after a failed save it reads no more
 abbrev pub scan_images : ImageCommand
 scan_images = record {
   State = AtDesk;
@@ -273,9 +271,9 @@ scan_images = record {
   has_ended = λ at. at.desk.is_failed;
 }
 
--- A desk that was opened before anything was read has scanned all files, or the whole input where there is none. Or the
--- output has refused a line, or a save has failed, and the images up to that were scanned. Either way each page that was
--- held is held with the same bytes, and what the desk holds is in order with its set.
+-- A desk that was opened before anything was read scanned all files, or the whole input if there are none. Or the
+-- output refused a line, or a save failed, and the images up to there were scanned. Either way each page that was held
+-- still is, with the same bytes, and what the desk holds is in order with its set.
 abbrev pub ScansAll : List FileView → DeskView → StreamsView → ℕ → OnDesk → Type 0
 ScansAll images desk old status new = (after : DeskView) × TellsInputs scan_images images
     (progress_at (record { desk = desk; errors = old.errors }) old.input old.output) status
@@ -288,28 +286,27 @@ EndsScan capacity images = EndsAtDesk RefusesOnOutput capacity (ScansAll images)
 
 -- ---- held
 
--- What `held` prints: what the files of a desk hold, file by file, without a desk. It changes no file.
+-- What `held` prints: what the files of a desk hold, file by file. It opens no desk and changes no file.
 
 -- ---- what is seen
 
--- what the file of an older version gives: its documents, if there is such a file, or why it is not sound
+-- what was found at the joint file: its documents, if there is such a file, or why it is not sound
 abbrev pub SeenJoint : Type 0
 SeenJoint = Result (Option Documents) MoveFault
 
--- its documents: none if there is no such file, or if it is not sound
+-- its documents: none if there is no such file, or it is not sound
 abbrev pub documents_in : SeenJoint → Documents
 documents_in (Ok (Some documents)) = documents
 documents_in _ = map.empty
 
--- what was found of the file of an older version is true of it
+-- what was found at the joint file is true of it
 abbrev pub SeesJoint : Saved → SeenJoint → Type 0
 SeesJoint saved (Err moves.Device) = saved.load_plan ≡ LoadsOpen
 SeesJoint saved (Err moves.Memory) = IsTrue saved.may_lack_memory
 SeesJoint saved (Err fault) = IsTrue saved.is_honest → IsSomeAnd saved.content (λ bytes. HasJointFileFault bytes fault)
 SeesJoint saved (Ok found) = IsTrue saved.is_honest → HoldsJointFile saved.content (documents_in (Ok found))
 
--- What is seen of the document of a number: that of its own file, if there is one, or else what the file of an older
--- version has of it.
+-- what is seen of the document with this number: what its own file has, if there is one, or else the joint file
 abbrev pub SeesNumber : SavedSet → SeenJoint → ℕ → Result (Option Held) DeskFault → Type 0
 SeesNumber set joint number (Err fault) = SeesKey set number (Err fault)
 SeesNumber set joint number (Ok None) = SeesKey set number (Ok None) × (map.get (documents_in joint) number ≡ None)
@@ -320,19 +317,18 @@ SeesNumber set joint number (Ok (Some held)) =
 
 -- ---- what is printed
 
--- the line of what was seen of a number; nothing is held of it, so there is none
+-- the line of what was seen of a number; there is none if nothing is held of it
 abbrev pub seen_line : ℕ → Result (Option Held) DeskFault → List ℕ
 seen_line number (Ok None) = []
 seen_line number (Ok (Some held)) = held_line held
 seen_line number (Err fault) = unsound_line number (desk_fault_name fault)
 
--- the line of the file of an older version, if it is not sound
+-- the line of the joint file, if it is not sound
 abbrev pub joint_line : SeenJoint → List ℕ
 joint_line (Ok _) = []
 joint_line (Err fault) = unsound_joint_line (move_fault_name fault)
 
--- the lines of the numbers below this one, as they rise, after that of the file of an older version; and whether one of
--- them is of a file that is not sound
+-- the lines of the numbers below this one, after the joint file's; and whether any of them is of an unsound file
 pub data Lists (set : SavedSet) (joint : SeenJoint) : ℕ → List ℕ → Bool → Type 0 where
   begun : Lists set joint 0 (joint_line joint) (is_err joint)
   further : {number : ℕ} {text : List ℕ} {unsound : Bool} (found : Result (Option Held) DeskFault)
@@ -340,7 +336,7 @@ pub data Lists (set : SavedSet) (joint : SeenJoint) : ℕ → List ℕ → Bool 
       → Lists set joint (number + 1) (text ++ seen_line number found) (unsound || is_err found)
 
 -- What is said of one document, or of all, and the exit status. If nothing is held of the one that is asked for, that
--- is refused, unless the file of an older version is not sound, which may have held it.
+-- is refused; but if the joint file is not sound, its line stands there instead, since it may have held the document.
 pub data Says (set : SavedSet) (joint : SeenJoint) : Option ℕ → List ℕ → ℕ → Type 0 where
   is_held : {id : ℕ} (held : Held) → SeesNumber set joint id (Ok (Some held))
       → Says set joint (Some id) (held_line held) 0
@@ -355,7 +351,7 @@ pub data Says (set : SavedSet) (joint : SeenJoint) : Option ℕ → List ℕ →
   no_keys : (why : StoreFault) → ListsKeys (λ (keys : List ℕ). keys) set 65536 (Err why) set
       → Says set joint None (refused_line (move_fault_name (move_fault_of why))) 1
 
--- so it was told; or the output has failed at one of all documents, and a part of some first lines is out
+-- this was written; or the output failed in the list of all documents, and a part of its first lines is out
 pub data TellsHeld (set : SavedSet) (joint : SeenJoint) (old : OutputView) (status : ℕ) (new : OutputView)
     : Option ℕ → Type 0 where
   whole : {id : Option ℕ} (text : List ℕ) (wanted : ℕ) → Says set joint id text wanted → Tells text wanted old status new
@@ -364,7 +360,7 @@ pub data TellsHeld (set : SavedSet) (joint : SeenJoint) (old : OutputView) (stat
       → new.has_failed ≡ true → AppendsPart old.contents new.contents text → status ≡ 1
       → TellsHeld set joint old status new None
 
--- and what was seen was settled; or it could not be, though all was well, and that was refused
+-- and what was seen was settled; or, though all was well, it could not be, and the line of that refusal follows
 abbrev pub TellsSettled : SavedSet → SeenJoint → OutputView → ℕ → OutputView → Option ℕ → Type 0
 TellsSettled set joint old status new id = TellsHeld set joint old status new id
     ⊎ ((mid : OutputView) × (why : StoreFault) × TellsHeld set joint old 0 mid id × Settles set (Err why) set
@@ -378,7 +374,7 @@ pub record EndsHeldOf (id : Option ℕ) (old : OnDesk) (status : ℕ) (new : OnD
   pub only : OnlyOutput old.streams new.streams
   pub same : new.files ≡ old.files
 
--- how `held` ends, with a text or none
+-- how `held` ends, with the text of an ID or without
 abbrev pub EndsHeld : Option (List ℕ) → OnDesk → ℕ → OnDesk → Type 0
 EndsHeld None = EndsHeldOf None
 EndsHeld (Some text) = EndsOnId RefusesOnOutput text (λ id. EndsHeldOf (Some id))
@@ -389,15 +385,15 @@ EndsHeld (Some text) = EndsOnId RefusesOnOutput text (λ id. EndsHeldOf (Some id
 
 -- ---- the label
 
--- the page is page m of the document, as it is held
+-- the page is page m of the document, as the desk holds it
 pub record IsPageHeld (held : Documents) (id m : ℕ) (page : PageView) : Type 0 where
   pub id_is : page.id ≡ id
   pub m_is : page.m ≡ m
   pub n_is : page.n ≡ count_at held id
   pub bytes_are : page_at held id m ≡ Some page.bytes
 
--- the grid is the label, of this size and encodation, of page m of the document, as it is held: it has room for the
--- page, and it carries it
+-- the grid is the label of page m of the document, as the desk holds it, in this size and encodation: the page fits,
+-- and the label carries it
 pub record Copies (held : Documents) (id m : ℕ) (size : Size) (scheme : Scheme) (grid : GridView) : Type 0 where
   pub page : PageView
   pub is_held : IsPageHeld held id m page
@@ -405,7 +401,7 @@ pub record Copies (held : Documents) (id m : ℕ) (size : Size) (scheme : Scheme
   pub sealed : Seals size scheme page grid
   pub carries : Carries page grid
 
--- the name of the reason that there is no such label, or no image of it: the first, in this order, that applies
+-- the name of the reason why there is no such label, or no image of it: the first of these that applies
 pub data HasNoCopy (held : Documents) (id m : ℕ) (size : Size) (scheme : Scheme) : List ℕ → Type 0 where
   not_held : map.get held id ≡ None → HasNoCopy held id m size scheme (codes "NotHeld")
   incomplete : IsSome (map.get held id) → page_at held id m ≡ None
@@ -420,7 +416,7 @@ GivesCopy id m size scheme held (Err name) = HasNoCopy held id m size scheme nam
 
 -- ---- the command
 
--- how `copy` ends for an ID: the side is that of no size; or by what the desk gives
+-- how `copy` ends for an ID: no size has the side; or as the desk answers
 pub data EndsCopyOf (options : CopyOptions) (id : ℕ) (old : OnDesk) (status : ℕ) (new : OnDesk) : Type 0 where
   no_side : ¬ IsSide options.side → new.files ≡ old.files
       → RefusesOnErrors (refusal_name refusals.Side) old.streams status new.streams
@@ -434,13 +430,13 @@ EndsCopy options = EndsOnId RefusesOnErrors options.id.now (EndsCopyOf options)
 
 -- ---- what a copy opens as
 
--- what was opened is page m of the document, as it is held, and no codeword and no module of a finder pattern was
--- wrong; only memory can be refused
+-- the label opened as page m of the document, as the desk holds it, with no wrong codeword or module of a finder
+-- pattern; only memory may be refused
 abbrev pub OpensAsHeld : {A : Type 0} → Documents → ℕ → ℕ → Result (Opened A) LabelFault → Type 0
 OpensAsHeld held id m (Ok label) = IsPageHeld held id m label.page × (label.corrected ≡ 0) × (label.wrong ≡ 0)
 OpensAsHeld held id m (Err labels.Memory) = Unit {0}
 OpensAsHeld held id m (Err _) = ⊥
 
--- if a page was opened, it is page m of the document as it is held, and no other
+-- if a page was opened, it is page m of the document, as the desk holds it
 abbrev pub OpensAsNoOther : {A : Type 0} → Documents → ℕ → ℕ → Result (Opened A) LabelFault → Type 0
 OpensAsNoOther held id m result = IfOk result (λ label. IsPageHeld held id m label.page)

@@ -70,8 +70,8 @@ impl<T: StoreSet, A: Allocator + Copy> Scanning<T, A> {
         }
     }
 
-    // Hands a grid to the desk. An answer that rests on what was held before is given once that is settled: a page that
-    // is told as held is never taken back by a stop of the machine. What a save has kept is settled by it.
+    // Hands a grid to the desk. An answer that rests on what was held before is given only once that is settled, so no
+    // stop of the machine takes back a page that was reported as held. A save settles what it keeps.
     fn accept(&mut self, grid: &LentGrid) -> Result<Result<Accepted, ScanFault>, StoreFault>
         requires { self.old.desk.is_failed ≡ false }
         ensures answers { MatchResult result (λ answer. AcceptsGrid grid.now self.old.desk answer self.new.desk)

@@ -1,5 +1,5 @@
--- What commands of a desk took in and gave out, by their contracts: the grids of a scan, the files of an import, the file
--- of an export, and the label that `copy` wrote.
+-- What commands of a desk took in and gave out, by their contracts: the grids of a scan, the files of an import, the
+-- file of an export, and the label that `copy` wrote.
 use Rattle.std.specs.Prelude.{ℕ, Bool, List, [], ◌∷◌, ◌++◌, Option, None, Some, Result, Ok, Err, ◌≡◌, ◌<◌, IfSome, IsTrue, slice_get}
 use Rattle.dm_finder_frame.specs.Frame.{GridView}
 use Rattle.dm_size.specs.declared.size.Size.{Size}
@@ -23,7 +23,7 @@ use Rattle.dm_assembly_desk.specs.declared.fault.ScanFault.TheVariants as scans
 use Rattle.dm_assembly_desk.specs.declared.fault.ImportFault.TheVariants as imports
 use Rattle.std.specs.FinMap as finite
 
--- what came of files, one after another
+-- what a command took in from files, one after another
 abbrev pub of_each_file : {S X : Type 0} {Tells : FileView → S → ℕ → S → Type 0} {has_stopped : S → Bool}
     (of_one : (file : FileView) (old : S) (status : ℕ) (new : S) → Tells file old status new → List X)
     {files : List FileView} {old new : S} {status : ℕ} → TellsFiles Tells has_stopped files old status new → List X
@@ -123,21 +123,21 @@ label_copied {options} (of_id id text_is (of_side size is (opened desk opens res
 
 -- ---- desks of printed pages
 
--- Desks that hold pages of printed labels alone: which commands keep them so, and what they give out.
+-- Desks that hold only pages of printed labels: which commands keep them so, and what they give out.
 
--- an honest set holds the files of documents, and of each page in them a label left
+-- an honest set holds the files of documents, and a label of each page in them left
 pub record HoldsPrinted (labels : List Label) (set : SavedSet) : Type 0 where
   pub honest : IsTrue set.is_honest
   pub held : Documents
   pub files : HoldsFiles set.content held
   pub printed : HaveLeft labels held
 
--- an honest store is no joint file that holds a document
+-- an honest store holds no joint file with a document
 pub record HasNoDocuments (joint : Saved) : Type 0 where
   pub honest : IsTrue joint.is_honest
   pub none : (held : Documents) → HoldsJointFile joint.content held → 0 < finite.len held → ⊥
 
--- what these commands need, and keep
+-- what these commands need and keep
 pub record HasPrinted (labels : List Label) (on : OnDesk) : Type 0 where
   pub set : HoldsPrinted labels on.files.set
   pub joint : HasNoDocuments on.files.joint
@@ -157,7 +157,7 @@ pub record IsNearPrinted (labels : List Label) (grid : GridView) : Type 0 where
   pub carries : Carries page own
   pub of_label : IsOfLabel labels page
 
--- the bytes are a file of pages of which labels left
+-- the bytes are a file of pages, and a label of each of these left
 pub record IsPrintedFile (labels : List Label) (bytes : List ℕ) : Type 0 where
   pub id : ℕ
   pub pages : Pages
@@ -165,8 +165,8 @@ pub record IsPrintedFile (labels : List Label) (bytes : List ℕ) : Type 0 where
   pub is_file : bytes ≡ file id pages
   pub clean : IsCleanExport labels (record { id = id; pages = pages })
 
--- The output got nothing, and the status is 1; or it got a first part of the one document that the labels of this
--- ID are cut from, and all of it where the status is 0.
+-- The output got nothing, and the status is 1; or it got a first part of the one document that the labels of this ID
+-- were cut from, and all of it if the status is 0.
 pub data GivesPrinted (labels : List Label) (text : List ℕ) (old : OnDesk) (status : ℕ) (new : OnDesk) : Type 0 where
   nothing : new.streams.output ≡ old.streams.output → status ≡ 1 → GivesPrinted labels text old status new
   document : (id : ℕ) (bytes : List ℕ) → IsTextOfId text id → IsTheDocument labels id bytes

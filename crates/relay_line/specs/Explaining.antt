@@ -6,7 +6,7 @@ use Rattle.std.specs.Prelude.{ℕ, List, [], ◌∷◌, ◌++◌, ◌==◌, Opti
 abbrev pub first_line : List ℕ → List ℕ
 first_line text = before_first (λ byte. byte == 10) text
 
--- of a refusal: the first text that begins with a line of its name
+-- what explains a refusal: the first text whose first line is its name
 abbrev pub explained : List (Bor (List ℕ)) → List ℕ → Option (List ℕ)
 explained [] name = None
 explained (text ∷ rest) name = if bytes_eq (first_line text.now) name then Some text.now else explained rest name

@@ -49,7 +49,7 @@ saved_path line = option_map (λ path. path.now) line.saved_as
 
 -- what a parse found for a command
 module _ (found : List Row) where
-  -- under the name of an option stands this text, or this number
+  -- under the name of an option it found this text, or this number
   abbrev pub HasText : String → List ℕ → Type 0
   HasText name text = first_of (codes name) found ≡ Some text
 
@@ -59,7 +59,7 @@ module _ (found : List Row) where
   abbrev pub HasNumber : String → ℕ → Type 0
   HasNumber name number = number_at (codes name) ≡ Some number
 
-  -- a side, and the labels of a print: of a side, or the most
+  -- a side; and the labels of a print: their side, or how many at most
   abbrev pub HasSide : ℕ → Type 0
   HasSide side = (10 ≤ side) × (side ≤ 132) × HasNumber "side" side
 
@@ -99,7 +99,7 @@ module _ (found : List Row) where
       × (1 ≤ page) × (page ≤ 16) × HasNumber "page" page × HasText "scheme" (scheme_name scheme)
   HasValues World = Unit {0}
 
-  -- the other files of a line are what was found too
+  -- the other files of a line were found too
   abbrev pub HasFiles : CommandLine → Type 0
   HasFiles line = MatchOption (all_of (codes "images") found) (named_images line ≡ []) (λ names. named_images line ≡ names)
       × (saved_path line ≡ if saves_output line.command then first_of (codes "to") found else None)
@@ -107,17 +107,16 @@ module _ (found : List Row) where
   abbrev pub IsFoundIn : CommandLine → Type 0
   IsFoundIn line = HasValues line.command × HasFiles line
 
--- `words` with its defaults, and no other files; or what some parse has found
+-- `words` with its defaults and no other files, or what some parse found
 abbrev pub IsFound : CommandLine → Type 0
 IsFound line = ((line.command ≡ Words 10 Ascii) × (named_images line ≡ []) × (saved_path line ≡ None))
     ⊎ ((found : List Row) × IsFoundIn found line)
 
--- The command is the one of this name, the word after the program's own, or `words` with its defaults where there is no
--- such word.
+-- The command has this name, the word after the program's own; or it is `words` with its defaults if there is no word.
 abbrev pub IsNamed : Option (List ℕ) → Command → Type 0
 IsNamed name command = MatchOption name (command ≡ Words 10 Ascii) (λ given. given ≡ command_name command)
 
--- a line that is not taken ends with 0, where help was asked for, or with 2
+-- a line that is no command ends with 0, if help was asked for, or with 2
 abbrev pub HasStatus : LineFault → Type 0
 HasStatus (Line text status) = (status ≡ 0) ⊎ (status ≡ 2)
 HasStatus Memory = Unit {0}

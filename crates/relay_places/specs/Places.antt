@@ -12,28 +12,28 @@ files_of joint set = record { joint = joint; set = set }
 abbrev pub PlacesView : Type 0
 PlacesView = List ℕ → DeskFiles
 
--- nothing is claimed of what is at the paths
+-- what is at the paths if nothing is claimed of it
 abbrev pub unclaimed_places : PlacesView
 unclaimed_places path = files_of (saved_under unclaimed path) (set_in unclaimed path)
 
--- of what is kept in memory the first at a path is there, or nothing is
+-- what is at a path in memory: the first of these that has it, or nothing
 abbrev pub kept_at : List MemPlace → PlacesView
 kept_at [] path = files_of (in_memory None false Fine) (in_memory empty false Fine)
 kept_at (kept ∷ rest) path =
     if bytes_eq (string_bytes kept.path) path then files_of kept.files.0 kept.files.1 else kept_at rest path
 
--- at every other path is what was there before
+-- every other path has what it had before
 abbrev pub KeepsOthers : List ℕ → PlacesView → PlacesView → Type 0
 KeepsOthers path old new = (other : List ℕ) → other ≢ path → new other ≡ old other
 
--- Nothing was changed, or the file at the path was saved as stores are saved; all else is as it was.
+-- Nothing was changed, or the file at the path was saved as stores are; all else is as it was.
 abbrev pub SavesNew : List ℕ → List ℕ → PlacesView → Result (Unit {0}) StoreFault → PlacesView → Type 0
 SavesNew path bytes old answer new =
     ((new ≡ old) × ((fault : StoreFault) × (answer ≡ Err fault)))
     ⊎ (Replaces (old path).joint bytes answer (new path).joint × ((new path).set ≡ (old path).set)
     × KeepsOthers path old new)
 
--- The draft of a file is beside it, and so is the file that is locked: beside a ledger, or beside a desk's folder.
+-- The draft of a file is beside it, and so is the file that is locked, beside a ledger or beside a desk's folder.
 pub record IsPlaced (place : Place) : Type 0 where
   pub draft : string_bytes place.draft ≡ draft_of (string_bytes place.file)
   pub of_ledger : IsFalse place.is_desk → string_bytes place.lock ≡ string_bytes place.file ++ codes ".lock"

@@ -1,4 +1,4 @@
--- What the commands of printers do to ledgers and streams, and the lines that they write: what these show is this project's own rule.
+-- What the commands of printers do to ledgers and streams, and the lines that they write, which are this project's own.
 use Rattle.std.specs.Prelude.{ℕ, List, [], ◌∷◌, ◌++◌, codes, zero, suc, Option, Some, None, take, drop, ◌≡◌, ◌⊎◌, ◌<◌, ◌+◌, ◌*◌, ◌/◌, Ok, length, map, slice_index, Result, Err, ◌↔◌, ◌≤◌, ◌≢◌, true, false, Bool, ◌&&◌, ◌||◌, ◌==◌, not, nat_eq, if◌then◌else◌, slice_get, IfSome, MatchOption}
 use Rattle.std.specs.{Fmt.decimal, Option.option_map_or, Cmp.Lexicographic.pointwise, Io.KnownBytes.Appends}
 use Rattle.std.specs.List.{flat_map, All, range_with_len, AllPairs, Contains, list_any, slice_split, AllByRecursion, filter}
@@ -55,8 +55,7 @@ given_line given = codes "given " ++ (decimal given ++ 10 ∷ [])
 abbrev pub took_line : Giver → List ℕ
 took_line giver = codes "took " ++ (decimal giver.number ++ (32 ∷ (decimal giver.serial ++ 10 ∷ [])))
 
--- the printer, how many IDs are free and which, how many tickets were given, and the last taken of each
--- giver
+-- the printer, how many IDs are free and which, how many tickets it gave, and the last ticket taken from each giver
 abbrev pub shown_lines : ShownView → List ℕ
 shown_lines shown = number_line shown.number ++ (left_line (free_count shown.free) ++ (flat_map free_line shown.free ++
     (given_line shown.next_serial ++ flat_map took_line shown.givers)))
@@ -71,7 +70,7 @@ from_line ticket = codes "from " ++ (decimal ticket.giver ++ (codes " to " ++ (d
     (codes " serial " ++ (decimal ticket.serial ++ (codes " first " ++ (decimal ticket.range.first ++
     (codes " last " ++ (decimal ticket.range.last ++ 10 ∷ [])))))))))
 
--- digits in groups of four, joined by hyphens: this many groups, and after them the digits that are left
+-- digits, of which this many groups of four are split off; hyphens join the groups and what is left
 unfoldable pub grouped : ℕ → List ℕ → List ℕ
 grouped zero digits = digits
 grouped (suc more) digits = take 4 digits ++ 45 ∷ grouped more (drop 4 digits)
@@ -84,30 +83,30 @@ check_text bytes = grouped 5 (encode_lower bytes)
 abbrev pub check_line : List ℕ → List ℕ
 check_line bytes = codes "check " ++ (check_text bytes ++ 10 ∷ [])
 
--- ---- ticket: its text, in the two forms that this project lays down, and what `ticket` says of one
+-- ---- ticket: its text, in this project's two forms, and what `ticket` says of one
 
--- twelve bytes: ten, and two error correction codewords of them
+-- twelve bytes: these ten and their two error correction codewords
 pub record IsChecked (bytes whole : List ℕ) : Type 0 where
   pub count : length whole ≡ 12
   pub words : All (λ word. word < 256) whole
   pub begins : take 10 whole ≡ bytes
   pub block_word : IsSoundBlock 2 whole
 
--- the text is twenty digits, and they are those of these ten bytes
+-- the text is the twenty digits of these ten bytes
 abbrev pub IsBareText : List ℕ → List ℕ → Type 0
 IsBareText text bytes = decode_sized text 10 ≡ Ok bytes
 
--- the 24 digits of a text in groups of four, without what stands between the groups
+-- the 24 digits of a text in groups of four, without what separates the groups
 unfoldable pub digits_in_groups : List ℕ → List ℕ
 digits_in_groups text = map (λ k. slice_index text (k + k / 4)) (range_with_len 0 24)
 
--- the text is 24 digits in groups of four, joined by hyphens, and they are those of these twelve bytes
+-- the text is the 24 digits of these twelve bytes, in groups of four joined by hyphens
 pub record IsGroupedText (text whole : List ℕ) : Type 0 where
   pub size : length text ≡ 29
   pub hyphens : (j : ℕ) → j < 5 → slice_index text (5 * j + 4) ≡ 45
   pub decoded : decode_sized (digits_in_groups text) 12 ≡ Ok whole
 
--- the check form: these ten bytes and two error correction codewords of them are spelled in groups
+-- the check form: the text spells these ten bytes and their two error correction codewords in groups
 pub record IsCheckText (text bytes : List ℕ) : Type 0 where
   pub whole : List ℕ
   pub in_groups : IsGroupedText text whole
@@ -125,7 +124,7 @@ IsTextOf text ticket = SpellsTicket text (ticket_bytes ticket)
 abbrev pub HasTicket : List ℕ → Type 0
 HasTicket text = (bytes : List ℕ) × SpellsTicket text bytes × AreOfTicket bytes
 
--- how `ticket` ends: the two lines of the ticket of the text were written, or the text is that of no ticket
+-- how `ticket` ends: it wrote the two lines of the ticket that the text spells, or the text spells none
 pub data EndsTicket (text : List ℕ) (old : StreamsView) (status : ℕ) (new : StreamsView) : Type 0 where
   shown : (ticket : TicketView) (whole : List ℕ) → HasTicket text → IsTextOf text ticket
       → IsChecked (ticket_bytes ticket) whole → TellsOnOutput (from_line ticket ++ check_line whole) old status new
@@ -142,7 +141,7 @@ pub record OnLedger : Type 0 where
 abbrev pub ledger_at : Saved → StreamsView → OnLedger
 ledger_at saved streams = record { saved = saved; streams = streams }
 
--- how `ledger` ends: a printer was created, and the output was told how many IDs are free; or why none was
+-- how `ledger` ends: a printer was created, and the output says how many IDs are free; or it says why none was
 pub data EndsLedger (number : ℕ) (range : Range) (old : OnLedger) (status : ℕ) (new : OnLedger) : Type 0 where
   created : (printer : PrinterView) → Creates old.saved number range (Ok printer) new.saved
       → TellsOnOutput (left_line (free_count printer.ledger.free)) old.streams status new.streams
@@ -151,7 +150,7 @@ pub data EndsLedger (number : ℕ) (range : Range) (old : OnLedger) (status : �
       → RefusesOnOutput (create_fault_name fault) old.streams status new.streams
       → EndsLedger number range old status new
 
--- how `give` ends: the printer was opened and has answered, and the output was told; or why it was not opened
+-- how `give` ends: the printer was opened, and the output has its answer; or the output says why it was not opened
 pub data EndsGive (number to : ℕ) (range : Range) (old : OnLedger) (status : ℕ) (new : OnLedger) : Type 0 where
   opened : (before after : PrinterView) (answer : Result TicketView GiveFault) →
       PrinterOpens old.saved number (Ok before) → GivesTicket before to range answer after → new.saved ≡ after.saved
@@ -161,12 +160,12 @@ pub data EndsGive (number to : ℕ) (range : Range) (old : OnLedger) (status : �
       → RefusesOnOutput (open_fault_name fault) old.streams status new.streams
       → EndsGive number to range old status new
 
--- how many IDs the longest range that is free has
+-- how many IDs the longest free range has
 abbrev pub longest_note : ℕ → List ℕ
 longest_note most = codes "relay: the longest range that is free has " ++ (decimal most ++ 10 ∷ [])
 
--- How `give` ends that is to give the last so many: the printer was opened, and was to give these, and the output was
--- told; or it has not so many, and the output and the standard error were told; or why it was not opened.
+-- How `give` ends if it is to give the last `count` IDs: the printer was opened and answered for these; or no range is
+-- that long, as the output and the standard error say; or the output says why it was not opened.
 pub data EndsGiveLast (number to count : ℕ) (old : OnLedger) (status : ℕ) (new : OnLedger) : Type 0 where
   gave : (range : Range) (before after : PrinterView) (answer : Result TicketView GiveFault)
       → AreLastFree before.ledger.free count range → PrinterOpens old.saved number (Ok before)
@@ -183,7 +182,7 @@ pub data EndsGiveLast (number to count : ℕ) (old : OnLedger) (status : ℕ) (n
       → RefusesOnOutput (open_fault_name fault) old.streams status new.streams
       → EndsGiveLast number to count old status new
 
--- how `take` ends: the text is that of no ticket; or the printer was opened and has answered, or it was not opened
+-- how `take` ends: the text spells no ticket; or the printer was opened and has answered; or it was not opened
 pub data EndsTake (number : ℕ) (text : List ℕ) (old : OnLedger) (status : ℕ) (new : OnLedger) : Type 0 where
   no_ticket : ¬ HasTicket text → new.saved ≡ old.saved
       → RefusesOnOutput (refusal_name Ticket) old.streams status new.streams → EndsTake number text old status new
@@ -195,8 +194,7 @@ pub data EndsTake (number : ℕ) (text : List ℕ) (old : OnLedger) (status : �
   not_opened : (fault : OpenFault) → HasTicket text → PrinterOpens old.saved number (Err fault) → new.saved ≡ old.saved
       → RefusesOnOutput (open_fault_name fault) old.streams status new.streams → EndsTake number text old status new
 
--- How `left` ends, with the store as it was: the lines of what an honest store holds were written, or why there are
--- none.
+-- how `left` ends, with the store as it was: it wrote what an honest store holds, or why it can't be shown
 pub data EndsLeft (old : OnLedger) (status : ℕ) (new : OnLedger) : Type 0 where
   shown : (shown : ShownView) → LoadsLedger old.saved (show_verdict old.saved.content) (Ok shown)
       → new.saved ≡ old.saved → TellsOnOutput (shown_lines shown) old.streams status new.streams
@@ -205,23 +203,23 @@ pub data EndsLeft (old : OnLedger) (status : ℕ) (new : OnLedger) : Type 0 wher
       → new.saved ≡ old.saved
       → RefusesOnOutput (open_fault_name fault) old.streams status new.streams → EndsLeft old status new
 
--- ---- print and plan: what `print` does to the store of a ledger and to the streams, in the size that suits the labels
--- that are asked for; and what `plan` writes: each side of which a document has labels, and how many
+-- ---- print and plan: what `print` does to the store of a ledger and to the streams, in the smallest size that suits; and
+-- what `plan` writes: each side that the document fits on, and how many labels it needs
 
 -- the images of labels, one after another
 abbrev pub images_of : List GridView → List ℕ
 images_of grids = flat_map p4 grids
 
--- What is out of the images of labels where one is lost: without memory for it those before it, and it is not; if a
--- write fails, the images up to a byte.
+-- Which images of labels went out when one was lost. If memory was refused for it, those before it; if a write failed,
+-- a first part of them all.
 pub data LosesImages (labels : List GridView) (old new : OutputView) : Refusal → Type 0 where
   memory : (done : List GridView) (next : GridView) (rest : List GridView) → labels ≡ done ++ next ∷ rest
       → Appends old.contents new.contents (images_of done) → LosesImages labels old new Memory
   write : (fault : WriteFault) → new.has_failed ≡ true → AppendsPart old.contents new.contents (images_of labels)
       → LosesImages labels old new (Output fault)
 
--- How the labels of a job go out: first the line, to the standard error, then the images, to the output. If the line
--- can't be written, no byte of an image goes out. If an image is lost, the line of the refusal follows the first.
+-- How the labels of a job go out: first the line, on the standard error, then the images, on the output. If the line
+-- can't be written, no byte of an image goes out. If an image is lost, the line of the refusal follows.
 pub data PrintsLabels (labels : List GridView) (line : List ℕ) (old : StreamsView) (status : ℕ) (new : StreamsView)
     : Type 0 where
   no_line : new.errors.has_failed ≡ true → AppendsPart old.errors.contents new.errors.contents line
@@ -233,19 +231,18 @@ pub data PrintsLabels (labels : List GridView) (line : List ℕ) (old : StreamsV
       → LosesImages labels old.output new.output refusal → TellsRefusal (refusal_name refusal) errors status new.errors
       → PrintsLabels labels line old status new
 
--- how a printer's answer to a document goes out, if this many IDs are free then: the labels of the job, or
--- the line of a refusal
+-- how a printer's answer goes out when it has this many free IDs left: the labels of the job, or the line of a refusal
 abbrev pub TellsPrint : Result JobView PrintFault → ℕ → StreamsView → ℕ → StreamsView → Type 0
 TellsPrint (Ok job) left old status new =
     PrintsLabels job.labels (printed_line job.id job.count left) old status new × ReadsNothing old new
 TellsPrint (Err fault) left old status new = RefusesOnErrors (print_fault_name fault) old status new
 
--- a side that is asked for is that of a size
+-- if a side is asked for, some size has it
 abbrev pub HasSide : Labels → Type 0
 HasSide (OfSide n) = IsSide n
 HasSide (AtMost most) = Unit {0}
 
--- the size is of the side that is asked for; or the document has labels of it, and not more than are asked for
+-- the size has the side that is asked for; or the document needs no more labels of it than are asked for
 abbrev pub Suits : Labels → Scheme → List ℕ → Size → Type 0
 Suits (OfSide n) scheme document size = side size ≡ n
 Suits (AtMost most) scheme document size = (count : ℕ) × HasLabels size scheme document count × (count ≤ most)
@@ -255,8 +252,7 @@ pub record IsChosen (labels : Labels) (scheme : Scheme) (document : List ℕ) (s
   pub suits : Suits labels scheme document size
   pub smallest : (smaller : Size) → side smaller < side size → ¬ Suits labels scheme document smaller
 
--- What comes of a document that was read: the printer was opened and has answered to it, and its answer has gone out;
--- or the standard error was told why the printer was not opened.
+-- What becomes of a document that was read: the printer was opened and answered, or the standard error says why not.
 pub data PrintsDocument (number : ℕ) (size : Size) (scheme : Scheme) (document : List ℕ) (old : OnLedger) (status : ℕ)
     (new : OnLedger) : Type 0 where
   opened : (before after : PrinterView) (answer : Result JobView PrintFault) → PrinterOpens old.saved number (Ok before)
@@ -267,9 +263,9 @@ pub data PrintsDocument (number : ℕ) (size : Size) (scheme : Scheme) (document
       → RefusesOnErrors (open_fault_name fault) old.streams status new.streams
       → PrintsDocument number size scheme document old status new
 
--- How `print` ends, where `rest` is the input once it was read: a document was read, and this is what came of it in the
--- smallest size that suits it; or, in this order, the side that is asked for is none, the input could not be read, or
--- no size suits the document.
+-- How `print` ends, where `rest` is the input after it was read. A document was read, for which the smallest size that
+-- suits is taken; or, in this order, no size has the side that is asked for, the input could not be read, or no size
+-- suits.
 pub data EndsPrint (number : ℕ) (labels : Labels) (scheme : Scheme) (old : OnLedger) (status : ℕ) (new : OnLedger)
     : Type 0 where
   no_side : ¬ HasSide labels → new.saved ≡ old.saved
@@ -288,18 +284,18 @@ pub data EndsPrint (number : ℕ) (labels : Labels) (scheme : Scheme) (old : OnL
       → PrintsDocument number size scheme document (record old { streams = record old.streams { input = rest } }) status
       new → EndsPrint number labels scheme old status new
 
--- the document has this many labels of this side
+-- the document needs this many labels of this side
 abbrev pub IsPlanned : Scheme → List ℕ → PlannedSide → Type 0
 IsPlanned scheme document planned =
     (size : Size) × (side size ≡ planned.side) × HasLabels size scheme document planned.count
 
--- each side of which the document has labels, and no other, the smallest first
+-- just the sides that the document fits on, the smallest first
 pub record IsPlan (scheme : Scheme) (document : List ℕ) (plan : List PlannedSide) : Type 0 where
   pub names : (planned : PlannedSide) → Contains plan planned ↔ IsPlanned scheme document planned
   pub rising : AllPairs (λ before after. before.side < after.side) plan
 
--- How `plan` ends, where `rest` is the input once it was read: the lines of the plan of the document were written; or
--- there is no line, since the document has labels of no side; or the input could not be read.
+-- How `plan` ends, where `rest` is the input after it was read: the lines of the document's plan were written; or there
+-- are none, since it fits on no side; or the input could not be read.
 pub data EndsPlan (scheme : Scheme) (old : StreamsView) (status : ℕ) (new : StreamsView) : Type 0 where
   planned : (document : List ℕ) (rest : InputView) (plan : List PlannedSide) → ReadsDocument old.input rest document
       → IsPlan scheme document plan → plan ≢ []
@@ -313,22 +309,22 @@ pub data EndsPlan (scheme : Scheme) (old : StreamsView) (status : ℕ) (new : St
       → RefusesOnOutput (input_fault_name fault) (record old { input = rest }) status new
       → EndsPlan scheme old status new
 
--- ---- audit: what it gathers of ledgers and tickets, and the lines in which it says what breaks what printers rely on
+-- ---- audit: what it gathers from ledgers and tickets, and the lines that say which rules of printers they break
 
--- What a ledger or a ticket shows, its place among the files or the lines, from 1, and the ticket; or the line of its fault.
+-- What a ledger or ticket shows, its place among the files or lines, from 1, and the ticket; or the line of its fault.
 pub record EvidenceView : Type 0 where
   pub place : ℕ
   pub fault : List ℕ
   pub ticket : Option TicketView
   pub shown : ShownView
 
--- nothing is shown, for a fault of this name
+-- what shows nothing, for a fault of this name
 abbrev pub shows_none : List ℕ → ℕ → List ℕ → EvidenceView
 shows_none list place name =
     let line = list ++ (32 ∷ (decimal place ++ (32 ∷ (name ++ 10 ∷ [])))) in
     record { place = place; fault = line; ticket = None; shown = shown_of_none }
 
--- a file shows what its bytes say of a ledger, if these are its first bytes; or it is refused
+-- a file shows what its first bytes say of a ledger, or it is refused
 pub data ShowsFile (place : ℕ) (file : FileView) : EvidenceView → Type 0 where
   read : (bytes : List ℕ) (shown : ShownView) → IfSome file.remaining (λ all. bytes ≡ take LEDGER_BYTES all)
       → read_ledger bytes ≡ Ok shown → ShowsFile place file (record { place = place; fault = []; ticket = None; shown = shown })
@@ -337,7 +333,7 @@ pub data ShowsFile (place : ℕ) (file : FileView) : EvidenceView → Type 0 whe
   not_read : (fault : InputFault) → GivesNothing file fault
       → ShowsFile place file (shows_none (codes "file") place (input_fault_name fault))
 
--- a line shows its ticket, which is open if the ledger of its receiver is before it, and has not taken it
+-- a line shows its ticket, which is open if the ledger of its receiver came before and has not taken it
 pub data ShowsLine (before : List EvidenceView) (place : ℕ) (line : List ℕ) : EvidenceView → Type 0 where
   ticket : (ticket : TicketView) → HasTicket line → IsTextOf line ticket
       → ShowsLine before place line (record {
@@ -348,11 +344,11 @@ pub data ShowsLine (before : List EvidenceView) (place : ℕ) (line : List ℕ) 
       })
   refused : ¬ HasTicket line → ShowsLine before place line (shows_none (codes "line") place (refusal_name Ticket))
 
--- those that have no fault
+-- those without a fault
 abbrev pub kept : List EvidenceView → List EvidenceView
 kept evidence = filter (λ one. length one.fault == 0) evidence
 
--- what the first files show, and then the first lines that are not empty
+-- what the first n files show, and then what those of the first k lines show that are not empty
 pub data Gathers (files : List FileView) (lines : List (List ℕ)) : ℕ → ℕ → List EvidenceView → Type 0 where
   begun : Gathers files lines 0 0 []
   file : {n : ℕ} {before : List EvidenceView} {one : EvidenceView} (file : FileView) → Gathers files lines n 0 before
@@ -368,20 +364,20 @@ abbrev pub are_same : EvidenceView → EvidenceView → Bool
 are_same one other = option_map_or (λ ticket. option_map_or (λ its. pointwise nat_eq (ticket_bytes ticket) (ticket_bytes its))
     other.ticket false) one.ticket false
 
--- the first is the ledger of the printer that the other, a ticket, is for
+-- the other is a ticket, and the first is the ledger of its receiver
 abbrev pub is_receiver : EvidenceView → EvidenceView → Bool
 is_receiver one other = option_map_or (λ ticket. is_of one.shown ticket.receiver) other.ticket false
 
--- both show one ticket, and neither is the ledger of the printer that the other is for
+-- both show one ticket, and neither is the ledger of the other's receiver
 abbrev pub is_again : EvidenceView → EvidenceView → Bool
 is_again one other = share_ticket one.shown other.shown && not (is_receiver one other || is_receiver other one)
 
--- a ledger, its place, and the number of its printer, or a hyphen for none; or a ticket and its place
+-- `ledger`, its place, and the number of its printer, or a hyphen if it has none; or `ticket` and its place
 abbrev pub evidence_name : EvidenceView → List ℕ
 evidence_name one = option_map_or (λ _. codes "ticket " ++ decimal one.place)
     one.ticket (codes "ledger " ++ (decimal one.place ++ (codes " of " ++ option_map_or decimal one.shown.number (codes "-"))))
 
--- what is wrong between two, if it is
+-- the line of what is wrong between two, if it is
 abbrev pub breach_line : Bool → List ℕ → EvidenceView → EvidenceView → List ℕ
 breach_line is kind one other = if is then kind ++ (32 ∷ (evidence_name one ++ (32 ∷ (evidence_name other ++ 10 ∷ [])))) else []
 
@@ -409,7 +405,7 @@ pub data AuditSays (files : List FileView) (lines : List (List ℕ)) : List ℕ 
   no_memory : (evidence : List EvidenceView) → Gathers files lines (length files) (length lines) evidence → kept evidence ≢ []
       → AuditSays files lines (flat_map (λ one. one.fault) evidence ++ refused_line (refusal_name Memory))
 
--- The lines were told, and whether there are any; or the output has failed, with a part of them, and takes no more.
+-- The lines were written, and whether there are any; or the output failed with a part of them out, and takes no more.
 abbrev pub TellsLines : List ℕ → OutputView → Bool → OutputView → Type 0
 TellsLines text old some new = (some ≡ not (length text == 0)) × Tells text 1 old 1 new × (old.has_failed ≡ true → new ≡ old)
 
@@ -420,11 +416,11 @@ HasGathered files lines n k sound old told new = (all : List EvidenceView) × Ga
     × MatchOption sound (kept all ≢ []) (λ some. some ≡ kept all)
     × TellsLines (flat_map (λ one. one.fault) all) old told new
 
--- all that `audit` says was told
+-- all that `audit` says was written
 abbrev pub TellsAudit : List FileView → List (List ℕ) → OutputView → Bool → OutputView → Type 0
 TellsAudit files lines old told new = (text : List ℕ) × AuditSays files lines text × TellsLines text old told new
 
--- How `audit` ends: the tickets could not be read, or are too many; or what it says was told, and the status is 0 if that is nothing.
+-- How `audit` ends: tickets could not be read, or are too many; or it wrote what it says, with status 0 if nothing.
 pub data EndsAudit (files : List FileView) (old : StreamsView) (status : ℕ) (new : StreamsView) : Type 0 where
   not_read : (fault : InputFault) (rest : InputView) → HasInputFault old.input rest fault
       → RefusesOnOutput (input_fault_name fault) (record old { input = rest }) status new → EndsAudit files old status new
@@ -436,13 +432,13 @@ pub data EndsAudit (files : List FileView) (old : StreamsView) (status : ℕ) (n
       → status ≡ (if told then 1 else 0) → new ≡ record old { input = rest; output = new.output }
       → EndsAudit files old status new
 
--- What is shown breaks nothing that printers rely on: one ticket twice; or two that are beside one another, which show no
--- ticket both, but for one and the ledger of the printer that it is for.
+-- The two break no rule of printers: they are one ticket; or they may stand beside one another and don't show one
+-- ticket, unless one is a ticket and the other the ledger of its receiver.
 pub data IsSoundPair (one other : EvidenceView) : Type 0 where
   same : are_same one other ≡ true → IsSoundPair one other
   beside : AreBeside one.shown other.shown → is_again one other ≡ false → IsSoundPair one other
 
--- each was read, and breaks nothing with any later one
+-- each was read, and breaks no rule with any later one
 abbrev pub AreAllSound : List EvidenceView → Type 0
 AreAllSound [] = Unit {0}
 AreAllSound (one ∷ later) = (one.fault ≡ []) × AllByRecursion (IsSoundPair one) later × AreAllSound later

@@ -109,7 +109,7 @@ pub fn give_command<A: Allocator + Copy, S: Store, R: Read, W: Write, E: Write>(
     }
 }
 
-// Notes how many IDs the longest range that is free has.
+// Notes how many IDs the longest free range has.
 fn note_longest<E: Write>(errors: &mut Output<E>, most: u32) -> Result<(), WriteFault>
     ensures { PutsText (longest_note most) errors.old result errors.new }
 {
@@ -118,8 +118,8 @@ fn note_longest<E: Write>(errors: &mut Output<E>, most: u32) -> Result<(), Write
     errors.put_all(&[b"relay: the longest range that is free has ", most, b"\n"])
 }
 
-/// Gives the last IDs, so many, that are free and follow one another, as [`give_command`] does; or it
-/// prints `refused NotFree`, and notes how many the longest range that is free has.
+/// Gives the last `count` free IDs in a row, as [`give_command`] does; or it prints `refused NotFree`, and notes how
+/// many the longest free range has.
 pub fn give_last_command<A: Allocator + Copy, S: Store, R: Read, W: Write, E: Write>(
     alloc: A,
     store: S,

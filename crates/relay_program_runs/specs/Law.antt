@@ -1,9 +1,9 @@
--- The commands of the program, one after another: what each found and left, and two laws. No ID is printed
--- twice, and what is delivered was printed. Neither law says that any command succeeds.
+-- The commands of the program, one after another: what each found and left, and two laws. No ID is printed twice, and
+-- what is delivered was printed. Neither law says that any command succeeds.
 --
--- The stores and sets are honest: each holds what it was last given to hold, or, after a save that failed, that or what it
--- held before. Files on a disk that keeps its promise are such stores; that a system's disk keeps it is trusted. Each
--- command has what is at its path to itself until it ends: of two at one path at once nothing is said.
+-- The stores and sets are honest: each holds what was last saved or, after a save that failed, that or what it held
+-- before. Files on a disk that keeps its promise are such stores; that a system's disk keeps it is trusted. Each
+-- command has what is at its path to itself until it ends: nothing is said of two commands at one path at once.
 use Rattle.std.specs.Prelude.{◌≡◌, ◌≢◌, ◌+◌, ◌++◌, ◌∷◌, ◌⊎◌, ℕ, length, AllPairs, Bool, IfSome, IsSomeAnd, IsTrue, List, [], None, Option, Some, slice_get, slice_set}
 use Rattle.std.specs.{List.AllByRecursion, Io.KnownBytes.Appends}
 use Rattle.std.specs.FinMap as finite
@@ -24,16 +24,16 @@ use Rattle.relay_program_runs.specs.Passed.{Made, Passed, made_by, passed_by, te
 
 -- ---- commands that ran
 
--- A command exited with this status. Or the machine cut it short: then it left what it may leave if from some point on each
--- call and each write fails, so what its clause allows, and nobody saw the status of that. If a save failed and the machine
--- stopped before the file was read again, the command counts as cut short, since the stop may have undone the save.
+-- A command exited with this status. Or the machine cut it short: then it left what its clause allows if, from some
+-- point on, each call and each write fails, and nobody saw its status. If a save failed and the machine stopped before
+-- the file was read again, the command counts as cut short, since the stop may have undone the save.
 pub data Halts (A : Type 0) (command : Command) (inputs : List FileView) (before after : OnDesk) : Type 0 where
   exited : (status : ℕ) → Does A command inputs before status after → Halts A command inputs before after
   cut_short : (status : ℕ) → Does A command inputs before status after → Halts A command inputs before after
 
 -- A command with its options; the bytes of each file that it was given to read, where they are known; what it found and
--- what it left: the store at its path, the set beside it, and its streams; and how it ended, with the clause of `do_command`
--- that says so. `A` is what it allocates in.
+-- what it left: the store at its path, the set beside it, and its streams; and how it ended, with the clause of
+-- `do_command` that it met. `A` is its allocator.
 pub record Ran (A : Type 0) : Type 0 where
   pub command : Command
   pub inputs : List FileView
@@ -71,7 +71,7 @@ pub record IsBlank (at : At) : Type 0 where
   pub set_honest : IsTrue at.files.set.is_honest
   pub set : at.files.set.content ≡ finite.empty
 
--- no path stands there twice, and nothing is at any
+-- no path is there twice, and there is nothing at any of them
 pub record IsNew (site : List At) : Type 0 where
   pub paths : AllPairs (λ one other. one.path ≢ other.path) site
   pub blank : (place : ℕ) (at : At) → slice_get site place ≡ Some at → IsBlank at
@@ -79,19 +79,19 @@ pub record IsNew (site : List At) : Type 0 where
 abbrev pub at_its_path : {A : Type 0} → Ran A → DeskFiles → At
 at_its_path ran files = record { path = path_of ran.command; files = files }
 
--- The commands ran one after another, the oldest first. Each found at its path what is there, and what it left is there
--- then; nothing else changes it.
+-- The commands ran one after another, the oldest first. Each found at its path what the site has there, and what it
+-- left is there from then on; nothing else changes it.
 abbrev pub RunInTurn : {A : Type 0} → List At → List (Ran A) → Type 0
 RunInTurn site [] = Unit {0}
 RunInTurn site (ran ∷ later) = (place : ℕ) × (slice_get site place ≡ Some (at_its_path ran ran.before.files))
     × RunInTurn (slice_set site place (at_its_path ran ran.after.files)) later
 
--- so it is of each of them, by those that ran before it
+-- this holds of each of them and of those that ran before it
 abbrev pub Each : {A : Type 0} → (List (Ran A) → Ran A → Type 0) → List (Ran A) → List (Ran A) → Type 0
 Each P earlier [] = Unit {0}
 Each P earlier (ran ∷ later) = P earlier ran × Each P (earlier ++ ran ∷ []) later
 
--- so it is of one of these
+-- this holds of one of these
 abbrev pub SomeRan : {A : Type 0} → (Ran A → Type 0) → List (Ran A) → Type 0
 SomeRan {A} P rans = (number : ℕ) × (ran : Ran A) × (slice_get rans number ≡ Some ran) × P ran
 
@@ -101,11 +101,11 @@ abbrev pub all_made : {A : Type 0} → List (Ran A) → List Made
 all_made [] = []
 all_made (ran ∷ later) = made_by ran.command ran.before ran.after ++ all_made later
 
--- two ledgers are of two numbers, and no ID is in both ranges
+-- two ledgers have different numbers, and no ID is in both ranges
 abbrev pub AreApart : Made → Made → Type 0
 AreApart one other = (one.number ≢ other.number) × IsApart one.range other.range
 
--- a ticket that it took in was given before
+-- if it took in a ticket, that was given before
 abbrev pub TakesGiven : {A : Type 0} → List (Ran A) → Ran A → Type 0
 TakesGiven earlier ran = IfSome (passed ran).taken (λ ticket. SomeRan (λ giver. (passed giver).given ≡ Some ticket) earlier)
 
@@ -114,12 +114,12 @@ abbrev pub LetsOut : {A : Type 0} → (List ℕ → Type 0) → GridView → Ran
 LetsOut IsAmong grid ran = IsSomeAnd (passed ran).printed (λ job. (i : ℕ) × (slice_get job.labels i ≡ Some grid))
     ⊎ (((passed ran).copied ≡ Some grid) × IsAmong (path_of ran.command))
 
--- it exported these bytes; or it left them as the file of a document in the folder at its path, which has the same bytes
+-- it exported these bytes, or left them as the file of a document in the folder at its path
 abbrev pub LeavesFile : {A : Type 0} → List ℕ → Ran A → Type 0
 LeavesFile bytes ran = ((passed ran).exported ≡ Some bytes)
     ⊎ ((key : ℕ) × (finite.get ran.after.files.set.content key ≡ Some bytes))
 
--- At one of these paths it took in grids near such labels alone, and files that were left before at one of these paths.
+-- At one of these paths it took in only grids near such labels, and files that were left before at one of these paths.
 pub record TakesPrinted {A : Type 0} (IsAmong : List ℕ → Type 0) (earlier : List (Ran A)) (ran : Ran A) : Type 0 where
   pub scans : IsAmong (path_of ran.command) → AllByRecursion (λ grid. (own : GridView) × IsNear grid own
       × SomeRan (LetsOut IsAmong own) earlier) (passed ran).scanned
@@ -128,21 +128,21 @@ pub record TakesPrinted {A : Type 0} (IsAmong : List ℕ → Type 0) (earlier : 
 
 -- ---- conclusions
 
--- no job before had the ID of its job
+-- no earlier job had the ID of its job
 abbrev pub IsFirstOfItsId : {A : Type 0} → List (Ran A) → Ran A → Type 0
 IsFirstOfItsId earlier ran = IfSome (passed ran).printed (λ job.
     ¬ SomeRan (λ other. IsSomeAnd (passed other).printed (λ its. its.id ≡ job.id)) earlier)
 
--- the page is one of the parts of a document, in its place
+-- the page is one of these parts of a document, in its place
 pub record IsOnePart (parts : List (List ℕ)) (page : PageView) : Type 0 where
   pub place : ℕ
   pub m_is : page.m ≡ place + 1
   pub n_is : page.n ≡ length parts
   pub part : slice_get parts place ≡ Some page.bytes
 
--- It read the document, and its job has the ID. Each label of the job carries a part of the document under
--- it, and a first part of their images was written. Where the bytes of the input are not known the labels alone say
--- which document it was; where those of the output are not, nothing says what was written.
+-- It read the document, and its job has the ID. Each label of the job carries a part of the document under that ID, and
+-- a first part of their images was written. If the bytes of the input are not known, only the labels say which document
+-- it was; if those of the output are not, nothing says what was written.
 pub record PrintsUnder {A : Type 0} (id : ℕ) (document : List ℕ) (ran : Ran A) : Type 0 where
   pub rest : InputView
   pub read : ReadsDocument ran.before.streams.input rest document
@@ -158,7 +158,7 @@ pub record PrintsUnder {A : Type 0} (id : ℕ) (document : List ℕ) (ran : Ran 
   pub written : AppendsPart ran.before.streams.output.contents ran.after.streams.output.contents (images_of job.labels)
 
 -- It wrote nothing, and its status is 1 if it exited; or it wrote a first part of a document that was printed before
--- under the ID of the text, and all of it if its status is 0.
+-- under the ID that the text spells, and all of it if its status is 0.
 pub data WritesPrinted {A : Type 0} (earlier : List (Ran A)) (text : List ℕ) (ran : Ran A) : Type 0 where
   writes_nothing : ran.after.streams.output ≡ ran.before.streams.output
       → IfSome (status_of ran.ends) (λ status. status ≡ 1) → WritesPrinted earlier text ran
@@ -167,33 +167,33 @@ pub data WritesPrinted {A : Type 0} (earlier : List (Ran A)) (text : List ℕ) (
       → IfSome (status_of ran.ends) (λ status. status ≡ 0 → Appends ran.before.streams.output.contents
       ran.after.streams.output.contents document) → WritesPrinted earlier text ran
 
--- so does `deliver` at one of these paths
+-- a `deliver` at one of these paths does so
 abbrev pub DeliversPrinted : {A : Type 0} → (List ℕ → Type 0) → List (Ran A) → Ran A → Type 0
 DeliversPrinted IsAmong earlier ran =
     IfSome (text_of ran.command) (λ text. IsAmong (path_of ran.command) → WritesPrinted earlier text ran)
 
 -- ---- the laws
 
--- What both laws ask of a list of commands at a site: nothing is there at first, each command finds what the last one at
--- its path left, ledgers are made apart, and tickets are taken as they were given.
+-- What both laws ask of a list of commands at a site: there is nothing at first, each command finds what the last one
+-- at its path left, ledgers are made apart, and tickets are taken as they were given.
 pub record MeetsPremises {A : Type 0} (site : List At) (rans : List (Ran A)) : Type 0 where
   pub is_new : IsNew site
   pub runs : RunInTurn site rans
   pub apart : AllPairs AreApart (all_made rans)
   pub tickets : Each TakesGiven [] rans
 
--- No ID is printed twice. Of scans nothing is asked. A `copy` draws a label again, and is no print.
+-- No ID is printed twice. Nothing is asked of scans. A `copy` draws a label again, and is not a print.
 abbrev pub NoIdIsPrintedTwice : Type 0 → Type 0
 NoIdIsPrintedTwice A = (site : List At) (rans : List (Ran A)) → MeetsPremises site rans → Each IsFirstOfItsId [] rans
 
--- What is delivered at some paths was printed, if besides what they took in was printed. So a misread elsewhere is no
+-- What is delivered at chosen paths was printed, if what these took in was printed too. So a misread elsewhere does not
 -- matter, unless a copy or an export comes from there.
 abbrev pub WhatIsDeliveredWasPrinted : Type 0 → Type 0
 WhatIsDeliveredWasPrinted A = (among : List ℕ → Bool) (site : List At) (rans : List (Ran A)) → MeetsPremises site rans →
     Each (TakesPrinted (λ path. IsTrue (among path))) [] rans → Each (DeliversPrinted (λ path. IsTrue (among path))) [] rans
 
--- `WritesPrinted` in other words: such a `deliver` wrote nothing, or a first part of a document that was printed, and all
--- of it if its status is 0.
+-- `WritesPrinted` in other words: such a `deliver` wrote nothing, or a first part of a document that was printed, and
+-- all of it if its status is 0.
 abbrev pub WhatIsWrittenWasPrinted : Type 0 → Type 0
 WhatIsWrittenWasPrinted A = (earlier : List (Ran A)) (text : List ℕ) (ran : Ran A) → WritesPrinted earlier text ran →
     let old : OutputView = ran.before.streams.output in let new : OutputView = ran.after.streams.output in

@@ -1,4 +1,4 @@
--- The laws of commands, said of the program: of lines that ran one after another over the places of one system.
+-- The laws of commands, said of the program: of lines that ran one after another on the places of one system.
 use Rattle.std.specs.Prelude.{◌≡◌, ◌≢◌, ◌++◌, ◌∷◌, ℕ, AllPairs, Bool, List, [], None, Option, Some, IsTrue, map}
 use Rattle.std.{specs.List.AllByRecursion, specs.Io.KnownBytes.Keeps, proofs.Common.inl, proofs.Common.inr}
 use Rattle.relay_command.specs.declared.command.Command.{Command}
@@ -7,9 +7,9 @@ use Rattle.relay.specs.Program as program
 use Rattle.relay_program_runs.specs.Law.{AreApart, DeliversPrinted, Each, IsBlank, IsFirstOfItsId, Ran, TakesGiven, TakesPrinted, all_made, exited}
 use Rattle.relay_shared.specs.Command.{FileView}
 
--- A line that ran: what is known of the files to be read, by their names; its first word; the system before and after it;
--- and its status, which nobody saw if the machine cut it short. Then it left what it may leave if, from some point on, each
--- call and each write fails.
+-- A line that ran: what is known of the files that it was to read, by their names; its first word; the system before
+-- and after it; and its status. If the machine cut it short, nobody saw that, and the line left what it may leave if,
+-- from some point on, each call and each write fails.
 pub record LineRan (A : Type 0) : Type 0 where
   pub inputs : List ℕ → FileView
   pub name : Option (List ℕ)
@@ -21,7 +21,7 @@ pub record LineRan (A : Type 0) : Type 0 where
 -- ---- the commands of lines
 
 module _ {A : Type 0} where
-  -- the command that was done, with what it found at its path, and what it left there
+  -- the command that was done, with what it found and what it left at its path
   abbrev pub ran_at : {command : Command} {inputs : List FileView} {old new : SystemView} {status : ℕ} →
       DoesAt A command inputs old status new → Ran A
   ran_at {command} {inputs} {old} at = record {
@@ -32,7 +32,7 @@ module _ {A : Type 0} where
     ends = exited at.between.ended at.between.does;
   }
 
-  -- a command that names no path is none of those that the laws speak of
+  -- the laws speak of no command that names no path
   abbrev pub if_named : Option (List ℕ) → Ran A → List (Ran A)
   if_named None ran = []
   if_named (Some path) ran = ran ∷ []
@@ -56,7 +56,7 @@ module _ {A : Type 0} where
   all_commands [] = []
   all_commands (line ∷ later) = commands_in line.runs ++ all_commands later
 
-  -- the paths of the files that the outputs of a line were to be saved as
+  -- the paths at which a line was to save its outputs
   abbrev pub saved_as : {inputs : List ℕ → FileView} {name : Option (List ℕ)} {old new : SystemView} {status : ℕ} →
       program.Runs A inputs name old status new → List (List ℕ)
   saved_as (does line named met (does_and_saves path is to)) = path ∷ []
@@ -66,13 +66,13 @@ module _ {A : Type 0} where
 
   -- ---- premises
 
-  -- the lines ran one after another, the oldest first: each found what the one before left, at each path
+  -- the lines ran one after another, the oldest first: each found, at every path, what the one before left
   abbrev pub Follow : PlacesView → List (LineRan A) → Type 0
   Follow places [] = Unit {0}
   Follow places (line ∷ later) = (line.before.places ≡ places) × Follow line.after.places later
 
-  -- Nothing is there at first, nothing but these lines changes it, no output is saved as the file of a ledger or a desk,
-  -- ledgers are made apart, and tickets are taken as they were given.
+  -- There is nothing at first, only these lines change what there is, no output is saved at the path of a ledger or a
+  -- desk, ledgers are made apart, and tickets are taken as they were given.
   pub record LinesAsk (lines : List (LineRan A)) : Type 0 where
     pub places : PlacesView
     pub is_new : (path : List ℕ) → IsBlank (record { path = path; files = places path })
@@ -88,13 +88,13 @@ module _ {A : Type 0} where
 abbrev pub NoLinePrintsAnIdAgain : Type 0 → Type 0
 NoLinePrintsAnIdAgain A = (lines : List (LineRan A)) → LinesAsk lines → Each IsFirstOfItsId [] (all_commands lines)
 
--- What lines deliver at some paths was printed, if besides what they took in was printed.
+-- What lines deliver at chosen paths was printed, if what was taken in there was printed too.
 abbrev pub WhatLinesDeliverWasPrinted : Type 0 → Type 0
 WhatLinesDeliverWasPrinted A = (among : List ℕ → Bool) (lines : List (LineRan A)) → LinesAsk lines →
     Each (TakesPrinted (λ path. IsTrue (among path))) [] (all_commands lines) →
     Each (DeliversPrinted (λ path. IsTrue (among path))) [] (all_commands lines)
 
--- Where a line that does its command here exits with 0, the command has ended so, and all of its output is out.
+-- If a line whose command is done here exits with 0, so did the command, and all of its output is out.
 abbrev pub AllIsOut : Type 0 → Type 0
 AllIsOut A = (command : Command) (inputs : List FileView) (old new : SystemView) →
     (at : DoesAt A command inputs old 0 new) →

@@ -1,4 +1,4 @@
--- Of each command: what it let out and took in, and which ledger it made.
+-- What each command let out and took in, and which ledger it made.
 use Rattle.std.specs.Prelude.{◌∷◌, ℕ, List, [], None, Option, Some}
 use Rattle.dm_finder_frame.specs.Frame.{GridView}
 use Rattle.dm_print_ledger.specs.{declared.range.Range.Range, Ledger.JobView, Ledger.TicketView}
@@ -10,16 +10,16 @@ use Rattle.relay_desk_runs.specs.Answered.{file_exported, files_imported, grids_
 use Rattle.relay.specs.Program.{Does}
 use Rattle.relay_shared.specs.Command.{FileView}
 
--- the text of the ID that `deliver` is to give
+-- the text of the ID that a `deliver` asks for
 abbrev pub text_of : Command → Option (List ℕ)
 text_of (Deliver file id) = Some id.now
 text_of other = None
 
 -- ---- what was let out and taken in
 
--- the job of a print, by which its ID is used whatever is written of it; the ticket of a give; the label that
--- `copy` wrote; the file of an export. And what was taken in, or may have been, since its save failed: a ticket, the
--- grids of a scan, the files of an import.
+-- What was let out: the job of a print, whose ID is used however much of it is written; the ticket of a give; the label
+-- that `copy` wrote; the file of an export. And what was taken in, or may have been, since its save failed: a ticket,
+-- the grids of a scan, the files of an import.
 pub record Passed : Type 0 where
   pub printed : Option JobView
   pub given : Option TicketView
@@ -33,7 +33,7 @@ abbrev pub nothing : Passed
 nothing =
     record { printed = None; given = None; copied = None; exported = None; taken = None; scanned = []; imported = [] }
 
--- by the clause of the command
+-- as the clause of the command says
 abbrev pub passed_by : (A : Type 0) (command : Command) (inputs : List FileView) (before : OnDesk) (status : ℕ)
     (after : OnDesk) → Does A command inputs before status after → Passed
 passed_by A (Print file number labels scheme) inputs before status after does = record nothing { printed = job_ended does.0.0 }
@@ -48,7 +48,7 @@ passed_by A other inputs before status after does = nothing
 
 -- ---- ledgers
 
--- the number of its printer, and its range
+-- a ledger that was made: the number of its printer, and its range
 pub record Made : Type 0 where
   pub number : ℕ
   pub range : Range
@@ -57,7 +57,7 @@ abbrev pub made_where : Option (List ℕ) → Option (List ℕ) → Made → Lis
 made_where None (Some bytes) ledger = ledger ∷ []
 made_where before after ledger = []
 
--- `ledger` made one if there is a file at its path then, and there was none before
+-- `ledger` made one if there was no file at its path before and there is one after
 abbrev pub made_by : Command → OnDesk → OnDesk → List Made
 made_by (Ledger file number first last) before after = made_where before.files.joint.content after.files.joint.content
     (record { number = number; range = record { first = first; last = last } })

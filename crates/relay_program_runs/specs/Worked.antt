@@ -1,5 +1,5 @@
--- Worked lists: commands over stores in memory and streams whose bytes are known. Of one list all premises of the laws
--- hold. Of each short one all but one hold, and the conclusion fails.
+-- Worked lists: commands over stores in memory and streams whose bytes are known. One list meets all premises of the
+-- laws. Each of the short ones meets all but one, and the conclusion fails.
 use Rattle.std.specs.Prelude.{◌≡◌, ◌≢◌, ◌⊎◌, ◌≤◌, ◌<◌, ℕ, All, AllPairs, Bool, Err, IsSome, IsSomeAnd, IsTrue, List, [], ◌∷◌, None, Option, Some, codes, false, length, slice_get, true}
 use Rattle.std.specs.FinMap as finite
 use Rattle.dm_finder_frame.specs.Frame.{GridView}
@@ -22,7 +22,7 @@ use Rattle.relay.specs.Program.{Does, path_of}
 use Rattle.relay_program_runs.specs.Passed.{Made, made_where, text_of}
 use Rattle.relay_program_runs.specs.Law.{AreApart, MeetsPremises, At, DeliversPrinted, Each, IsBlank, IsFirstOfItsId, IsNew, LeavesFile, LetsOut, NoIdIsPrintedTwice, PrintsUnder, Ran, RunInTurn, SomeRan, TakesGiven, TakesPrinted, WhatIsDeliveredWasPrinted, WritesPrinted, all_made, at_its_path, passed, status_of}
 
--- an input of these bytes, and outputs that nothing was written to
+-- an input with these bytes, and outputs to which nothing was written
 abbrev pub streams_of_input : List ℕ → StreamsView
 streams_of_input input = record {
   input = record { remaining = Some input; has_failed = false };
@@ -30,11 +30,11 @@ streams_of_input input = record {
   errors = record { contents = Some []; has_failed = false };
 }
 
--- over these files, with such streams
+-- these files, with such streams
 abbrev pub given : DeskFiles → List ℕ → OnDesk
 given files input = record { files = files; streams = streams_of_input input }
 
--- The command was done so, over this input and no file to be read, left these files, and wrote these bytes.
+-- The command was done, with this input and no file to read: it has this status, left these files, and wrote this.
 pub record IsDone (A : Type 0) (command : Command) (files : DeskFiles) (input : List ℕ) (status : ℕ)
     (files_after : DeskFiles) (output : List ℕ) : Type 0 where
   pub after : OnDesk
@@ -45,7 +45,7 @@ pub record IsDone (A : Type 0) (command : Command) (files : DeskFiles) (input : 
 abbrev pub two_files : Saved → SavedSet → DeskFiles
 two_files store set = record { joint = store; set = set }
 
--- those in memory, behind fuses, that hold nothing
+-- files in memory, behind fuses, that hold nothing
 abbrev pub no_files : DeskFiles
 no_files = two_files (with_open_plans (in_memory None false Fine)) (with_open_plans (in_memory finite.empty false Fine))
 
@@ -63,8 +63,8 @@ pub record Delivers {A : Type 0} (path written : List ℕ) (ran : Ran A) : Type 
 abbrev pub IsLost : {A : Type 0} → Ran A → Type 0
 IsLost ran = (status_of ran.ends ≡ Some 1) × IsSomeAnd ran.after.streams.output.contents (λ bytes. 0 < length bytes)
 
--- Fourteen commands, of which all premises of the two laws hold, at all paths. One took a ticket, one was cut short, the
--- output of one was lost, one copied a label, and this is delivered at two desks.
+-- Fourteen commands that meet all premises of the two laws, at all paths. One took a ticket, one was cut short, the
+-- output of one was lost, one copied a label, and two desks delivered what was printed.
 pub record IsWorked (A : Type 0) (written : List ℕ) : Type 0 where
   pub site : List At
   pub rans : List (Ran A)
@@ -78,21 +78,21 @@ pub record IsWorked (A : Type 0) (written : List ℕ) : Type 0 where
   pub here : SomeRan (Delivers (codes "d") (codes "1234")) rans
   pub there : SomeRan (Delivers (codes "e") written) rans
   pub written_is : written ≡ codes "1234"
-  -- the laws are said of it, and ask nothing else
+  -- the laws apply to it, and ask nothing else
   pub once : NoIdIsPrintedTwice A → Each IsFirstOfItsId [] rans
   pub delivered : WhatIsDeliveredWasPrinted A → Each (DeliversPrinted (λ path. IsTrue true)) [] rans
 
--- The statuses are 0, but this one is 1, after some bytes; the file is short; and this came out, twice.
+-- All statuses are 0 but one, which is 1, after some bytes; the file is short; and the document came out twice.
 pub record EndWell (statuses : List ℕ) (status : ℕ) (some file one other : List ℕ) : Type 0 where
   pub statuses_are : All (λ status. status ≡ 0) statuses
   pub lost : (status ≡ 1) × (0 < length some)
   pub short : length file ≤ 1000
   pub documents : (one ≡ codes "1234") × (other ≡ codes "1234")
 
--- ---- what is refused silences neither law
+-- ---- what is refused does not count
 
--- A ticket, a grid or a file that was refused, unless its save failed, was not taken in; and no ledger was made where there
--- is one, or is none.
+-- A ticket, a grid or a file that was refused was not taken in, unless its save failed; and no ledger was made if there
+-- was a file before, or is none after.
 pub record RefusalsCountNot : Type 0 where
   pub ticket : (fault : TakeFault) → fault ≢ takes.Save → (ticket : TicketView) → if_taken (Err fault) ticket ≡ None
   pub grid : (fault : ScanFault) → fault ≢ scans.Save → (grid : GridView) → if_saved fault grid ≡ []
@@ -100,11 +100,11 @@ pub record RefusalsCountNot : Type 0 where
   pub there : (old : List ℕ) (after : Option (List ℕ)) (ledger : Made) → made_where (Some old) after ledger ≡ []
   pub absent : (before : Option (List ℕ)) (ledger : Made) → made_where before None ledger ≡ []
 
--- ---- what the words of the laws say at least
+-- ---- what the terms of the laws cover at least
 
--- A command is at the path that it names. A label of a job was let out, and an ID is not printed again, and a
--- document was read, however the print ended; and what is delivered was printed, however `deliver` ended and whatever
--- is known of its output. Each grid near one that was let out may be taken in, and files, of which each was exported or kept.
+-- A command is at the path that it names. However a print ended, the labels of its job were let out, its ID is not
+-- printed again, and its document was read. However a `deliver` ended, and whatever is known of its output, what it
+-- delivered was printed. A grid near one that was let out may be taken in, and so may files that were exported or kept.
 pub record SayAtLeast (A : Type 0) : Type 0 where
   pub place : (ran : Ran A) (files : DeskFiles) → (at_its_path ran files).path ≡ path_of ran.command
   pub label : (among : List ℕ → Bool) (ran : Ran A) (job : JobView) (i : ℕ) (grid : GridView) →
@@ -130,7 +130,7 @@ pub record SayAtLeast (A : Type 0) : Type 0 where
 
 -- ---- each premise is needed
 
--- A list of which the premises of a law hold, one of them in a weaker form, and of which its conclusion fails.
+-- A list that meets the premises of a law, one of them in a weaker form, and for which its conclusion fails.
 pub record Breaks (A : Type 0) (Run : List At → List (Ran A) → Type 0) (Apart : Made → Made → Type 0)
     (Takes So : List (Ran A) → Ran A → Type 0) : Type 0 where
   pub site : List At
@@ -153,7 +153,7 @@ NeedsNumbers A = Breaks A RunInTurn (λ one other. IsApart one.range other.range
 abbrev pub NeedsTickets : Type 0 → Type 0
 NeedsTickets A = Breaks A RunInTurn AreApart (λ earlier ran. Unit {0}) IsFirstOfItsId
 
--- What it found at its path is nothing, or was there once.
+-- What it found at its path is nothing, or what some command once left there.
 abbrev pub FindsOld : {A : Type 0} → List (Ran A) → Ran A → Type 0
 FindsOld earlier ran = IsBlank (at_its_path ran ran.before.files)
     ⊎ SomeRan (λ other. at_its_path other other.after.files ≡ at_its_path ran ran.before.files) earlier
@@ -162,12 +162,12 @@ FindsOld earlier ran = IsBlank (at_its_path ran ran.before.files)
 abbrev pub NeedsFiles : Type 0 → Type 0
 NeedsFiles A = Breaks A (λ site. Each FindsOld []) AreApart TakesGiven IsFirstOfItsId
 
--- a label is taken in that no print or copy of the list let out, and no file
+-- a label is taken in that no print or copy of the list let out, but no file is
 abbrev pub NeedsLabels : Type 0 → Type 0
 NeedsLabels A = Breaks A RunInTurn AreApart (λ earlier ran. TakesGiven earlier ran × ((passed ran).imported ≡ []))
     (DeliversPrinted (λ path. IsTrue true))
 
--- a file is taken in that no command of the list left, and no label
+-- a file is taken in that no command of the list left, but no label is
 abbrev pub NeedsExports : Type 0 → Type 0
 NeedsExports A = Breaks A RunInTurn AreApart (λ earlier ran. TakesGiven earlier ran × ((passed ran).scanned ≡ []))
     (DeliversPrinted (λ path. IsTrue true))

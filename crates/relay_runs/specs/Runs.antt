@@ -1,5 +1,4 @@
--- What commands of a printer were answered, by their contracts: the job of a print, the ticket of a give, and the ticket
--- that a take took in.
+-- What a printer answered to commands, by their contracts: the job of a print, and the tickets of a give and a take.
 use Rattle.std.specs.Prelude.{ℕ, List, Option, None, Some, Result, Ok, Err, ◌≡◌, [], ◌∷◌, map, slice_get, IsTrue, IfSome}
 use Rattle.std.specs.{Result.result_ok, Option.option_to_list}
 use Rattle.dm_encodation.specs.declared.scheme.Scheme.{Scheme}
@@ -19,9 +18,9 @@ use Rattle.dm_event_history.specs.Steps.{IsRun, Moment}
 use Rattle.relay_streams.specs.Streams.{InputView}
 use Rattle.relay_shared.specs.Command.{ReadsDocument}
 
--- ---- what commands were answered
+-- ---- what a printer answered
 
--- the job of a print, if the printer answered one: from then on its ID is used, whatever goes out
+-- the job of a print, if the printer answered with one: from then on its ID is used, whatever goes out
 abbrev pub job_printed : {number : ℕ} {size : Size} {scheme : Scheme} {document : List ℕ} {old new : OnLedger} {status : ℕ} →
     PrintsDocument number size scheme document old status new → Option JobView
 job_printed (print_opened before after answer opens prints same told) = result_ok answer
@@ -34,7 +33,7 @@ job_ended (no_side side same told) = None
 job_ended (not_read fault rest side failed same told) = None
 job_ended (too_long document rest side is_read long same told) = None
 
--- the ticket of a give, if the printer answered one
+-- the ticket of a give, if the printer answered with one
 abbrev pub ticket_given : {number to : ℕ} {range : Range} {old new : OnLedger} {status : ℕ} →
     EndsGive number to range old status new → Option TicketView
 ticket_given (give_opened before after answer opens gives same told only) = result_ok answer
@@ -58,15 +57,15 @@ ticket_taken (take_opened ticket before after answer has is opens takes same tol
 ticket_taken (no_ticket has same told) = None
 ticket_taken (take_not_opened fault has opens same told) = None
 
--- ---- A command of a printer does to its store, and lets out, what a run of the machine does.
+-- ---- A command of a printer changes its store, and lets out goods, as a run of the machine does.
 
--- the store is honest, and holds the file of the sound ledger that the printer stores
+-- the store is honest, and holds the bytes of the sound ledger that the printer stores
 pub record KeepsLedger (saved : Saved) (actor : Actor LedgerView) : Type 0 where
   pub honest : IsTrue saved.is_honest
   pub sound : IsTrue (is_sound (stored_of actor))
   pub content : saved.content ≡ Some (ledger_bytes (stored_of actor))
 
--- From this relay on these moments led to one in which only this printer may be another, and these goods left. The store
+-- These moments led from this relay to one in which only this printer may have changed, and these goods left. The store
 -- holds what the printer stores.
 pub record RunLeadsTo {A : Type 0} (relay : Relay) (place : ℕ) (saved : Saved) (moments : List (Moment A))
     (goods : Goods) (after : Relay) : Type 0 where
@@ -83,7 +82,7 @@ abbrev pub grids_in : Option JobView → List GridView
 grids_in None = []
 grids_in (Some job) = job.labels
 
--- the label is one of the job, cut from a document that was read
+-- the label is one of the job, and was cut from a document that was read
 pub record IsOfJob (input : InputView) (job : Option JobView) (label : Label) : Type 0 where
   pub it : JobView
   pub job_is : job ≡ Some it
@@ -91,8 +90,8 @@ pub record IsOfJob (input : InputView) (job : Option JobView) (label : Label) : 
   pub rest : InputView
   pub read : ReadsDocument input rest label.cut.bytes
 
--- A command that left this store did what a run does from this relay on: the labels that left are those of its job, and
--- the tickets its ticket; the ID of its job was used.
+-- A command that left this store did what some run from this relay does: the labels that left are those of its job, the
+-- tickets are its ticket, and the ID of its job was used.
 pub record FollowsRun (A : Type 0) (relay : Relay) (place : ℕ) (input : InputView) (saved : Saved)
     (job : Option JobView) (ticket : Option TicketView) : Type 0 where
   pub moments : List (Moment A)
@@ -104,7 +103,7 @@ pub record FollowsRun (A : Type 0) (relay : Relay) (place : ℕ) (input : InputV
   pub tickets : goods.tickets ≡ option_to_list ticket
   pub used : (it : JobView) → job ≡ Some it → goods.moves ≡ Used it.id ∷ []
 
--- ---- laws: each command at the ledger of a printer, over an honest store that holds what this printer stores
+-- ---- laws: each command at the ledger of a printer, over an honest store that holds what the printer stores
 
 abbrev pub EachPrintIsARun : Type 0 → Type 0
 EachPrintIsARun A = (relay : Relay) (place : ℕ) (actor : Actor LedgerView) (labels : Labels) (scheme : Scheme) (number : ℕ)

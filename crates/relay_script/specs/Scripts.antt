@@ -13,7 +13,7 @@ use Rattle.relay_script.specs.declared.script.TheConstants.{SCRIPT_BYTES, MOST_E
 abbrev pub word : List (List ℕ) → ℕ → List ℕ
 word words i = slice_index_or words i []
 
--- that many words, the first of which is the name
+-- there are this many words, and the first is the name
 abbrev pub HasForm : List (List ℕ) → List ℕ → ℕ → Type 0
 HasForm words name count = (length words ≡ count) × (word words 0 ≡ name)
 
@@ -52,7 +52,7 @@ SpellsEvent words (Export desk id) = HasForm words (codes "export") 3 × IsNumbe
 SpellsEvent words (Import desk export stop) = HasForm words (codes "import") 4 × IsNumberOf (word words 1) desk
     × IsNumberOf (word words 2) export × IsStopOf (word words 3) stop
 
--- a line of an event, whose words are cut at each space
+-- the line spells the event: its words are what spaces separate
 abbrev pub SpellsEventLine : {A : Type 0} → List ℕ → Event A → Type 0
 SpellsEventLine line event = SpellsEvent (cut_at 32 line) event
 
@@ -67,12 +67,12 @@ AreDesks line capacities = let words = cut_at 32 line in HasForm words (codes "d
     × IsNumberOf (word words 1) count × IsNumberOf (word words 2) capacity
     × (1 ≤ count) × (count ≤ MOST_DESKS) × (capacities ≡ replicate count capacity)
 
--- the place of the first line that begins as that of the desks, as no line of a range does: it is how many ranges there
--- are, or the number of lines where there is none
+-- the place of the first line that begins with `desks`, as no line of a range does: how many ranges there are, or the
+-- number of lines if there is no such line
 abbrev pub desks_place : List (List ℕ) → ℕ
 desks_place lines = position_or_len (λ line. starts_with nat_eq line (codes "desks")) lines
 
--- The lines are those of ranges, one or more, then one of desks, and then those of events, each within its limit.
+-- The lines are those of one or more ranges, one of desks, and then those of events, each within its limit.
 pub record AreLinesOf {A : Type 0} (lines : List (List ℕ)) (script : Script A) : Type 0 where
   pub some_printers : 1 ≤ desks_place lines
   pub few_printers : desks_place lines ≤ MOST_PRINTERS
@@ -81,7 +81,7 @@ pub record AreLinesOf {A : Type 0} (lines : List (List ℕ)) (script : Script A)
   pub few_events : length (drop (desks_place lines + 1) lines) ≤ MOST_EVENTS
   pub events : AllZip SpellsEventLine (drop (desks_place lines + 1) lines) script.events.items
 
--- The bytes are a script: a text whose lines are those of one. A line end follows each, which the last may lack.
+-- The bytes are a script: a text whose lines are those of one. A line end follows each, except perhaps the last.
 pub record IsScript {A : Type 0} (bytes : List ℕ) (script : Script A) : Type 0 where
   pub short : length bytes ≤ SCRIPT_BYTES
   pub is_text : IsUtf8 bytes

@@ -14,26 +14,25 @@ abbrev pub script_fault_name : ScriptFault → List ℕ
 script_fault_name Script = codes "Script"
 script_fault_name Memory = codes "Memory"
 
--- there is nothing that fits
+-- nothing fits
 abbrev pub Nothing : {A : Type 0} → (A → Type 0) → Type 0
 Nothing Fits = (x : _) → ¬ Fits x
 
--- what was found fits, and where nothing was found there is nothing that fits
+-- what was found fits; if nothing was found, nothing fits
 abbrev pub FitsWhereFound : {A : Type 0} → Option A → (A → Type 0) → Type 0
 FitsWhereFound found Fits = MatchOption found (Nothing Fits) Fits
 
--- What was read fits, by what it shows. Where the script is to blame there is nothing that fits, and where memory was
--- refused there is something.
+-- What was read fits, by what it shows. If the script is to blame, nothing fits; if memory was refused, something does.
 abbrev pub IsReadBy : {A B : Type 0} → (A → B) → Result A ScriptFault → (B → Type 0) → Type 0
 IsReadBy shows (Ok x) Fits = Fits (shows x)
 IsReadBy shows (Err Script) Fits = Nothing Fits
 IsReadBy shows (Err Memory) Fits = (x : _) × Fits x
 
--- the same, where it shows itself
+-- the same, for what shows itself
 abbrev pub IsRead : {A : Type 0} → Result A ScriptFault → (A → Type 0) → Type 0
 IsRead result Fits = IsReadBy (λ x. x) result Fits
 
--- the texts of which references are held
+-- the texts behind these references
 abbrev pub texts : List (Bor (List ℕ)) → List (List ℕ)
 texts words = map (λ word. word.now) words
 
@@ -45,7 +44,7 @@ cut_at byte text = slice_split (λ b. b == byte) text
 abbrev pub IsScriptNumber : List ℕ → Type 0
 IsScriptNumber word = IsNumeral 10 word × (length word ≤ 5) × (digits_value 10 word < 65536)
 
--- the number that the word writes
+-- the number that the word spells
 abbrev pub IsNumberOf : List ℕ → ℕ → Type 0
 IsNumberOf word n = IsScriptNumber word × (n ≡ digits_value 10 word)
 
@@ -53,7 +52,7 @@ IsNumberOf word n = IsScriptNumber word × (n ≡ digits_value 10 word)
 unfoldable pub IsSideOf : List ℕ → Size → Type 0
 IsSideOf word size = IsNumberOf word (side size)
 
--- the two codewords of an ID, 1 to 254 each, in hexadecimal: there are 64,516 IDs
+-- the two codewords of one of the 64,516 IDs, 1 to 254 each, in hexadecimal
 unfoldable pub IsIdOf : List ℕ → ℕ → Type 0
 IsIdOf word id = (id < 64516) × (decode_sized word 2 ≡ Ok (id_words id))
 
@@ -72,11 +71,11 @@ IsStopOf word (SaveFault New) = word ≡ codes "fault-new"
 IsStopOf word (AfterLabels most) = (digits : List ℕ) × (word ≡ codes "after:" ++ digits) × IsNumberOf digits most
     × (most ≤ 255)
 
--- a row, a comma and a column: with no comma nothing is left for the column, which then is no number
+-- a row, a comma and a column: without a comma nothing is left for the column, and nothing is no number
 abbrev pub IsFlipOf : List ℕ → ℕ × ℕ → Type 0
 IsFlipOf word flip = IsNumberOf (before_first (λ b. b == 44) word) flip.0
     × IsNumberOf (after_first (λ b. b == 44) word) flip.1
 
--- flips with semicolons between them, or `-` for none
+-- flips separated by semicolons, or `-` for none
 unfoldable pub AreFlipsOf : List ℕ → List (ℕ × ℕ) → Type 0
 AreFlipsOf word flips = ((word ≡ codes "-") × (flips ≡ [])) ⊎ AllZip IsFlipOf (cut_at 59 word) flips

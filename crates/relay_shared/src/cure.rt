@@ -90,8 +90,8 @@ pub fn note_ending<A: Allocator + Copy>(alloc: A, image: &Image<A>, is_of_image:
     String::new(alloc)
 }
 
-/// Notes of which image a refusal is, from 1, and of which label, if one is known. If the standard error fails, the note
-/// is lost and the command goes on.
+/// Notes which image was refused, counted from 1, and which label it is, if that is known. If the standard error fails,
+/// the note is lost, and the command goes on.
 pub fn put_image_note<E: Write>(
     errors: &mut Output<E>,
     number: u32,

@@ -1,5 +1,4 @@
--- What contracts see of a reader and of a writer: the bytes, where they are known, and whether it has failed; and the
--- line of a refusal.
+-- What contracts see of a reader and of a writer: the bytes, if known, and whether it failed; and a refusal's line.
 use Rattle.std.specs.Prelude.{◌≡◌, ◌<◌, ◌≤◌, ℕ, Bool, true, List, [], ◌∷◌, ◌++◌, length, take, Option, IfSome, MatchOption, Result, Err, codes}
 use Rattle.std.specs.Io.KnownBytes.{Keeps, Consumes, Appends, IsAtEnd}
 use Rattle.relay_streams.specs.declared.fault.{WriteFault.WriteFault, ReadFault.ReadFault, InputFault.InputFault}
@@ -21,14 +20,13 @@ pub record OutputView : Type 0 where
 abbrev pub GivesNext : Option (List ℕ) → Option (List ℕ) → Option ℕ → Type 0
 GivesNext old new found = MatchOption found (Keeps old new × IsAtEnd new) (λ byte. Consumes old new (byte ∷ []))
 
--- the first `limit` of the bytes that were left, or all where they are fewer, and no other, are taken
+-- the first `limit` of the bytes that were left, or all if they are fewer, are taken, and no others
 pub record TakesFirst (old new : Option (List ℕ)) (limit : ℕ) (bytes : List ℕ) : Type 0 where
   pub first : IfSome old (λ left. bytes ≡ take limit left)
   pub consumed : Consumes old new bytes
   pub bound : length bytes ≤ limit
 
--- no read failed, and these bytes were read, and no other: the first `limit` of those that were left, or all if they
--- are fewer
+-- no read failed, and just these bytes were read: the first `limit` of those that were left, or all if they are fewer
 pub record ReadsFirst (old new : InputView) (limit : ℕ) (bytes : List ℕ) : Type 0 where
   pub taken : TakesFirst old.remaining new.remaining limit bytes
   pub whole : new.has_failed ≡ old.has_failed
@@ -37,21 +35,21 @@ pub record ReadsFirst (old new : InputView) (limit : ℕ) (bytes : List ℕ) : T
 abbrev pub TakesPart : Option (List ℕ) → Option (List ℕ) → ℕ → Type 0
 TakesPart old new limit = (part : List ℕ) × Consumes old new part × (length part ≤ limit)
 
--- the first `count` bytes of a buffer, and no other, are taken: as many as it has room for, or all that were left
+-- the first `count` bytes of the buffer were taken, and no others: as many as it has room for, or all that were left
 pub record Fills (old new : Option (List ℕ)) (buffer : List ℕ) (count : ℕ) : Type 0 where
   pub bound : count ≤ length buffer
   pub consumed : Consumes old new (take count buffer)
   pub ended : count < length buffer → IsAtEnd new
 
--- a first part of the bytes that were left, perhaps none, was taken, fewer than there was room for
+-- a first part of the bytes that were left was taken, perhaps none, and fewer than there was room for
 abbrev pub TakesFewer : Option (List ℕ) → Option (List ℕ) → ℕ → Type 0
 TakesFewer old new room = (part : List ℕ) × Consumes old new part × (length part < room)
 
--- a text begins with this part, which may be nothing or the whole
+-- the text begins with this part, which may be empty or the whole
 abbrev pub IsFirstPart : List ℕ → List ℕ → Type 0
 IsFirstPart part text = (rest : List ℕ) × (text ≡ part ++ rest)
 
--- a part of the text was appended, its first bytes, and nothing else
+-- a first part of the text was appended, and nothing else
 abbrev pub AppendsPart : Option (List ℕ) → Option (List ℕ) → List ℕ → Type 0
 AppendsPart old new text = (part : List ℕ) × IsFirstPart part text × Appends old new part
 

@@ -1,4 +1,4 @@
--- What `world` writes: the answers to the events of a script. What their lines show is this project's own rule.
+-- What `world` writes: the answers to the events of a script, in lines of this project's own.
 use Rattle.std.specs.Prelude.{ℕ, Bool, true, List, [], ◌∷◌, ◌++◌, if◌then◌else◌, codes, ◌+◌, Err, Option, Some, None, is_some}
 use Rattle.std.specs.{Fmt.decimal, List.list_any, List.flat_map, Option.option_map_or}
 use Rattle.hex.specs.Hex.{encode_lower}
@@ -17,7 +17,7 @@ use Rattle.relay_script.specs.{Scripts.IsScript, Words.IsRead, Words.script_faul
 use Rattle.relay_script.specs.declared.{words.ScriptFault.ScriptFault, script.TheConstants.SCRIPT_BYTES}
 use Rattle.relay_shared.specs.Command.{HasInputFault, StreamsView, Tells, TellsRefusal}
 
--- `printed`, the two codewords of the ID in hexadecimal, the number of the first label, and how many they are
+-- `printed`, the two codewords of the ID in hexadecimal, the number of the first label, and how many labels there are
 abbrev pub labels_line : ℕ → ℕ → ℕ → List ℕ
 labels_line id first count =
     codes "printed " ++ (id_text id ++ (32 ∷ (decimal first ++ (32 ∷ (decimal count ++ 10 ∷ [])))))
@@ -36,7 +36,7 @@ abbrev pub export_line : ℕ → ℕ → ℕ → ℕ → List ℕ
 export_line index id n mask = codes "export " ++ (decimal index ++ (32 ∷ (id_text id ++ (32 ∷ (decimal n ++
     (32 ∷ (word_text mask ++ 10 ∷ [])))))))
 
--- the name of the refusal that a reply is, if it is one
+-- the name of a reply that is a refusal
 abbrev pub reply_refusal : {A : Type 0} → Reply A → Option (List ℕ)
 reply_refusal (PrintRefused fault) = Some (print_fault_name fault)
 reply_refusal (ScanRefused fault) = Some (scan_fault_name fault)
@@ -51,7 +51,7 @@ reply_refusal (DeskRefused fault) = Some (desk_fault_name fault)
 reply_refusal Memory = Some (codes "Memory")
 reply_refusal other = None
 
--- the line of a reply that is no refusal
+-- the line of a reply that is not a refusal
 abbrev pub reply_line : {A : Type 0} → Reply A → List ℕ
 reply_line (Printed id first count) = labels_line id first count
 reply_line (Scanned reply) = accepted_line reply.id reply.m reply.n (kind_name reply.kind)
@@ -67,30 +67,30 @@ reply_line Down = codes "down" ++ 10 ∷ []
 reply_line NoSuch = codes "none" ++ 10 ∷ []
 reply_line other = []
 
--- the line of an event: it begins with `! ` where the event was not found honest
+-- the line of an answer: it begins with `! ` if the event was not found honest
 abbrev pub answer_line : {A : Type 0} → Answer A → List ℕ
 answer_line (answer_kinds.Given is_honest reply) =
     (if is_honest then [] else codes "! ") ++ option_map_or refused_line (reply_refusal reply) (reply_line reply)
 answer_line answer_kinds.NotGiven = refused_line (codes "Memory")
 
--- it is one of a refusal
+-- the answer is a refusal
 abbrev pub is_refused_answer : {A : Type 0} → Answer A → Bool
 is_refused_answer (answer_kinds.Given is_honest reply) = is_some (reply_refusal reply)
 is_refused_answer answer_kinds.NotGiven = true
 
--- some line is one of a refusal
+-- some answer is a refusal
 abbrev pub has_refusal : {A : Type 0} → List (Answer A) → Bool
 has_refusal given = list_any is_refused_answer given
 
--- the line of each answer was written, and the status is 1 if one is of a refusal; or the output has failed
+-- the line of each answer was written, and the status is 1 if one is a refusal; or the output failed
 abbrev pub TellsAnswers : {A : Type 0} → List (Answer A) → OutputView → ℕ → OutputView → Type 0
 TellsAnswers answers old status new =
     Tells (flat_map answer_line answers) (if has_refusal answers then 1 else 0) old status new
 
--- How `world` ends, from its streams to the exit status and the streams: the input was read, up to one byte more than a
--- script has at most; it was a script, its world began and answered each event, so that the headline stands, and the
--- line of each answer was written. Or the first of these was not done, for a reason that stands; memory may be refused
--- at any time.
+-- How `world` ends, with its exit status and streams. The input was read, at most one byte more than the longest script
+-- has; it was a script, its world began and answered each event, so that the headline holds, and the line of each
+-- answer was written. Or the first of these that could not be done is refused for a reason that holds; memory may be
+-- refused at any time.
 pub data EndsWorld (A : Type 0) (old : StreamsView) (status : ℕ) (new : StreamsView) : Type 0 where
   not_read : (fault : InputFault) → HasInputFault old.input new.input fault
       → TellsRefusal (input_fault_name fault) old.output status new.output → EndsWorld A old status new

@@ -1,4 +1,4 @@
--- What a stop asks of a call, how an event at a printer or a desk ends, and the calls of printers.
+-- What a stop does to a call, how an event at a printer or a desk ends, and the calls of printers.
 use Rattle.std.specs.Prelude.{◌≡◌, ℕ, Bool, true, false, ◌++◌, Some, List, map, slice_get, if◌then◌else◌, ◌+◌, [], ◌∷◌, Result, Ok, Err, length, take}
 use Rattle.dm_store.specs.declared.{fuse.Kept.TheVariants.Old, fuse.Kept.TheVariants.New, mem_store.NextSave.NextSave}
 use Rattle.dm_store.specs.declared.mem_store.NextSave.TheVariants.{Fine, FaultOld, FaultNew}
@@ -36,14 +36,14 @@ stops_before BeforeSave = true
 stops_before (InSave Old) = true
 stops_before other = false
 
--- whether it ends before its reply
+-- whether the call ends before its reply
 abbrev pub ends_early : Stop → Bool
 ends_early BeforeSave = true
 ends_early (InSave kept) = true
 ends_early (AfterLabels most) = true
 ends_early other = false
 
--- at most how many labels leave by it: a document has no more than 16
+-- how many labels leave at most: a document has no more than 16
 abbrev pub most_labels : Stop → ℕ
 most_labels (AfterLabels most) = most
 most_labels (InSave kept) = 0
@@ -67,7 +67,7 @@ lacks_memory (ForgetRefused forget_fault.Memory) = true
 lacks_memory (ImportRefused import_fault.Memory) = true
 lacks_memory other = false
 
--- of a call that was made and would be answered so: the reply, and what runs or is down then
+-- the reply, if the call was made and would be answered with this one; and what runs or is down after it
 abbrev pub ended_reply : {A : Type 0} → Stop → Reply A → Reply A
 ended_reply stop reply = if ends_early stop then (if lacks_memory reply then Memory else Stopped) else reply
 
@@ -75,7 +75,7 @@ abbrev pub state_after : {A S : Type 0} → (S → S) → Stop → Reply A → S
 state_after down stop reply state =
     if ends_early stop then (if lacks_memory reply then state else down state) else state
 
--- what left a world, and then these goods
+-- what had left a world, and with these goods
 pub record Left {A : Type 0} (labels : List (LeftLabel A)) (tickets : List TicketView) (exports : List (LeftExport A))
     (goods : Goods) (all_labels : List (LeftLabel A)) (all_tickets : List TicketView)
     (all_exports : List (LeftExport A)) : Type 0 where
@@ -85,7 +85,7 @@ pub record Left {A : Type 0} (labels : List (LeftLabel A)) (tickets : List Ticke
   pub entries : (number : ℕ) (export : Export) → slice_get goods.exports number ≡ Some export →
       IsEntry export.id export.pages
 
--- `Acts` says what is called of what is shown, `Lets` what is so of the goods
+-- `Acts` says what the call does to what is shown, `Lets` what holds of the goods
 pub record EndsSo {A C S : Type 0} (Shows : S → Actor C → Type 0) (Acts : Actor C → Ending A C → Type 0)
     (Lets : Goods → Type 0) (shown : Actor C) (reply : Reply A) (new : S) : Type 0 where
   pub end : Ending A C
@@ -94,7 +94,7 @@ pub record EndsSo {A C S : Type 0} (Shows : S → Actor C → Type 0) (Acts : Ac
   pub shows : Shows new end.actor
   pub lets : Lets end.goods
 
--- so it is of whatever was shown
+-- the same, whatever was shown
 abbrev pub EndsEach : {A C S : Type 0} → (S → Actor C → Type 0) → (Actor C → Ending A C → Type 0) → (Goods → Type 0) →
     S → Reply A → S → Type 0
 EndsEach {A} {C} {S} Shows Acts Lets old reply new =
@@ -118,12 +118,12 @@ left_labels id count number [] = []
 left_labels id count number (grid ∷ grids) =
     record { id = id; number = number; count = count; grid = grid } ∷ left_labels id count (number + 1) grids
 
--- of a print that was answered so at most that many labels leave
+-- the labels that leave by a print with this answer, at most this many
 abbrev pub job_labels : {A : Type 0} → ℕ → Result JobView PrintFault → List (LeftLabel A)
 job_labels most (Ok job) = left_labels job.id job.count 1 (take most job.labels)
 job_labels most (Err fault) = []
 
--- the replies to these answers, where a number of labels or tickets left before
+-- the replies for these answers, after `before` other labels or tickets
 abbrev pub print_reply : {A : Type 0} → ℕ → Result JobView PrintFault → Reply A
 print_reply before (Ok job) = Printed job.id before job.count
 print_reply before (Err fault) = PrintRefused fault
@@ -136,12 +136,12 @@ abbrev pub take_reply : {A : Type 0} → Result (Unit {0}) TakeFault → Reply A
 take_reply (Ok done) = Taken
 take_reply (Err fault) = TakeRefused fault
 
--- the ticket of a give leaves where the give is answered
+-- the ticket of a give leaves if the give is answered with it
 abbrev pub left_ticket : Result TicketView GiveFault → List TicketView
 left_ticket (Ok ticket) = ticket ∷ []
 left_ticket (Err fault) = []
 
--- The printer of this number, restarted: it runs on with what is stored, or is down over it.
+-- The printer with this number after a restart: it runs with what is stored, or is down.
 abbrev pub RestartsAs : {A : Type 0} → ℕ → PrinterActor A → Reply A → PrinterActor A → Type 0
 RestartsAs {A} number old reply new = (shown : Actor LedgerView) → ShowsPrinter old shown →
     (stored_of shown).number ≡ number →

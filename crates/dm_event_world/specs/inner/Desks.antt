@@ -20,7 +20,7 @@ down_desk state = Down (desk_saved state)
 abbrev pub desk_planned : DeskView → NextSave → DeskView
 desk_planned view next = record view { saved = record view.saved { save_plan = save_plan_of next } }
 
--- A call of a desk in order: one that has failed answers so, and stays as it is; any other does what the call does.
+-- A call of a desk in order: one that has failed says so, and stays as it is; any other does what the call does.
 pub record Calling {X : Type 0} (failed_answer : X) (Call : DeskView → X → DeskView → Type 0)
     (old : DeskView) (answer : X) (new : DeskView) : Type 0 where
   pub failed : old.is_failed ≡ true → (answer ≡ failed_answer) × (new ≡ old)
@@ -28,7 +28,7 @@ pub record Calling {X : Type 0} (failed_answer : X) (Call : DeskView → X → D
   pub before : DeskIsInOrder old
   pub after : DeskIsInOrder new
 
--- the desks that a world begins with: one for each capacity, which holds nothing
+-- the desks that a world begins with: one for each capacity, holding nothing
 pub record AreEmpty {A : Type 0} (capacities : List ℕ) (desks : List (DeskActor A)) : Type 0 where
   pub count : length desks ≡ length capacities
   pub each : (desk capacity : ℕ) (actor : DeskActor A) →
