@@ -5,8 +5,8 @@ pub static EXPLANATIONS: [&str; 45] = [
     "Side\n  From: `words`, `draw`, `print`, `copy`.\n  No symbol has this side.\n  \
     What to do: use one of 10 to 26 by twos, 32, 36, 40, 44, 48, 52, 64, 72, 80,\n  88, 96, 104, 120, 132.\n",
     "TooLong\n  From: `words`, `draw`, `print`, `plan`, `copy`.\n  \
-    The document needs more codewords than the symbol has, or more than 16\n  \
-    labels, or more labels than `--labels` allows; or the side is 10, too small\n  for a label.\n  \
+    The document (for `copy`, the page) doesn't fit the symbol, 16 labels, or as\n  \
+    many as `--labels` allows; side 10 is too small for a label.\n  \
     What to do: use a larger side, more labels or another scheme (`plan` shows\n  which), or split the document.\n",
     "Range\n  From: `ledger`, `give`, `world`.\n  The first ID is above the last, or the last is above 64,515.\n  \
     What to do: correct the IDs.\n",
@@ -24,7 +24,7 @@ pub static EXPLANATIONS: [&str; 45] = [
     What to do: check the file, and try again. A `scan` or `import` has kept the\n  pages that it reported.\n",
     "Memory\n  From: all.\n  Memory was refused.\n  \
     What to do: free some memory, and try again. If `print` had written its\n  \
-    line, the ID stays used; what `audit` said before it holds.\n",
+    line, the ID stays used; what `audit` printed before it is true.\n",
     "Magic\n  The next bytes aren't `P1` or `P4`; often there is a stray line end after a\n  packed image.\n  \
     What to do: give PBM images, one right after another; `relay-find` makes\n  \
     them from pictures, `pngtopnm`, `pamthreshold` and `pamtopnm` from a PNG.\n",
@@ -70,16 +70,17 @@ pub static EXPLANATIONS: [&str; 45] = [
     What to do: check `--file`, or make one with `ledger`.\n",
     "Exists\n  From: `ledger`.\n  Something is at this path already.\n  \
     What to do: a ledger is made only once; use another path.\n",
-    "Device\n  From: commands with `--file`.\n  \
-    A file could not be used: it can't be read, is not a plain file, has a\n  \
-    second name (hard link) or a reserved ending (LIMITS.md), is in use by\n  \
-    another program, can't be locked, or its folder is missing or can't be\n  synced.\n  \
+    "Device\n  From: mostly commands with `--file`.\n  \
+    A file could not be used: it can't be read or locked, or saved by `ledger`\n  \
+    or the move of an old file, is not a plain file, has a second name (hard\n  \
+    link) where the command locks, or a reserved ending (LIMITS.md), is in use\n  \
+    by another program, or its folder is missing or can't be synced.\n  \
     What to do: read the line `relay: PATH: WHY`. Correct what it names, or wait\n  \
     for the other program. After `ledger` check with `left`: the ledger may be\n  there.\n",
     "Save\n  From: all that save but `ledger`.\n  \
     The save failed, perhaps because the folder is missing or the lock file was\n  \
-    removed. The ID or the range may be used up, the page held, the document\n  \
-    forgotten; nothing was printed or given.\n  \
+    removed. The ID or the range may be used up, the ticket taken, the page\n  \
+    held, the document forgotten; nothing was printed or given.\n  \
     What to do: read the line `relay: PATH: WHY`, mend that, and run the command\n  \
     again; a file of `--to` or `--all` must not be there yet.\n",
     "Write\n  From: all; `read` and `scan` write no line.\n  \
@@ -95,8 +96,10 @@ pub static EXPLANATIONS: [&str; 45] = [
     A file of the desk, or one for `import`, is not a file of pages, is damaged,\n  or belongs to another ID.\n  \
     What to do: read the line `relay: FILE: NAME`. Move the desk's file away,\n  \
     and scan its labels again; meanwhile `held` lists the other documents.\n  Export the one for `import` anew.\n",
-    "Version\n  From: the commands of files.\n  This command reads no such version.\n  \
-    What to do: use the program that wrote it; `export` pages of version 1.\n",
+    "Version\n  From: commands that read a ledger, a desk or pages.\n  \
+    This command doesn't read the version of the file.\n  \
+    What to do: use the program that wrote it; `import` takes no desk's file of\n  \
+    version 1, but what `export` makes of it.\n",
     "Number\n  From: `print`, `give`, `take`.\n  The ledger is another printer's.\n  \
     What to do: check `--number` and `--file`.\n",
     "NotPages\n  From: the commands of desks.\n  \
@@ -112,7 +115,7 @@ pub static EXPLANATIONS: [&str; 45] = [
     "Ranges\n  From: `give`, `take`.\n  The ledger would have more than 64 ranges of free IDs.\n  \
     What to do: give whole ranges, or from their ends.\n",
     "Givers\n  From: `take`.\n  Tickets of 64 other printers were taken.\n  \
-    What to do: let one of these printers take the range and give it on.\n",
+    What to do: this range is lost; others can come by way of these printers.\n",
     "Old\n  From: `take`.\n  This ticket, or a later one of its giver, was taken before.\n  \
     What to do: take the tickets of a giver in order. If this one was never\n  taken, its range is lost.\n",
     "Overlap\n  From: `take`.\n  An ID of the ticket is free here already.\n  \

@@ -29,7 +29,7 @@ Without a command, relay does `words` with its defaults. `relay help COMMAND`
 and `relay COMMAND --help` say more about each.
 
 Exit status: 0 where all was done; 1 where something was refused or found, as
-`refused NAME`, `file NAME FAULT` or a line of `audit` says, or the output
+`refused NAME`, `file NAME FAULT` or a line of `audit` says, or an output
 failed; 2 where the command line was refused; 3 where the script `./relay` could
 not build the program. `relay explain NAME` says what a refusal means.",
 };
@@ -42,8 +42,8 @@ static OF_SYMBOLS: [Page; 3] = [
         rows: &[LEAST_SIDE, SCHEME],
         more: "\
 A codeword is one of the numbers from 0 to 255 that a symbol holds. Side 10
-holds 6 digits or 1 byte, side 132 holds 2608 digits or 1301 bytes;
-docs/SYMBOLS.md has the whole table. A refusal goes to standard output.
+holds 6 digits or 1 byte of any value, side 132 holds 2608 digits or 1301 such
+bytes; docs/SYMBOLS.md has the whole table. A refusal goes to standard output.
 
 Example:
   printf 123456 | relay words",
@@ -77,7 +77,6 @@ looked at. Each image gives a line:
   refused NAME    none that can be read
 C codewords were wrong and were corrected, W modules of the finder patterns
 are wrong, and HEX is the bytes in hexadecimal, or `-` for none.
-Files that are named are read in turn.
 
 Example:
   relay read < symbol.pbm",
@@ -106,7 +105,7 @@ Example:
         more: "\
 Prints a line `side N labels K` for each side for which the document can be cut
 into labels, the smallest side first: `print` with that side prints K labels.
-Nothing is printed or saved. A refusal goes to standard output.
+No label is printed and nothing is saved. A refusal goes to standard output.
 
 Example:
   relay plan < letter",
@@ -212,9 +211,9 @@ prints a line:
   number A B        two ledgers are of one printer
   free A B          an ID is free in both; a ticket's IDs are free on it until
                     its receiver, whose ledger must be given, has taken it
-  again A B         one serial of a printer was given twice
-  behind A B        ledger A is an older state: B shows that its printer gave
-                    more or, if B is another ledger of it, took more
+  again A B         one serial of a printer was given or taken twice
+  behind A B        ledger A may be an older state: B shows that its printer
+                    gave more or, if B is another ledger of it, took more
 A and B are `ledger I of P`, with its place on the line and its printer, and
 `ticket K`, with its line. First come `file I NAME` for each file that gives no
 ledger and `line K Ticket` for each line, unless empty, that is no ticket. Give
@@ -239,14 +238,14 @@ Its page is saved, and then a line says what it was:
   IIII m/n new       page m of n, with the ID IIII, is held now
   IIII m/n again     it was held already
   IIII m/n complete  it is held now, and so are all other pages
-  refused NAME       nothing was changed
-After `refused Save` nothing more is read; the page may be held. A desk keeps a
-document until it is forgotten. Pages that disagree with held ones are refused.
-An old file of pages at DESK is moved first.
+  refused NAME       nothing was changed; but after `refused Save` the page may
+                     be held, and nothing more is read
+A desk keeps a document until it is forgotten. Pages that disagree with held
+ones are refused. An old file of pages at DESK is moved first.
 
 A desk is made with its first page. The capacity is not remembered: a desk that
 holds more documents is refused `TooMany`. Give it at each `scan` and `import`;
-other commands take up to 1024.
+other commands take up to 1024, and `held` any number.
 
 Example:
   relay scan --file desk < labels.pbm",
@@ -350,8 +349,8 @@ static OTHERS: [Page; 3] = [
         usage: "relay world < SCRIPT",
         rows: &[],
         more: "\
-The script names printers, desks, and events: prints, scans, restarts and so on,
-each of which may be stopped where power could fail, or meet a failing save.
+The script names printers, desks, and events: prints, scans, restarts and so on.
+Those that save may be stopped where power could fail, or meet a failing save.
 Each event gives a line, which begins with `! ` if a scan has more wrong
 codewords than can be corrected. docs/RECIPES.md has the form of a script. No
 file is read or written. A refusal goes to standard output.
@@ -365,7 +364,7 @@ Example:
         usage: "relay explain [NAME]",
         rows: &[REFUSAL],
         more: "\
-It prints what docs/REFUSALS.md says.
+It prints what the tables of docs/REFUSALS.md say.
 
 Example:
   relay explain Border",

@@ -7,8 +7,8 @@ use clap::{Arg, ArgAction, ArgGroup, Command};
 use relay_command::SCHEMES;
 use std::alloc::{AllocError, Global};
 
-// How an argument stands on a line: `--NAME VALUE`, where nothing says more; `With` this other one alone; `Not` with it;
-// with this `Default` where it is left out; as a `Flag`, `--NAME`; as at most one `Word`, or any number of `Words`.
+// How an argument stands on a line: `--NAME VALUE`, if nothing says more; only `With` this other one; `Not` with it;
+// with this `Default` if it is left out; as a `Flag`, `--NAME`; as at most one `Word`, or any number of `Words`.
 #[derive(Clone, Copy)]
 #[rattlefmt::skip]
 pub enum Kind { Optional, With(&'static str), Not(&'static str), Required, Default(&'static str), Flag, Word, Words }
@@ -30,8 +30,8 @@ pub mod rows {
     use super::Values::{self, NotEmpty, Number, Scheme, Text};
 
     const U16: Values = Number(0, 65_535);
-    const SIDE_HELP: &str = "modules along a side: 10 to 26 by twos, 32, 36, 40,\n\
-        44, 48, 52, 64, 72, 80, 88, 96, 104, 120 or\n132";
+    const SIDE_HELP: &str = "modules along a side: 10 (12 for labels) to 26 by\n\
+        twos, 32, 36, 40, 44, 48, 52, 64, 72, 80, 88, 96, 104,\n120 or 132";
     const LABELS_HELP: &str = "take the smallest side for which there are at most\n\
         K labels, 2 to 16";
     const SCHEME_HELP: &str = "how the bytes are encoded: ascii, c40, text or\nbase256";
