@@ -44,7 +44,7 @@ fn put_output(room: &mut [u8], count: Option<usize>, output: Decoded) -> Option<
     }
 }
 
-// Writes the bytes of the codewords at the front of a room, and gives how many they are, if it has room for all of them.
+// Writes the bytes of the codewords at the front of a room, and gives how many they are, if they have room there.
 fn read_words(room: &mut [u8], words: &[u8], from: usize) -> Result<Option<usize>, DecodeFault>
     requires { from ≤ length words.now }
     ensures collects { Collects room.new result (reading Ascii (from + 1) (drop from words.now)) }
@@ -64,7 +64,7 @@ fn read_words(room: &mut [u8], words: &[u8], from: usize) -> Result<Option<usize
     Ok(put_output(room, count, output))
 }
 
-/// Writes the bytes that the data codewords from index `from` on read as at the front of room of the caller's, and gives
+/// Writes the bytes that the data codewords from index `from` on read as at the front of the caller's room, and gives
 /// how many they are (ISO/IEC 16022:2006, 5.2; how a run of C40 or Text ends is this project's own rule). The codewords
 /// begin in ASCII, and their end is the symbol's end. It takes no memory.
 ///

@@ -5,7 +5,7 @@ use Rattle.std.specs.Io.KnownBytes.{Appends, append_known}
 use Rattle.relay_shared.specs.Command.{StreamsView}
 use Rattle.relay.specs.{Buffers.BufferView, Buffers.promised, Program.streams_over}
 
--- of the first n items none is left behind the first n
+-- nothing comes after the first n of the first n items
 none_behind : (n : ℕ) (xs : List ℕ) → drop n (take n xs) ≡ []
 none_behind n xs = ap (λ m. drop n (take m xs)) (sym (add-zero n)) ∙ drop-take n 0 xs
 

@@ -139,8 +139,8 @@ fn kept_in<A: Allocator>(sound: &Option<Vec<Evidence, A>>) -> &[Evidence]
     }
 }
 
-// Keeps what a file or a line shows after what is kept already, or drops it all if memory is refused. A fault is told,
-// and then the answer is true.
+// Keeps what a file or a line shows after what is kept already, or drops it all if memory is refused. A fault is
+// written, and then the answer is true.
 fn gather<A: Allocator, W: Write>(
     sound: &mut Option<Vec<Evidence, A>>,
     output: &mut Output<W>,

@@ -89,8 +89,8 @@ fn page_bytes<A: Allocator + Copy>(alloc: A, image: &[u8]) -> Result<Vec<u8, A>,
 
 /// Opens the label of the image that `image` begins with, and corrects it. Answers the number of its page's bytes,
 /// which are then at the front of `bytes`; or -5 (`image` begins with no image of a symbol), -6 (too many codewords, or
-/// modules of the finder patterns, are wrong), -7 (the codewords have no head), -8 (what follows it is no text), -9 (the
-/// bytes have no room) or -10 (memory was refused), and leaves `bytes` as they were.
+/// modules of the finder patterns, are wrong), -7 (the codewords have no head), -8 (what follows it is no text), -9
+/// (the bytes have no room) or -10 (memory was refused), and leaves `bytes` as they were.
 #[unsafe(no_mangle)]
 pub extern "C" fn relay_page_from_image(alloc: Global, image: &[u8], bytes: &mut [u8]) -> isize
     ensures { AnswersCode (BeginsWithPage image.now) bytes.old bytes.new result }

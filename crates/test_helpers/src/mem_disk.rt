@@ -68,8 +68,8 @@ fn is_synced_in<A: Allocator>(calls: &[DiskCall<A>], name: &str) -> bool
 }
 
 fn is_same(content: Option<&[u8]>, other: Option<&[u8]>) -> bool
-    ensures { result
-        ≡ option_eq bytes_eq (option_map (λ bytes. bytes.now) content.entry) (option_map (λ bytes. bytes.now) other.entry) }
+    ensures { result ≡ option_eq bytes_eq
+        (option_map (λ bytes. bytes.now) content.entry) (option_map (λ bytes. bytes.now) other.entry) }
 {
     match (content, other) {
         (None, None) => true,
