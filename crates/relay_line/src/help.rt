@@ -22,7 +22,7 @@ pub struct Page {
 pub const PROGRAM: Page = Page {
     name: "relay",
     about: "Relays documents printed as Data Matrix labels",
-    usage: "relay [COMMAND] [OPTIONS]",
+    usage: "relay [COMMAND [ARGUMENT ..] | --help | --version]",
     rows: &[],
     more: "\
 Without a command, relay does `words` with its defaults. `relay help COMMAND`
@@ -54,8 +54,8 @@ Example:
         usage: "relay draw [--side SIDE] [--scheme SCHEME] [--plain] < DOCUMENT > IMAGE",
         rows: &[LEAST_SIDE, SCHEME, PLAIN],
         more: "\
-The image has one pixel per module, and around the symbol a quiet zone of one
-light pixel, which a scanner needs. docs/SYMBOLS.md says how much each side
+The image has one pixel per module, and around the symbol a quiet zone one pixel
+wide: leave that margin on paper too. docs/SYMBOLS.md says how much each side
 holds, docs/RECIPES.md how to print images. A refusal goes to standard error.
 
 Example:
@@ -136,7 +136,7 @@ Example:
         usage: "relay give --file LEDGER --number N --to N\n         (--first N --last N | --count N)",
         rows: &[LEDGER, NUMBER, TO, SOME_FIRST, SOME_LAST, COUNT],
         more: "\
-The IDs are saved as gone, and then `ticket HEX` is printed. Only the printer
+The IDs are saved as given away, then `ticket HEX` is printed. Only the printer
 that it is for can take it, and only once. A ticket that is lost takes its IDs
 with it. With --count the last N consecutive free IDs go. If no range has N, it
 is refused `NotFree`; standard error says how many the longest has. A refusal
@@ -193,8 +193,8 @@ Prints, a line each:
                     which: from A to B, in decimal and as labels have them
   given N           how many tickets were given
   took P S          the last ticket taken from printer P has the serial S
-Nothing is saved, and another program may save meanwhile. A refusal goes to
-standard output.
+Nothing is saved, and another program may save at the same time. A refusal goes
+to standard output.
 
 Example:
   relay left --file north.ledger",
@@ -212,14 +212,14 @@ prints a line:
   free A B          an ID is free in both; a ticket's IDs are free on it until
                     its receiver, whose ledger must be given, has taken it
   again A B         one serial of a printer was given or taken twice
-  behind A B        ledger A may be an older state: B shows that its printer
-                    gave more or, if B is another ledger of it, took more
+  behind A B        ledger A may be an older state: B shows a ticket that A's
+                    printer gave or took, and that A doesn't know
 A and B are `ledger I of P`, with its place on the line and its printer, and
 `ticket K`, with its line. First come `file I NAME` for each file that gives no
 ledger and `line K Ticket` for each line, unless empty, that is no ticket. Give
 it all ledgers of a site and all tickets given: it is silent, with status 0,
 while all is well.
-Nothing is saved, and another program may save meanwhile.
+Nothing is saved, and another program may save at the same time.
 
 Example:
   relay audit north.ledger south.ledger < tickets",
@@ -241,7 +241,7 @@ Its page is saved, and then a line says what it was:
   refused NAME       nothing was changed; but after `refused Save` the page may
                      be held, and nothing more is read
 A desk keeps a document until it is forgotten. Pages that disagree with held
-ones are refused. An old file of pages at DESK is moved first.
+ones are refused. Documents in an old file at DESK first move to DESK.pages.
 
 A desk is made with its first page. The capacity is not remembered: a desk that
 holds more documents is refused `TooMany`. Give it at each `scan` and `import`;
@@ -285,8 +285,7 @@ The pages stay at the desk. `relay import` takes them in at another. A refusal
 goes to standard error. With `--to` the pages are on the disk once the command
 exits with 0; FILE must not exist before. With `--all` each document is saved
 so, as DIR/IIII; DIR must be there. One that is refused keeps no other back. If
-`held` finds a file that can't be used, what it prints goes to standard error,
-and no document is saved.
+a file is unusable, `held`'s lines go to standard error; no document is saved.
 
 Examples:
   relay export --file desk --id 0101 > 0101.export
@@ -298,12 +297,14 @@ Examples:
         usage: "relay import --file DESK [--capacity N] [FILES ..] < PAGES",
         rows: &[DESK, CAPACITY, PAGES],
         more: "\
-Prints `IIII n added MASK KIND`: the ID, how many pages the document has, which
-of them were added (bit m - 1 for page m, in hexadecimal), and whether the
-document is `complete` now, or `new` pages were added, or all were held already
-(`again`). All are saved at once. A refusal goes to standard output. Files that
-are named are taken in one after another, with a line for each, but none after
-`refused Save`. `relay scan --help` says more of --capacity.
+Saves all pages of a file at once, and prints a line:
+  IIII n added MASK KIND
+                    the ID, how many pages the document has, which of them were
+                    added (bit m - 1 for page m, in hexadecimal), and `again` if
+                    none was, else `complete` if now all are held, or `new`
+A refusal goes to standard output. Files that are named are taken in one after
+another, with a line for each, but none after `refused Save`.
+`relay scan --help` says more of --capacity.
 
 Example:
   relay import --file other-desk 0101.export",
@@ -320,8 +321,8 @@ With --id it prints the line of that document alone, or a refusal. A file that
 can't be used doesn't hide the others: in its place stands `file NAME FAULT`,
 and the exit status is 1. NAME is that of the file in the folder DESK.pages, or
 `joint` for the file of an older version at DESK, which may hold the document
-that --id asks for. Nothing is saved, and another program may gather meanwhile.
-A refusal goes to standard output.
+that --id asks for. Nothing is saved, and another program may save at the same
+time. A refusal goes to standard output.
 
 Example:
   relay held --file desk",
@@ -334,8 +335,8 @@ Example:
         more: "\
 Draws the label of one page that is held, as a packed PBM image. A scan of it
 gives the same page of the same document. The side need not be that of the label
-that is lost. An old file of pages at DESK is moved first. A refusal goes to
-standard error.
+that is lost. Documents in an old file at DESK first move to DESK.pages. A
+refusal goes to standard error.
 
 Example:
   relay copy --file desk --id 0101 --page 2 --side 52 > label.pbm",
@@ -345,7 +346,7 @@ Example:
 static OTHERS: [Page; 3] = [
     Page {
         name: "world",
-        about: "Plays printers and desks by a script, in memory",
+        about: "Simulates printers and desks in memory, from a script",
         usage: "relay world < SCRIPT",
         rows: &[],
         more: "\

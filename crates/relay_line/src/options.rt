@@ -34,7 +34,7 @@ pub mod rows {
         twos, 32, 36, 40, 44, 48, 52, 64, 72, 80, 88, 96, 104,\n120 or 132";
     const LABELS_HELP: &str = "take the smallest side for which there are at most\n\
         K labels, 2 to 16";
-    const SCHEME_HELP: &str = "how the bytes are encoded: ascii, c40, text or\nbase256";
+    const SCHEME_HELP: &str = "how bytes are encoded: ascii, c40 (best for capitals),\ntext (for small letters) or base256";
     const HEX_HELP: &str = "the 20 digits that `give` printed, or the form with\n\
         check digits that `ticket` printed";
     const ID_HELP: &str = "the ID: 4 hexadecimal digits";

@@ -54,7 +54,7 @@ pub(crate) fn note_of_reason(alloc: Global, place: &Place, reason: Reason) -> Op
         Reason::Refused => (file, "can't be looked at"),
         Reason::OwnEnding => (
             file,
-            "names that end in .new, .lock or .pages are for other files",
+            "paths that end in .new, .lock or .pages, or lead into a .pages folder, are reserved",
         ),
         Reason::SecondName => (file, "has a second name"),
         Reason::Busy => (file, "another program is at work there"),
