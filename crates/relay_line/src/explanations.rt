@@ -42,7 +42,7 @@ pub static EXPLANATIONS: [&str; 45] = [
     "Border\n  Over an eighth of the finder patterns' modules are wrong, for example\n  \
     because the image is turned, mirrored or inverted, or its quiet zone isn't\n  one pixel wide.\n  \
     What to do: make the changes that the note names (RECIPES.md); or give the\n  \
-    picture to `relay-find`; or scan the label or a copy again.\n",
+    picture to `relay-find`, unless it is inverted; or scan the label or a copy\n  again.\n",
     "Block\n  A block has more wrong codewords than can be corrected; the image may be\n  mirrored.\n  \
     What to do: make the changes that the note names, or scan the label again.\n  \
     If that fails, `copy` it at a desk that holds its page, or print the\n  document again.\n",
@@ -60,8 +60,8 @@ pub static EXPLANATIONS: [&str; 45] = [
     "Full\n  The desk of `scan` or `import` may hold no further document.\n  \
     What to do: `deliver` and `forget` complete documents, or give a larger\n  `--capacity`, up to 1,024.\n",
     "TooMany\n  More follows in one file after 65,536 images, or `audit` gets more than\n  \
-    1,048,576 bytes of tickets.\n  What to do: split the file; `audit` compares only tickets of one run, so try\n  \
-    every two parts together.\n\n  From: the commands of desks but `held`.\n  \
+    1,048,576 bytes of tickets.\n  What to do: split the file; `audit` compares tickets only within one run, so\n  \
+    run it on every pair of parts.\n\n  From: the commands of desks but `held`.\n  \
     The desk holds more documents than its capacity (without `--capacity` 64 for\n  \
     `scan` and `import`, 1,024 for others).\n  \
     What to do: give a larger `--capacity`, up to 1,024. Beyond that, while no\n  \
@@ -71,10 +71,10 @@ pub static EXPLANATIONS: [&str; 45] = [
     "Exists\n  From: `ledger`.\n  Something is at this path already.\n  \
     What to do: a ledger is made only once; use another path.\n",
     "Device\n  From: mostly commands with `--file`.\n  \
-    A file could not be used: it can't be read or locked, or saved by `ledger`\n  \
-    or the move of an old file, is not a plain file, has a second name (hard\n  \
-    link) where the command locks, or a reserved ending (LIMITS.md), is in use\n  \
-    by another program, or its folder is missing or can't be synced.\n  \
+    A file can't be read or locked, is in use by another program, or is not a\n  \
+    plain file, or its folder is missing or can't be synced. Or the file has a\n  \
+    reserved name (LIMITS.md), or a second one (hard link) where the command\n  \
+    locks. Or `ledger` or the move of an old file could not save.\n  \
     What to do: read the line `relay: PATH: WHY`. Correct what it names, or wait\n  \
     for the other program. After `ledger` check with `left`: the ledger may be\n  there.\n",
     "Save\n  From: all that save but `ledger`.\n  \
