@@ -22,8 +22,8 @@ constexpr const char *USAGE =
     "name is -, it is read from the standard input. The standard error says of each picture how many symbols were\n"
     "found, and where one was seen that could not be sampled.\n"
     "\n"
-    "The status is 0 if each symbol that was seen was written, 1 if one was not, none was found in a picture, or a\n"
-    "picture could not be read, and 2 for a wrong command line.\n";
+    "The status is 0 if each symbol that was seen was written, 1 if one was not, none was found in a picture, time was\n"
+    "up or a picture could not be read, and 2 for a wrong command line.\n";
 
 // A line on the standard error about a picture.
 void say(const char *name, int number, const std::string &what) {
@@ -34,7 +34,7 @@ void say(const char *name, int number, const std::string &what) {
     fprintf(stderr, ": %s\n", what.c_str());
 }
 
-// The symbols of one picture; whether all that were seen were written.
+// The symbols of one picture; whether the search was finished, and all that were seen were written.
 bool find_in(const Picture &picture, const char *name, int number) {
     const Tally tally = find_symbols(picture, [](const Symbol &symbol) {
         const std::vector<uint8_t> bytes = image_of(symbol);
@@ -44,7 +44,7 @@ bool find_in(const Picture &picture, const char *name, int number) {
     for (const Point &at : tally.lost) {
         say(name, number, "a symbol was seen and not sampled at " + std::to_string(int(at.x)) + ", " + std::to_string(int(at.y)));
     }
-    return tally.found > 0 && tally.lost.empty();
+    return tally.found > 0 && tally.lost.empty() && !tally.is_late;
 }
 
 // The symbols of all pictures of a stream. What was found in one is out before the next is read.
