@@ -209,8 +209,8 @@ Reads ledgers, and from standard input tickets, one a line, in either form and
 without the word `ticket`. For each pair that breaks what printers rely on, it
 prints a line:
   number A B        two ledgers are of one printer
-  free A B          an ID is free in both; a ticket's IDs are free on it until
-                    its receiver, whose ledger must be given, has taken it
+  free A B          an ID is free in both; a ticket's IDs are free until it is
+                    taken, if the ledger of its receiver is given
   again A B         one serial of a printer was given or taken twice
   behind A B        ledger A may be an older state: B shows a ticket that A's
                     printer gave or took, and that A doesn't know
@@ -284,7 +284,7 @@ Example:
 The pages stay at the desk. `relay import` takes them in at another. A refusal
 goes to standard error. With `--to` the pages are on the disk once the command
 exits with 0; FILE must not exist before. With `--all` each document is saved
-so, as DIR/IIII; DIR must be there. One that is refused keeps no other back. If
+so, as DIR/IIII; DIR must be there. A refused one doesn't stop the others. If
 a file is unusable, `held`'s lines go to standard error; no document is saved.
 
 Examples:
@@ -318,8 +318,8 @@ Example:
 Prints a line for each document of which a page is held: `IIII N complete`, or
 `IIII N lacks 3 7 12`, its ID, how many pages it has, and which are missing.
 With --id it prints the line of that document alone, or a refusal. A file that
-can't be used doesn't hide the others: in its place stands `file NAME FAULT`,
-and the exit status is 1. NAME is that of the file in the folder DESK.pages, or
+can't be used doesn't hide the others: `file NAME FAULT` comes in its place, and
+the exit status is 1. NAME is that of the file in the folder DESK.pages, or
 `joint` for the file of an older version at DESK, which may hold the document
 that --id asks for. Nothing is saved, and another program may save at the same
 time. A refusal goes to standard output.
@@ -351,7 +351,7 @@ static OTHERS: [Page; 3] = [
         rows: &[],
         more: "\
 The script names printers, desks, and events: prints, scans, restarts and so on.
-Those that save may be stopped where power could fail, or meet a failing save.
+One that saves may be stopped wherever power could fail, or its save may fail.
 Each event gives a line, which begins with `! ` if a scan has more wrong
 codewords than can be corrected. docs/RECIPES.md has the form of a script. No
 file is read or written. A refusal goes to standard output.
