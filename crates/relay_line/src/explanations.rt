@@ -57,7 +57,7 @@ pub static EXPLANATIONS: [&str; 45] = [
     "Conflict\n  `scan` or `import` got a page that disagrees with what the desk holds of its\n  document.\n  \
     What to do: two documents carry one ID (shared or restored ledgers, another\n  \
     system: LIMITS.md), or one was misread. `forget` drops what is held.\n",
-    "Full\n  The desk of `scan` or `import` may hold no further document.\n  \
+    "Full\n  The desk of `scan` or `import` already holds as many documents as its\n  capacity.\n  \
     What to do: `deliver` and `forget` complete documents, or give a larger\n  `--capacity`, up to 1,024.\n",
     "TooMany\n  More follows in one file after 65,536 images, or `audit` gets more than\n  \
     1,048,576 bytes of tickets.\n  What to do: split the file; `audit` compares tickets only within one run, so\n  \
@@ -78,11 +78,11 @@ pub static EXPLANATIONS: [&str; 45] = [
     What to do: read the line `relay: PATH: WHY`. Correct what it names, or wait\n  \
     for the other program. After `ledger` check with `left`: the ledger may be\n  there.\n",
     "Save\n  From: all that save but `ledger`.\n  \
-    The save failed, perhaps because the folder is missing or the lock file was\n  \
-    removed. The ID or the range may be used up, the ticket taken, the page\n  \
-    held, the document forgotten; nothing was printed or given.\n  \
-    What to do: read the line `relay: PATH: WHY`, mend that, and run the command\n  \
-    again; a file of `--to` or `--all` must not be there yet.\n",
+    The save failed, perhaps because the folder is missing, the lock file was\n  \
+    removed, or a file of `--to` or `--all` is there already. The ID or the\n  \
+    range may be used up, the ticket taken, the page held, the document\n  \
+    forgotten; nothing was printed or given.\n  \
+    What to do: read the line `relay: PATH: WHY`, mend that, and run the command\n  again.\n",
     "Write\n  From: all; `read` and `scan` write no line.\n  \
     The output refused a write. What was saved stays saved: the ledger is made,\n  \
     the ID used, the range given or taken, the pages held, the document\n  forgotten.\n  \
