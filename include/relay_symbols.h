@@ -10,7 +10,7 @@
  *
  * No pointer may be null, nor bytes that a call writes overlap those that it reads. The calls keep nothing between
  * them. What is drawn and read, and why a call refuses, memory aside, is proved. Memory comes from malloc, by
- * liblibc_c.a of the toolchain, which a program links too (docs/RECIPES.md shows how). */
+ * liblibc_c.a of the toolchain, which a program links too (bench/run and docs/RECIPES.md show how). */
 #ifndef RELAY_SYMBOLS_H
 #define RELAY_SYMBOLS_H
 
