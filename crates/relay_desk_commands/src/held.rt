@@ -192,14 +192,13 @@ fn settle_seen<T: StoreSet, W: Write>(set: &mut T, output: &mut Output<W>, statu
     }
 }
 
-/// Prints a line for each document of which a page is held, by rising ID: `IIII N complete`, or
-/// `IIII N lacks 3 7 12`, its ID, how many pages it has, and which of them are missing. With the text of an
+/// Prints a line for each document of which a page is held, by rising ID: `IIII n complete`, or
+/// `IIII n lacks 3 7 12`, its ID, how many pages it has, and which of them are missing. With the text of an
 /// ID, as for `deliver`, it prints that line alone, or `refused NotHeld`.
 ///
-/// In the place of a file that can't be read stands `file NAME FAULT`, and the others are listed all the same; for the
-/// file of an older version that line is the first, and its name is `joint`. The exit status is then 1. A last line is
-/// a refusal if a stop of the machine may take back what was seen. No desk is opened, nothing is saved or moved, and
-/// one document is in memory at a time.
+/// In place of a file that can't be read stands `file FILE NAME` (`joint`, of an older version, comes first), and the
+/// others are listed all the same. The exit status is then 1. A last line is a refusal if a stop of the machine may
+/// take back what was seen. No desk is opened, nothing is saved or moved; one document at a time is in memory.
 pub fn held_command<S: Store, T: StoreSet, R: Read, W: Write, E: Write>(
     store: S,
     set: T,

@@ -30,15 +30,14 @@ pub static EXPLANATIONS: [&str; 45] = [
     them from pictures, `pngtopnm`, `pamthreshold` and `pamtopnm` from a PNG.\n",
     "Header\n  The PBM header is malformed, or longer than 4,096 bytes.\n  \
     What to do: make the image again, with a header of `P4`, width and height.\n",
-    "TooLarge\n  The image is wider or higher than 1,024 pixels, or its plain raster has more\n  \
-    than 4,194,304 bytes.\n  What to do: give one pixel per module, as `relay-find` does.\n",
+    "TooLarge\n  The image is wider or higher than 1,024 pixels, or its plain raster doesn't\n  \
+    end within 4,194,304 bytes.\n  What to do: give one pixel per module, as `relay-find` does.\n",
     "Pixel\n  A plain image has a byte that is not a pixel.\n  \
     What to do: make the image again, with only 0, 1 and white space after its\n  header.\n",
     "Cut\n  The input ends inside an image; or a symbol's text ends inside a character\n  \
     or a counted run of bytes.\n  What to do: give the whole image; a symbol with such a text can't be read.\n",
     "Shape\n  The image is not square, or its width less two is not a side.\n  \
-    What to do: crop and shrink it to one pixel per module with a quiet zone of\n  \
-    one pixel, or use `relay-find`.\n",
+    What to do: crop and shrink it to one pixel per module with a quiet zone of\n  one pixel, or use `relay-find`.\n",
     "Border\n  Over an eighth of the finder patterns' modules are wrong, for example\n  \
     because the image is turned, mirrored or inverted, or its quiet zone isn't\n  one pixel wide.\n  \
     What to do: make the changes that the note names (RECIPES.md); or give the\n  \
@@ -79,10 +78,11 @@ pub static EXPLANATIONS: [&str; 45] = [
     for the other program. After `ledger` check with `left`: the ledger may be\n  there.\n",
     "Save\n  From: all that save but `ledger`.\n  \
     The save failed, perhaps because the folder is missing, the lock file was\n  \
-    removed, or a file of `--to` or `--all` is there already. The ID or the\n  \
-    range may be used up, the ticket taken, the page held, the document\n  \
-    forgotten; nothing was printed or given.\n  \
-    What to do: read the line `relay: PATH: WHY`, mend that, and run the command\n  again.\n",
+    removed, or a file of `--to` or `--all` is there already or has a reserved\n  \
+    name. The ID or the range may be used up, the ticket taken, the page held,\n  \
+    the document forgotten; nothing was printed or given.\n  \
+    What to do: read the line `relay: PATH: WHY`, and mend that. Then run the\n  \
+    command again; but if it is `give`, look with `left` first: its IDs may be\n  lost.\n",
     "Write\n  From: all; `read` and `scan` write no line.\n  \
     The output refused a write. What was saved stays saved: the ledger is made,\n  \
     the ID used, the range given or taken, the pages held, the document\n  forgotten.\n  \
@@ -92,9 +92,8 @@ pub static EXPLANATIONS: [&str; 45] = [
     What to do: check `--file`. A damaged ledger is lost: replace it\n  (LIMITS.md).\n",
     "Damaged\n  From: `print`, `give`, `take`, `left`.\n  The file is not a ledger, or it is damaged.\n  \
     What to do: check `--file`. A damaged ledger is lost: replace it\n  (LIMITS.md).\n\n  \
-    From: the commands of desks.\n  \
-    A file of the desk, or one for `import`, is not a file of pages, is damaged,\n  or belongs to another ID.\n  \
-    What to do: read the line `relay: FILE: NAME`. Move the desk's file away,\n  \
+    From: the commands of desks.\n  A file of the desk, or one for `import`, is not a file of pages, is damaged,\n  \
+    or belongs to another ID.\n  What to do: read the line `relay: FILE: NAME`. Move the desk's file away,\n  \
     and scan its labels again; meanwhile `held` lists the other documents.\n  Export the one for `import` anew.\n",
     "Version\n  From: commands that read a ledger, a desk or pages.\n  \
     This command doesn't read the version of the file.\n  \

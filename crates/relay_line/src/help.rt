@@ -1,5 +1,4 @@
-//! The commands as a line names them: the options of each, and its help. No line that is printed is longer than 80
-//! columns.
+//! The commands as a line names them: the options of each, and its help, whose lines have at most 80 columns.
 
 use crate::options::Row;
 use crate::options::rows::{
@@ -28,10 +27,10 @@ pub const PROGRAM: Page = Page {
 Without a command, relay does `words` with its defaults. `relay help COMMAND`
 and `relay COMMAND --help` say more about each.
 
-Exit status: 0 where all was done; 1 where something was refused or found, as
-`refused NAME`, `file NAME FAULT` or a line of `audit` says, or an output
-failed; 2 where the command line was refused; 3 where the script `./relay` could
-not build the program. `relay explain NAME` says what a refusal means.",
+Exit status: 0 if all was done; 1 if something was refused (`refused NAME`) or
+found (`file FILE NAME`, or a line of `audit`), or an output failed; 2 if the
+command line was refused; 3 if the script `./relay` could not build the program.
+`relay explain NAME` says what a refusal means.",
 };
 
 static OF_SYMBOLS: [Page; 3] = [
@@ -55,7 +54,7 @@ Example:
         rows: &[LEAST_SIDE, SCHEME, PLAIN],
         more: "\
 The image has one pixel per module, and around the symbol a quiet zone one pixel
-wide: leave that margin on paper too. docs/SYMBOLS.md says how much each side
+wide: leave at least that margin on paper. docs/SYMBOLS.md says how much a side
 holds, docs/RECIPES.md how to print images. A refusal goes to standard error.
 
 Example:
@@ -64,19 +63,20 @@ Example:
     Page {
         name: "read",
         about: "Prints what the symbols in PBM images carry",
-        usage: "relay read [IMAGES ..] < IMAGES",
+        usage: "relay read (IMAGES .. | < IMAGES)",
         rows: &[IMAGES],
         more: "\
 An image has one pixel per module, and around the symbol a quiet zone of one
-pixel. Packed images may follow one another; what follows a plain one is not
-looked at. Each image gives a line:
+pixel. Packed images (P4) may follow one another; what follows a plain one (P1)
+is ignored. Each image gives a line:
   label IIII m/n corrected C wrong W HEX
                   label m of n, with the ID IIII
   symbol SIDE corrected C wrong W HEX
                   another symbol
   refused NAME    none that can be read
-C codewords were wrong and were corrected, W modules of the finder patterns
-are wrong, and HEX is the bytes in hexadecimal, or `-` for none.
+C is how many wrong codewords were corrected, W how many modules of the finder
+patterns are wrong, and HEX the bytes in hexadecimal, or `-` for none. Notes on
+standard error name refused images, and what would make one readable, if known.
 
 Example:
   relay read < symbol.pbm",
@@ -90,9 +90,9 @@ static OF_PRINTERS: [Page; 4] = [
         usage: "relay ledger --file LEDGER --first N --last N [--number N]",
         rows: &[LEDGER, FIRST, LAST, OWN_NUMBER],
         more: "\
-A ledger is what a printer remembers: which IDs are free. No two ledgers may
-share a number or an ID. Prints `left N`, how many are free. A refusal goes to
-standard output, and a file that was at LEDGER stays as it was.
+A ledger is what a printer remembers, above all which IDs are free. No two
+ledgers may share a number or an ID. Prints `left N`, how many are free. A
+refusal goes to standard output, and a file that was at LEDGER stays as it was.
 
 Example:
   relay ledger --file north.ledger --first 0 --last 9999 --number 1",
@@ -137,9 +137,9 @@ Example:
         rows: &[LEDGER, NUMBER, TO, SOME_FIRST, SOME_LAST, COUNT],
         more: "\
 The IDs are saved as given away, then `ticket HEX` is printed. Only the printer
-that it is for can take it, and only once. A ticket that is lost takes its IDs
-with it. With --count the last N consecutive free IDs go. If no range has N, it
-is refused `NotFree`; standard error says how many the longest has. A refusal
+that it is for can take it, and only once. If a ticket is lost, so are its IDs.
+`--count` gives the last N consecutive free IDs. If no range has N, `give` is
+refused `NotFree`, and standard error says how many the longest has. A refusal
 goes to standard output.
 
 Example:
@@ -206,20 +206,21 @@ Example:
         rows: &[LEDGERS],
         more: "\
 Reads ledgers, and from standard input tickets, one a line, in either form and
-without the word `ticket`. For each pair that breaks what printers rely on, it
-prints a line:
+without the word `ticket` (`< /dev/null` for none). A repeated ticket is no
+fault. For each pair that breaks what printers rely on, it prints a line:
   number A B        two ledgers are of one printer
   free A B          an ID is free in both; a ticket's IDs are free until it is
-                    taken, if the ledger of its receiver is given
+                    taken, if the ledger of its receiver is named
   again A B         one serial of a printer was given or taken twice
   behind A B        ledger A may be an older state: B shows a ticket that A's
                     printer gave or took, and that A doesn't know
-A and B are `ledger I of P`, with its place on the line and its printer, and
-`ticket K`, with its line. First come `file I NAME` for each file that gives no
-ledger and `line K Ticket` for each line, unless empty, that is no ticket. Give
-it all ledgers of a site and all tickets given: it is silent, with status 0,
-while all is well.
-Nothing is saved, and another program may save at the same time.
+A and B are `ledger I of P` (the Ith file named, of printer P) or `ticket K` (on
+line K of the input). First come `file I NAME` for each file that gives no
+ledger and `line K Ticket` for each line that is neither empty nor a ticket.
+Name all ledgers of a site, and pass all tickets given: it is silent, with
+status 0, while all is well. It can't see a restored ledger that had only
+printed since the backup. Nothing is saved, and another program may save
+meanwhile.
 
 Example:
   relay audit north.ledger south.ledger < tickets",
@@ -230,22 +231,23 @@ static OF_DESKS: [Page; 7] = [
     Page {
         name: "scan",
         about: "Gathers the pages of scanned labels at a desk",
-        usage: "relay scan --file DESK [--capacity N] [IMAGES ..] < IMAGES",
+        usage: "relay scan --file DESK [--capacity N] (IMAGES .. | < IMAGES)",
         rows: &[DESK, CAPACITY, IMAGES],
         more: "\
-An image has one pixel per module; `relay-find` makes such images of pictures.
-Its page is saved, and then a line says what it was:
+Takes images as `relay read` does; `relay-find` makes them from pictures. The
+page of each is saved, and then a line says what it was:
   IIII m/n new       page m of n, with the ID IIII, is held now
   IIII m/n again     it was held already
   IIII m/n complete  it is held now, and so are all other pages
-  refused NAME       nothing was changed; but after `refused Save` the page may
-                     be held, and nothing more is read
-A desk keeps a document until it is forgotten. Pages that disagree with held
-ones are refused. Documents in an old file at DESK first move to DESK.pages.
+  refused NAME       the desk holds what it held; but after `refused Save` the
+                     page may be held, and nothing more is read
+Notes on standard error name refused images. A desk keeps a document until it is
+forgotten. Pages that disagree with held ones are refused. Documents in an old
+file at DESK first move to DESK.pages.
 
-A desk is made with its first page. The capacity is not remembered: a desk that
-holds more documents is refused `TooMany`. Give it at each `scan` and `import`;
-other commands take up to 1024, and `held` any number.
+A desk is made with its first page. The capacity is not remembered: give it at
+each `scan` and `import`. A desk that holds more documents than that is refused
+`TooMany`. Other commands take up to 1024, and `held` any number.
 
 Example:
   relay scan --file desk < labels.pbm",
@@ -283,9 +285,10 @@ Example:
         more: "\
 The pages stay at the desk. `relay import` takes them in at another. A refusal
 goes to standard error. With `--to` the pages are on the disk once the command
-exits with 0; FILE must not exist before. With `--all` each document is saved
-so, as DIR/IIII; DIR must be there. A refused one doesn't stop the others. If
-a file is unusable, `held`'s lines go to standard error; no document is saved.
+exits with 0; FILE must not exist before. `--all` does the same for each
+document, with DIR/IIII as FILE; DIR must be there. A refused one doesn't stop
+the others. But if a file of the desk is unusable, `--all` saves nothing, and
+`held`'s lines go to standard error.
 
 Examples:
   relay export --file desk --id 0101 > 0101.export
@@ -294,7 +297,7 @@ Examples:
     Page {
         name: "import",
         about: "Takes in the pages that another desk has exported",
-        usage: "relay import --file DESK [--capacity N] [FILES ..] < PAGES",
+        usage: "relay import --file DESK [--capacity N] (FILES .. | < PAGES)",
         rows: &[DESK, CAPACITY, PAGES],
         more: "\
 Saves all pages of a file at once, and prints a line:
@@ -302,9 +305,8 @@ Saves all pages of a file at once, and prints a line:
                     the ID, how many pages the document has, which of them were
                     added (bit m - 1 for page m, in hexadecimal), and `again` if
                     none was, else `complete` if now all are held, or `new`
-A refusal goes to standard output. Files that are named are taken in one after
-another, with a line for each, but none after `refused Save`.
-`relay scan --help` says more of --capacity.
+A refusal goes to standard output. Named files are taken in turn, a line for
+each, but none after `refused Save`. `relay scan --help` explains --capacity.
 
 Example:
   relay import --file other-desk 0101.export",
@@ -315,14 +317,14 @@ Example:
         usage: "relay held --file DESK [--id IIII]",
         rows: &[DESK, ANY_ID],
         more: "\
-Prints a line for each document of which a page is held: `IIII N complete`, or
-`IIII N lacks 3 7 12`, its ID, how many pages it has, and which are missing.
-With --id it prints the line of that document alone, or a refusal. A file that
-can't be used doesn't hide the others: `file NAME FAULT` comes in its place, and
-the exit status is 1. NAME is that of the file in the folder DESK.pages, or
-`joint` for the file of an older version at DESK, which may hold the document
-that --id asks for. Nothing is saved, and another program may save at the same
-time. A refusal goes to standard output.
+Prints a line for each document of which a page is held: `IIII n complete`, or
+`IIII n lacks 3 7 12`: its ID, its number of pages, and which are missing. With
+--id it prints the line of that document alone, or a refusal. A file that can't
+be used doesn't hide the others: `file FILE NAME` comes in its place, and the
+exit status is 1. FILE is its name in the folder DESK.pages, or `joint` for an
+old file at DESK, which may hold the document that --id asks for. Nothing is
+saved, and another program may save meanwhile. A refusal goes to standard
+output.
 
 Example:
   relay held --file desk",
@@ -334,9 +336,8 @@ Example:
         rows: &[DESK, ID, PAGE, COPY_SIDE, SCHEME],
         more: "\
 Draws the label of one page that is held, as a packed PBM image. A scan of it
-gives the same page of the same document. The side need not be that of the label
-that is lost. Documents in an old file at DESK first move to DESK.pages. A
-refusal goes to standard error.
+gives the same page. Its side need not be that of the lost label. Documents in
+an old file at DESK first move to DESK.pages. A refusal goes to standard error.
 
 Example:
   relay copy --file desk --id 0101 --page 2 --side 52 > label.pbm",
@@ -375,9 +376,7 @@ Example:
         about: "Prints the version, and by which toolchain it was proved",
         usage: "relay version",
         rows: &[],
-        more: "\
-Example:
-  relay version",
+        more: "",
     },
 ];
 

@@ -30,11 +30,14 @@ pub mod rows {
     use super::Values::{self, NotEmpty, Number, Scheme, Text};
 
     const U16: Values = Number(0, 65_535);
-    const SIDE_HELP: &str = "modules along a side: 10 (12 for labels) to 26 by\n\
-        twos, 32, 36, 40, 44, 48, 52, 64, 72, 80, 88, 96, 104,\n120 or 132";
+    const SIDE_HELP: &str = "modules per side: 10 to 26 by twos, 32, 36, 40, 44, 48,\n\
+        52, 64, 72, 80, 88, 96, 104, 120 or 132";
+    const LABEL_SIDE_HELP: &str = "modules per side: 12 to 26 by twos, 32, 36, 40, 44, 48,\n\
+        52, 64, 72, 80, 88, 96, 104, 120 or 132";
     const LABELS_HELP: &str = "take the smallest side for which there are at most\n\
         K labels, 2 to 16";
-    const SCHEME_HELP: &str = "how bytes are encoded: ascii, c40 (best for capitals),\ntext (for small letters) or base256";
+    const SCHEME_HELP: &str = "the encodation: ascii suits digits, c40 capitals, text\n\
+        small letters, base256 any bytes";
     const HEX_HELP: &str = "the 20 digits that `give` printed, or the form with\n\
         check digits that `ticket` printed";
     const ID_HELP: &str = "the ID: 4 hexadecimal digits";
@@ -44,9 +47,9 @@ pub mod rows {
     const COUNT_HELP: &str = "the last N that are free in one range, in place of\n\
         --first and --last";
     const SAVED_HELP: &str = "save it as this file, in place of the standard output";
-    pub const SIDE: Row = Row("side", "SIDE", Optional, Number(10, 132), SIDE_HELP);
+    pub const SIDE: Row = Row("side", "SIDE", Optional, Number(10, 132), LABEL_SIDE_HELP);
     pub const LEAST_SIDE: Row = Row("side", "SIDE", Default("10"), Number(10, 132), SIDE_HELP);
-    pub const COPY_SIDE: Row = Row("side", "SIDE", Required, Number(10, 132), SIDE_HELP);
+    pub const COPY_SIDE: Row = Row("side", "SIDE", Required, Number(10, 132), LABEL_SIDE_HELP);
     pub const LABELS: Row = Row("labels", "K", Optional, Number(2, 16), LABELS_HELP);
     pub const SCHEME: Row = Row("scheme", "SCHEME", Default("ascii"), Scheme, SCHEME_HELP);
     pub const PLAIN: Row = Row("plain", "", Flag, Text, "draws in PBM's plain form, P1, in place of P4");
@@ -67,7 +70,7 @@ pub mod rows {
     pub const ANY_ID: Row = Row("id", "IIII", Optional, Text, ID_HELP);
     pub const PAGE: Row = Row("page", "M", Required, Number(1, 16), "the page, from 1 to 16");
     pub const SAVED: Row = Row("to", "FILE", Optional, NotEmpty, SAVED_HELP);
-    pub const ALL: Row = Row("all", "DIR", Not("to"), NotEmpty, "save each document in this folder, under its ID");
+    pub const ALL: Row = Row("all", "DIR", Not("to"), NotEmpty, "save each document's pages in this folder, by ID");
     pub const IMAGES: Row = Row("images", "IMAGES", Words, Text, IMAGES_HELP);
     pub const PAGES: Row = Row("images", "FILES", Words, Text, "files of pages, in turn; `-` is the standard input");
     pub const REFUSAL: Row = Row("name", "NAME", Word, Text, "the name of a refusal; without one, prints all names");
