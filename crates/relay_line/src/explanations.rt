@@ -67,20 +67,20 @@ pub static EXPLANATIONS: [&str; 45] = [
     command runs, move files to another desk's folder that has none of these\n  names.\n",
     "Absent\n  From: `print`, `give`, `take`, `left`.\n  There is no ledger at this path.\n  \
     What to do: check `--file`, or make one with `ledger`.\n",
-    "Exists\n  From: `ledger`.\n  Something is at this path already.\n  \
+    "Exists\n  From: `ledger`.\n  A file is at this path already.\n  \
     What to do: a ledger is made only once; use another path.\n",
     "Device\n  From: mostly commands with `--file`.\n  \
-    A file can't be read or locked, is in use by another program, or is not a\n  \
-    plain file, or its folder is missing or can't be synced. Or the file has a\n  \
-    reserved name (LIMITS.md), or a second one (hard link) where the command\n  \
+    A file can't be read or locked, is not a plain file, or is in use by another\n  \
+    program. Or its folder is missing, or can't be synced. Or its name is\n  \
+    reserved (LIMITS.md), or it has a second one (hard link) and the command\n  \
     locks. Or `ledger` or the move of an old file could not save.\n  \
     What to do: read the line `relay: PATH: WHY`. Correct what it names, or wait\n  \
     for the other program. After `ledger` check with `left`: the ledger may be\n  there.\n",
     "Save\n  From: all that save but `ledger`.\n  \
-    The save failed, perhaps because the folder is missing, the lock file was\n  \
-    removed, or a file of `--to` or `--all` is there already or has a reserved\n  \
-    name. The ID or the range may be used up, the ticket taken, the page held,\n  \
-    the document forgotten; nothing was printed or given.\n  \
+    The save failed, for example because the folder is missing, the lock file\n  \
+    was removed, or the file of `--to` or `--all` exists or has a reserved name.\n  \
+    The ID or the range may be used up, the ticket taken, the page held, the\n  \
+    document forgotten; nothing was printed or given.\n  \
     What to do: read the line `relay: PATH: WHY`, and mend that. Then run the\n  \
     command again; but if it is `give`, look with `left` first: its IDs may be\n  lost.\n",
     "Write\n  From: all; `read` and `scan` write no line.\n  \

@@ -20,7 +20,7 @@ pub struct Page {
 /// That of the program itself.
 pub const PROGRAM: Page = Page {
     name: "relay",
-    about: "Relays documents printed as Data Matrix labels",
+    about: "Prints documents as Data Matrix labels, and puts them back together",
     usage: "relay [COMMAND [ARGUMENT ..] | --help | --version]",
     rows: &[],
     more: "\
@@ -138,9 +138,9 @@ Example:
         more: "\
 The IDs are saved as given away, then `ticket HEX` is printed. Only the printer
 that it is for can take it, and only once. If a ticket is lost, so are its IDs.
-`--count` gives the last N consecutive free IDs. If no range has N, `give` is
-refused `NotFree`, and standard error says how many the longest has. A refusal
-goes to standard output.
+If no range has as many free IDs as --count says, `give` is refused `NotFree`,
+and standard error says how many the longest has. A refusal goes to standard
+output.
 
 Example:
   relay give --file north.ledger --number 1 --to 2 --first 5000 --last 5999",
@@ -209,8 +209,8 @@ Reads ledgers, and from standard input tickets, one a line, in either form and
 without the word `ticket` (`< /dev/null` for none). A repeated ticket is no
 fault. For each pair that breaks what printers rely on, it prints a line:
   number A B        two ledgers are of one printer
-  free A B          an ID is free in both; a ticket's IDs are free until it is
-                    taken, if the ledger of its receiver is named
+  free A B          an ID is free in both; a ticket's IDs count as free until it
+                    is taken, but only if its receiver's ledger is named
   again A B         one serial of a printer was given or taken twice
   behind A B        ledger A may be an older state: B shows a ticket that A's
                     printer gave or took, and that A doesn't know
@@ -242,8 +242,8 @@ page of each is saved, and then a line says what it was:
   refused NAME       the desk holds what it held; but after `refused Save` the
                      page may be held, and nothing more is read
 Notes on standard error name refused images. A desk keeps a document until it is
-forgotten. Pages that disagree with held ones are refused. Documents in an old
-file at DESK first move to DESK.pages.
+forgotten. Pages that disagree with held ones are refused. Like all commands of
+desks but `held`, it first moves documents in an old file at DESK to DESK.pages.
 
 A desk is made with its first page. The capacity is not remembered: give it at
 each `scan` and `import`. A desk that holds more documents than that is refused
@@ -322,9 +322,8 @@ Prints a line for each document of which a page is held: `IIII n complete`, or
 --id it prints the line of that document alone, or a refusal. A file that can't
 be used doesn't hide the others: `file FILE NAME` comes in its place, and the
 exit status is 1. FILE is its name in the folder DESK.pages, or `joint` for an
-old file at DESK, which may hold the document that --id asks for. Nothing is
-saved, and another program may save meanwhile. A refusal goes to standard
-output.
+old file at DESK, where the document of --id may be. Nothing is saved, and
+another program may save meanwhile. A refusal goes to standard output.
 
 Example:
   relay held --file desk",
@@ -336,8 +335,8 @@ Example:
         rows: &[DESK, ID, PAGE, COPY_SIDE, SCHEME],
         more: "\
 Draws the label of one page that is held, as a packed PBM image. A scan of it
-gives the same page. Its side need not be that of the lost label. Documents in
-an old file at DESK first move to DESK.pages. A refusal goes to standard error.
+gives the same page. Its side need not be that of the lost label. A refusal goes
+to standard error.
 
 Example:
   relay copy --file desk --id 0101 --page 2 --side 52 > label.pbm",

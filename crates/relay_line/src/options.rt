@@ -44,8 +44,8 @@ pub mod rows {
     const IMAGES_HELP: &str = "files of images, read in turn; `-` is the standard input";
     const FIRST_HELP: &str = "the first ID, from 0";
     const LAST_HELP: &str = "the last ID, up to 64515";
-    const COUNT_HELP: &str = "the last N that are free in one range, in place of\n\
-        --first and --last";
+    const COUNT_HELP: &str = "the last N consecutive free IDs, in place of --first\n\
+        and --last";
     const SAVED_HELP: &str = "save it as this file, in place of the standard output";
     pub const SIDE: Row = Row("side", "SIDE", Optional, Number(10, 132), LABEL_SIDE_HELP);
     pub const LEAST_SIDE: Row = Row("side", "SIDE", Default("10"), Number(10, 132), SIDE_HELP);
