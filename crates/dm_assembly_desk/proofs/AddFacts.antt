@@ -8,7 +8,7 @@ use Rattle.dm_assembly_desk.proofs.Masks.{half, odd, none_named, names_mask}
 and_none : (b : Bool) → (b && false) ≡ false
 and_none b = grind arith
 
--- what is added_mask are just the pages of the file that aren't held
+-- what is added are just the pages of the file that aren't held
 pub names_added : (own pages : Pages) (m : ℕ) →
     names (added_mask own pages) m ≡ (is_none (page own m) && is_some (page pages m))
 names_added own pages zero = refl

@@ -67,7 +67,7 @@ differs (p ∷ ps) (q ∷ qs) is = elim (decided (agrees_at p q)) [
   | inr other ↦ differs_first p q ps qs other
 ]
 
--- a document whose pages are all held is its pages, document_of
+-- a document whose pages are all held is its pages, joined
 pub whole_pages : (pages : Pages) → list_all is_some pages ≡ true →
     (document_of pages ≡ concat (mapped page_bytes pages)) ×
     ((i : ℕ) (x : List ℕ) → slice_get (mapped page_bytes pages) i ≡ Some x → page pages (suc i) ≡ Some x)
