@@ -72,7 +72,7 @@ pub static EXPLANATIONS: [&str; 45] = [
     "Device\n  From: mostly commands with `--file`.\n  \
     A file can't be read or locked, is not a plain file, or is in use by another\n  \
     program. Or its folder is missing, or can't be synced. Or its name is\n  \
-    reserved (LIMITS.md), or it has a second one (hard link) and the command\n  \
+    reserved (LIMITS.md), or it has a second name (hard link) and the command\n  \
     locks. Or `ledger` or the move of an old file could not save.\n  \
     What to do: read the line `relay: PATH: WHY`. Correct what it names, or wait\n  \
     for the other program. After `ledger` check with `left`: the ledger may be\n  there.\n",

@@ -286,9 +286,9 @@ Example:
 The pages stay at the desk. `relay import` takes them in at another. A refusal
 goes to standard error. With `--to` the pages are on the disk once the command
 exits with 0; FILE must not exist before. `--all` does the same for each
-document, with DIR/IIII as FILE; DIR must be there. A refused one doesn't stop
-the others. But if a file of the desk is unusable, `--all` saves nothing, and
-`held`'s lines go to standard error.
+document, with DIR/IIII as FILE; DIR must be there. A refused document doesn't
+stop the others. But if a file of the desk is unusable, `--all` saves nothing,
+and `held`'s lines go to standard error.
 
 Examples:
   relay export --file desk --id 0101 > 0101.export
@@ -322,7 +322,7 @@ Prints a line for each document of which a page is held: `IIII n complete`, or
 --id it prints the line of that document alone, or a refusal. A file that can't
 be used doesn't hide the others: `file FILE NAME` comes in its place, and the
 exit status is 1. FILE is its name in the folder DESK.pages, or `joint` for an
-old file at DESK, where the document of --id may be. Nothing is saved, and
+old file at DESK, which may hold the document of --id. Nothing is saved, and
 another program may save meanwhile. A refusal goes to standard output.
 
 Example:

@@ -56,8 +56,8 @@ pub mod rows {
     pub const LEDGER: Row = Row("file", "LEDGER", Required, NotEmpty, "the file that holds the ledger");
     pub const DESK: Row = Row("file", "DESK", Required, NotEmpty, "the desk; its files stand in the folder DESK.pages");
     pub const TO: Row = Row("to", "N", Required, U16, "the number of the other printer");
-    pub const NUMBER: Row = Row("number", "N", Required, U16, "the printer's number");
-    pub const OWN_NUMBER: Row = Row("number", "N", Default("0"), U16, "the printer's number");
+    pub const NUMBER: Row = Row("number", "N", Required, U16, "the printer's number, up to 65535");
+    pub const OWN_NUMBER: Row = Row("number", "N", Default("0"), U16, "the printer's number, up to 65535");
     pub const FIRST: Row = Row("first", "N", Required, U16, FIRST_HELP);
     pub const LAST: Row = Row("last", "N", Required, U16, LAST_HELP);
     pub const SOME_FIRST: Row = Row("first", "N", With("last"), U16, FIRST_HELP);
