@@ -76,7 +76,7 @@ is ignored. Each image gives a line:
   refused NAME    none that can be read
 C is how many wrong codewords were corrected, W how many modules of the finder
 patterns are wrong, and HEX the bytes in hexadecimal, or `-` for none. Notes on
-standard error name refused images, and what would make one readable, if known.
+standard error say what change would make a refused image readable, if known.
 
 Example:
   relay read < symbol.pbm",
