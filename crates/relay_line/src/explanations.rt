@@ -59,7 +59,7 @@ pub static EXPLANATIONS: [&str; 45] = [
     "Full\n  The desk of `scan` or `import` already holds as many documents as its\n  capacity.\n  \
     What to do: `deliver` and `forget` complete documents, or give a larger\n  `--capacity`, up to 1,024.\n",
     "TooMany\n  More follows in one file after 65,536 images, or `audit` gets more than\n  \
-    1,048,576 bytes of tickets.\n  What to do: split the file; `audit` compares tickets only within one run, so\n  \
+    1,048,576 bytes of tickets.\n  What to do: split the file; for `audit` so finely that two parts fit, and\n  \
     run it on every pair of parts.\n\n  From: the commands of desks but `held`.\n  \
     The desk holds more documents than its capacity (without `--capacity` 64 for\n  \
     `scan` and `import`, 1,024 for others).\n  \
@@ -70,10 +70,10 @@ pub static EXPLANATIONS: [&str; 45] = [
     "Exists\n  From: `ledger`.\n  A file is at this path already.\n  \
     What to do: a ledger is made only once; use another path.\n",
     "Device\n  From: mostly commands with `--file`.\n  \
-    A file can't be read or locked, is not a plain file, or is in use by another\n  \
-    program. Or its folder is missing, or can't be synced. Or its name is\n  \
-    reserved (LIMITS.md), or it has a second name (hard link) and the command\n  \
-    locks. Or `ledger` or the move of an old file could not save.\n  \
+    A file can't be used: it or its folder can't be read, locked or synced, it\n  \
+    is no plain file, or another program is using it. A command that locks also\n  \
+    refuses a second name (hard link), and a reserved name for a new file\n  \
+    (LIMITS.md). From `ledger`, or from the move of an old file, also: the save\n  failed.\n  \
     What to do: read the line `relay: PATH: WHY`. Correct what it names, or wait\n  \
     for the other program. After `ledger` check with `left`: the ledger may be\n  there.\n",
     "Save\n  From: all that save but `ledger`.\n  \
@@ -97,8 +97,8 @@ pub static EXPLANATIONS: [&str; 45] = [
     and scan its labels again; meanwhile `held` lists the other documents.\n  Export the one for `import` anew.\n",
     "Version\n  From: commands that read a ledger, a desk or pages.\n  \
     This command doesn't read the version of the file.\n  \
-    What to do: use the program that wrote it; `import` takes no desk's file of\n  \
-    version 1, but what `export` makes of it.\n",
+    What to do: use the program that wrote it. `import` takes no desk's file of\n  \
+    version 1: `export` its documents.\n",
     "Number\n  From: `print`, `give`, `take`.\n  The ledger is another printer's.\n  \
     What to do: check `--number` and `--file`.\n",
     "NotPages\n  From: the commands of desks.\n  \

@@ -24,8 +24,8 @@ pub const PROGRAM: Page = Page {
     usage: "relay [COMMAND [ARGUMENT ..] | --help | --version]",
     rows: &[],
     more: "\
-Without a command, relay does `words` with its defaults. `relay help COMMAND`
-and `relay COMMAND --help` say more about each.
+Without a command, relay runs `words` with its defaults. `relay help COMMAND`
+and `relay COMMAND --help` say more about that command.
 
 Exit status: 0 if all was done; 1 if something was refused (`refused NAME`) or
 found (`file FILE NAME`, or a line of `audit`), or an output failed; 2 if the
@@ -41,8 +41,8 @@ static OF_SYMBOLS: [Page; 3] = [
         rows: &[LEAST_SIDE, SCHEME],
         more: "\
 A codeword is one of the numbers from 0 to 255 that a symbol holds. Side 10
-holds 6 digits or 1 byte of any value, side 132 holds 2608 digits or 1301 such
-bytes; docs/SYMBOLS.md has the whole table. A refusal goes to standard output.
+holds 6 digits or 1 byte, side 132 holds 2608 digits or, in base256, 1301 bytes;
+docs/SYMBOLS.md has the whole table. A refusal goes to standard output.
 
 Example:
   printf 123456 | relay words",
@@ -73,7 +73,7 @@ is ignored. Each image gives a line:
                   label m of n, with the ID IIII
   symbol SIDE corrected C wrong W HEX
                   another symbol
-  refused NAME    none that can be read
+  refused NAME    no symbol that can be read
 C is how many wrong codewords were corrected, W how many modules of the finder
 patterns are wrong, and HEX the bytes in hexadecimal, or `-` for none. Notes on
 standard error say what change would make a refused image readable, if known.
@@ -91,8 +91,9 @@ static OF_PRINTERS: [Page; 4] = [
         rows: &[LEDGER, FIRST, LAST, OWN_NUMBER],
         more: "\
 A ledger is what a printer remembers, above all which IDs are free. No two
-ledgers may share a number or an ID. Prints `left N`, how many are free. A
-refusal goes to standard output, and a file that was at LEDGER stays as it was.
+ledgers may share a number or an ID. Never restore a ledger from a backup: it
+would print used IDs again. Prints `left N`, how many are free. A refusal goes
+to standard output, and a file that was at LEDGER stays as it was.
 
 Example:
   relay ledger --file north.ledger --first 0 --last 9999 --number 1",
@@ -122,10 +123,10 @@ is saved as used, then `printed IIII n left N` goes to standard error (the ID,
 the number of labels, how many IDs are left), and then the labels to standard
 output, as packed PBM images one after another. A label that is lost can be
 drawn again by `copy`, at a desk that holds its page; a document that is printed
-again gets another ID.
+again gets another ID. --number must be that of the ledger, if it has one.
 
-A label holds four codewords fewer than a symbol: 28 digits or 12 bytes at side
-18, and 2600 digits or 1297 bytes at side 132. A refusal goes to standard error.
+A label holds four codewords fewer than a symbol: 28 digits, or 12 bytes in
+base256, at side 18; 2600 or 1297 at side 132. A refusal goes to standard error.
 
 Example:
   relay print --file north.ledger --number 1 --side 52 < letter > labels.pbm",
@@ -258,9 +259,9 @@ Example:
         usage: "relay deliver --file DESK --id IIII [--to FILE]",
         rows: &[DESK, ID, SAVED],
         more: "\
-Writes just the document, which stays at the desk. If a page is missing, only
-`refused Incomplete` is written, to standard error. With `--to` the document is
-on the disk once the command exits with 0; FILE must not exist before.
+Writes just the document, which stays at the desk. If a page is missing, nothing
+is written but `refused Incomplete`, to standard error. With `--to` the document
+is on the disk once the command exits with 0; FILE must not exist before.
 
 Example:
   relay deliver --file desk --id 0101 > letter",
@@ -288,7 +289,7 @@ goes to standard error. With `--to` the pages are on the disk once the command
 exits with 0; FILE must not exist before. `--all` does the same for each
 document, with DIR/IIII as FILE; DIR must be there. A refused document doesn't
 stop the others. But if a file of the desk is unusable, `--all` saves nothing,
-and `held`'s lines go to standard error.
+and prints the lines of `held` to standard error.
 
 Examples:
   relay export --file desk --id 0101 > 0101.export
@@ -351,7 +352,7 @@ static OTHERS: [Page; 3] = [
         rows: &[],
         more: "\
 The script names printers, desks, and events: prints, scans, restarts and so on.
-One that saves may be stopped wherever power could fail, or its save may fail.
+It may stop an event that saves wherever power could fail, or let its save fail.
 Each event gives a line, which begins with `! ` if a scan has more wrong
 codewords than can be corrected. docs/RECIPES.md has the form of a script. No
 file is read or written. A refusal goes to standard output.
@@ -372,7 +373,7 @@ Example:
     },
     Page {
         name: "version",
-        about: "Prints the version, and by which toolchain it was proved",
+        about: "Prints the version, and the toolchain that proved it",
         usage: "relay version",
         rows: &[],
         more: "",
@@ -394,6 +395,6 @@ pub fn groups() -> [Group; 5] {
         Group { heading: Some("Printers"), pages: &OF_PRINTERS },
         Group { heading: None, pages: &MORE_OF_PRINTERS },
         Group { heading: Some("Desks"), pages: &OF_DESKS },
-        Group { heading: Some("Others"), pages: &OTHERS },
+        Group { heading: Some("Other"), pages: &OTHERS },
     ]
 }

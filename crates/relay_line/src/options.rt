@@ -34,8 +34,8 @@ pub mod rows {
         52, 64, 72, 80, 88, 96, 104, 120 or 132";
     const LABEL_SIDE_HELP: &str = "modules per side: 12 to 26 by twos, 32, 36, 40, 44, 48,\n\
         52, 64, 72, 80, 88, 96, 104, 120 or 132";
-    const LABELS_HELP: &str = "take the smallest side for which there are at most\n\
-        K labels, 2 to 16";
+    const LABELS_HELP: &str = "use the smallest side at which no more than K\n\
+        labels, 2 to 16, are needed";
     const SCHEME_HELP: &str = "the encodation: ascii suits digits, c40 capitals, text\n\
         small letters, base256 any bytes";
     const HEX_HELP: &str = "the 20 digits that `give` printed, or the form with\n\
@@ -54,9 +54,9 @@ pub mod rows {
     pub const SCHEME: Row = Row("scheme", "SCHEME", Default("ascii"), Scheme, SCHEME_HELP);
     pub const PLAIN: Row = Row("plain", "", Flag, Text, "draws in PBM's plain form, P1, in place of P4");
     pub const LEDGER: Row = Row("file", "LEDGER", Required, NotEmpty, "the file that holds the ledger");
-    pub const DESK: Row = Row("file", "DESK", Required, NotEmpty, "the desk; its files stand in the folder DESK.pages");
+    pub const DESK: Row = Row("file", "DESK", Required, NotEmpty, "the desk; its files are in the folder DESK.pages");
     pub const TO: Row = Row("to", "N", Required, U16, "the number of the other printer");
-    pub const NUMBER: Row = Row("number", "N", Required, U16, "the printer's number, up to 65535");
+    pub const NUMBER: Row = Row("number", "N", Required, U16, "the ledger's number, up to 65535");
     pub const OWN_NUMBER: Row = Row("number", "N", Default("0"), U16, "the printer's number, up to 65535");
     pub const FIRST: Row = Row("first", "N", Required, U16, FIRST_HELP);
     pub const LAST: Row = Row("last", "N", Required, U16, LAST_HELP);
