@@ -100,7 +100,7 @@ pub struct LeftFiles {
 
 impl LeftFiles {
     /// What a stop may leave on a disk where a reader found the one files before it and finds the others now.
-    pub fn on(alloc: Global, disk: &MemDisk, old: &Files, new: &Files) -> Result<LeftFiles, Fail> {
+    pub fn new(alloc: Global, disk: &MemDisk, old: &Files, new: &Files) -> Result<LeftFiles, Fail> {
         let mut contents = Vec::new(alloc);
         for place in 0..NAMES.len() {
             contents.push(left_at(alloc, disk, old, new, place)?)?;

@@ -146,7 +146,7 @@ fn stop(
     assert!(rt; ends_well(&ended, call), "{call:?} {passes} {kept:?}");
     let is_done = ended.status == 0;
     let allowed = (if is_done { 1u8 } else { 3 }) << (answered(ended.told(call).0) % 8);
-    let left = LeftFiles::on(alloc, &ended.disk, &ended.old, &ended.files)?;
+    let left = LeftFiles::new(alloc, &ended.disk, &ended.old, &ended.files)?;
     let mut seen = 0u8;
     for number in 0..left.count() {
         let saves = allowed & saves_on(alloc, left.way(alloc, number)?, looks)?;
@@ -192,7 +192,7 @@ fn keeps_both(alloc: Global, first: u32, second: u32) -> Result<bool, Fail> {
         disk = made(alloc, machine, Call::Import(OTHER))?.disk;
     }
     let new = files_on(alloc, &mut disk)?;
-    let left = LeftFiles::on(alloc, &disk, &old, &new)?;
+    let left = LeftFiles::new(alloc, &disk, &old, &new)?;
     let looks: &[Look] = &[(Call::Import(BOTH), &[ADDED_FIRST]), OTHER_IS_HELD];
     let mut keeps = true;
     for number in 0..left.count() {
@@ -233,7 +233,7 @@ fn keeps_what_it_told(
     let machine = Machine::new(alloc, MemDisk::new(alloc), first, kept)?;
     let disk = made(alloc, machine, before)?.disk;
     let ended = made(alloc, Machine::new(alloc, disk, second, kept)?, call)?;
-    let left = LeftFiles::on(alloc, &ended.disk, &ended.old, &ended.files)?;
+    let left = LeftFiles::new(alloc, &ended.disk, &ended.old, &ended.files)?;
     let mut keeps = true;
     for number in 0..left.count() {
         let whole = Machine::whole(alloc, left.way(alloc, number)?)?;
