@@ -37,7 +37,7 @@ pub static EXPLANATIONS: [&str; 45] = [
     "Cut\n  The input ends inside an image; or a symbol's text ends inside a character\n  \
     or a counted run of bytes.\n  What to do: give the whole image; a symbol with such a text can't be read.\n",
     "Shape\n  The image is not square, or its width less two is not a side.\n  \
-    What to do: crop and shrink it to one pixel per module with a quiet zone of\n  one pixel, or use `relay-find`.\n",
+    What to do: do what the note says, crop and shrink the image (RECIPES.md),\n  or use `relay-find`.\n",
     "Border\n  Over an eighth of the finder patterns' modules are wrong, for example\n  \
     because the image is turned, mirrored or inverted, or its quiet zone isn't\n  one pixel wide.\n  \
     What to do: make the changes that the note names (RECIPES.md); or give the\n  \
@@ -88,10 +88,10 @@ pub static EXPLANATIONS: [&str; 45] = [
     the ID used, the range given or taken, the pages held, the document\n  forgotten.\n  \
     What to do: check with `left` or `held` first. If labels were cut off, print\n  \
     the document again and forget the old ID at each desk. The ticket of a\n  `give` is lost.\n",
-    "NotALedger\n  From: `print`, `give`, `take`, `left`.\n  The file is not a ledger, or it is damaged.\n  \
-    What to do: check `--file`. A damaged ledger is lost: replace it\n  (LIMITS.md).\n",
-    "Damaged\n  From: `print`, `give`, `take`, `left`.\n  The file is not a ledger, or it is damaged.\n  \
-    What to do: check `--file`. A damaged ledger is lost: replace it\n  (LIMITS.md).\n\n  \
+    "NotALedger\n  From: `print`, `give`, `take`, `left`, `audit`.\n  The file is not a ledger, or it is damaged.\n  \
+    What to do: check the file's name. A damaged ledger is lost: replace it\n  (LIMITS.md).\n",
+    "Damaged\n  From: `print`, `give`, `take`, `left`, `audit`.\n  The file is not a ledger, or it is damaged.\n  \
+    What to do: check the file's name. A damaged ledger is lost: replace it\n  (LIMITS.md).\n\n  \
     From: the commands of desks.\n  A file of the desk, or one for `import`, is not a file of pages, is damaged,\n  \
     or belongs to another ID.\n  What to do: read the line `relay: FILE: NAME`. Move the desk's file away,\n  \
     and scan its labels again; meanwhile `held` lists the other documents.\n  Export the one for `import` anew.\n",

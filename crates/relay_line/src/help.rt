@@ -41,7 +41,7 @@ static OF_SYMBOLS: [Page; 3] = [
         rows: &[LEAST_SIDE, SCHEME],
         more: "\
 A codeword is one of the numbers from 0 to 255 that a symbol holds. Side 10
-holds 6 digits or 1 byte, side 132 holds 2608 digits or, in base256, 1301 bytes;
+holds 6 digits or, in base256, 1 byte; side 132 holds 2608 digits or 1301 bytes.
 docs/SYMBOLS.md has the whole table. A refusal goes to standard output.
 
 Example:
@@ -331,7 +331,7 @@ Example:
     },
     Page {
         name: "copy",
-        about: "Draws again the label of a page that a desk holds",
+        about: "Redraws the label of a page that a desk holds",
         usage: "relay copy --file DESK --id IIII --page M --side SIDE [--scheme SCHEME]\n         > IMAGE",
         rows: &[DESK, ID, PAGE, COPY_SIDE, SCHEME],
         more: "\
