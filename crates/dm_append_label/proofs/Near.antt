@@ -70,7 +70,7 @@ unfolding head_at
 of_head (w ∷ i ∷ a ∷ b ∷ rest) = grind arith
 of_head _ = tt
 
--- what is read as a head is of a head
+-- a fault in reading a head is one that a head can have
 refused_head : (words : List ℕ) (fault : LabelFault) → head_at words ≡ Err fault → IsOfHead (Err fault)
 refused_head words fault e = subst IsOfHead e (of_head words)
 

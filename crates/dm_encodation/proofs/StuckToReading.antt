@@ -1,4 +1,4 @@
--- Where the codewords are stuck, reading codeword by codeword fails so, and the other way round.
+-- Where the codewords are stuck, reading codeword by codeword fails so.
 use Rattle.std.proofs.lemmas.{Grind.common_steps, Bool.ne_eqb, Bool.le-ltb}
 use Rattle.std.proofs.Common.{◌≡◌, ℕ, zero, suc, ◌+◌, ◌-◌, ◌<◌, ◌≤◌, ◌⊎◌, inl, inr, Bool, true, false, eqb, List, [], ◌∷◌, ◌++◌, length, get_or, take, Ok, Err, refl, sym, ap, subst, ◌∙◌, append_assoc, arith}
 use Rattle.std.specs.List.{flat_map, AllByRecursion}

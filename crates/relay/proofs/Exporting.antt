@@ -19,5 +19,6 @@ pub next_text : (ids : List (Bor (List ℕ))) (done : ℕ) (none : Bor (List ℕ
     texts (drop done ids) ≡ (get_or ids done none).now ∷ texts (drop (done + 1) ids)
 next_text ids done none within = ap texts (drop_more ids done none within)
 
+-- statuses of exports: the greatest, however they are grouped
 pub max_again : (a b c : ℕ) → max (max a b) c ≡ max a (max b c)
 max_again a b c = grind arith

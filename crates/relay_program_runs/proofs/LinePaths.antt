@@ -146,12 +146,14 @@ module _ (A : Type 0) where
   ]
 
   module _ (paths : List (List ℕ)) where
+    -- each command finds what is at its path, and leaves every other of the paths as it is
     abbrev RunsOver : PlacesView → List (Ran A) → Type 0
     RunsOver places [] = Unit {0}
     RunsOver places (ran ∷ later) = (ran.before.files ≡ places (path_of ran.command)) × (next : PlacesView)
         × (next (path_of ran.command) ≡ ran.after.files) × KeepsIn paths (path_of ran.command) places next
         × RunsOver next later
 
+    -- commands that run over places are a run at the site of these paths
     runs_there : Pairs IsApart paths → (places : PlacesView) (rans : List (Ran A)) → AllIn paths rans →
         RunsOver places rans → RunInTurn (site_of paths places) rans
     runs_there apart places [] all over = tt
@@ -163,6 +165,7 @@ module _ (A : Type 0) where
           (runs_there apart next later all rest),
     )
 
+    -- places that are the same at these paths have the same runs
     agree : (old new : PlacesView) (rans : List (Ran A)) → AllIn paths rans →
         ((other : List ℕ) → IsIn paths other → new other ≡ old other) → RunsOver new rans → RunsOver old rans
     agree old new [] all same over = tt
@@ -174,6 +177,7 @@ module _ (A : Type 0) where
       rest,
     )
 
+    -- a command at the path that it names, if it names one, before a run
     over_at : (named : Option (List ℕ)) (ran : Ran A) (old new : PlacesView) → unwrap_or named [] ≡ path_of ran.command →
         IsAt named ran.before.files old ran.after.files new → (rans : List (Ran A)) → RunsOver new rans →
         RunsOver old (if_named named ran ++ rans)

@@ -3,6 +3,7 @@ use Rattle.relay.specs.Program.{system_at}
 use Rattle.relay.proofs.Exporting.{not_begun}
 use Rattle.relay.proofs.system.System.do_saved.Goals as goal
 
+-- a command that was not begun: its refusal, and that all is as it was
 pub returns-in_default : goal.returns-in_default
 returns-in_default g c =
     let none = rw c.in_default.is at c.do_kept-ended.ensures.does in (
