@@ -92,7 +92,7 @@ static OF_PRINTERS: [Page; 4] = [
         more: "\
 A ledger is what a printer remembers, above all which IDs are free. No two
 ledgers may share a number or an ID. Never restore a ledger from a backup: it
-would print used IDs again. Prints `left N`, how many are free. A refusal goes
+could print used IDs again. Prints `left N`, how many are free. A refusal goes
 to standard output, and a file that was at LEDGER stays as it was.
 
 Example:
@@ -215,11 +215,11 @@ fault. For each pair that breaks what printers rely on, it prints a line:
   again A B         one serial of a printer was given or taken twice
   behind A B        ledger A may be an older state: B shows a ticket that A's
                     printer gave or took, and that A doesn't know
-A and B are `ledger I of P` (the Ith file named, of printer P) or `ticket K` (on
-line K of the input). First come `file I NAME` for each file that gives no
-ledger and `line K Ticket` for each line that is neither empty nor a ticket.
-Name all ledgers of a site, and pass all tickets given: it is silent, with
-status 0, while all is well. It can't see a restored ledger that had only
+A and B are `ledger I of P` (the Ith file named, of printer P, `-` in version 1)
+or `ticket K` (on line K of the input). First come `file I NAME` for each file
+that gives no ledger and `line K Ticket` for each line that is neither empty nor
+a ticket. Name all ledgers of a site, and pass all tickets given: it is silent,
+with status 0, while all is well. It can't see a restored ledger that had only
 printed since the backup. Nothing is saved, and another program may save
 meanwhile.
 
@@ -243,8 +243,8 @@ page of each is saved, and then a line says what it was:
   refused NAME       the desk holds what it held; but after `refused Save` the
                      page may be held, and nothing more is read
 Notes on standard error name refused images. A desk keeps a document until it is
-forgotten. Pages that disagree with held ones are refused. Like all commands of
-desks but `held`, it first moves documents in an old file at DESK to DESK.pages.
+forgotten. Pages that disagree with held ones are refused. Like most commands of
+desks, it first moves documents in an old file at DESK to DESK.pages.
 
 A desk is made with its first page. The capacity is not remembered: give it at
 each `scan` and `import`. A desk that holds more documents than that is refused
@@ -306,8 +306,8 @@ Saves all pages of a file at once, and prints a line:
                     the ID, how many pages the document has, which of them were
                     added (bit m - 1 for page m, in hexadecimal), and `again` if
                     none was, else `complete` if now all are held, or `new`
-A refusal goes to standard output. Named files are taken in turn, a line for
-each, but none after `refused Save`. `relay scan --help` explains --capacity.
+A refusal goes to standard output. Once the desk is open, each named file in
+turn has a line, up to `refused Save`. `relay scan --help` explains --capacity.
 
 Example:
   relay import --file other-desk 0101.export",
