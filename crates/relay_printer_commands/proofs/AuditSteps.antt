@@ -1,20 +1,26 @@
 -- What an audit tells, gathers and keeps, step by step, and what its silence says.
-use Rattle.std.proofs.Common.{◌≡◌, ◌<◌, ◌+◌, ◌++◌, ◌∷◌, ◌∙◌, ℕ, Bool, Bor, true, false, List, [], Some, ap, append-nil, arith, get_or, inl, inr, sym, length, map, refl}
+use Rattle.std.proofs.Common.{◌≡◌, ◌<◌, ◌+◌, ◌++◌, ◌∷◌, ◌∙◌, ℕ, Bool, Bor, true, false, List, [], Some, ap, append-nil, append_assoc, arith, get_or, inl, inr, sym, length, map, refl, take}
 use Rattle.std.specs.Prelude.{◌==◌, ◌||◌, ◌≢◌, ◌↔◌, IfSome, IsSomeAnd, IsTrue, MatchOption, MatchResult, Option, None, Result, Ok, Err, codes, not, option_map, slice_get}
-use Rattle.std.specs.{List.AllByRecursion, List.flat_map, List.list_any}
+use Rattle.std.specs.{List.AllByRecursion, List.flat_map, List.list_any, Option.option_map_or}
 use Rattle.std.proofs.KnownBytes.{Appends-nil, Appends-trans}
-use Rattle.std.proofs.lemmas.{Bool.cases_Bool, Bool.cond-false, Bool.cond-true, Bool.eq-eqb, Bool.not-true, Bool.or_right, List.Concat.flat_map-append, List.Elements.filter-append, Option.slice_get-get_or, Option.slice_get-map}
-use Rattle.dm_print_ledger.specs.{Ledger.are_ranges, Verdicts.SilenceIsExact, Verdicts.lacks_ticket, Verdicts.shown_of_ticket}
-use Rattle.relay_printer_commands.specs.Printers.{AreAllSound, EvidenceView, Gathers, HasGathered, IsSoundPair, ShowsFile, ShowsLine, TellsLines, are_same, audit_lines, breach_line, breach_lines, evidence_name, kept, pair_lines, shows_none, Gathers.file, Gathers.line, IsSoundPair.beside as beside_one, IsSoundPair.same, ShowsLine.refused, ShowsLine.ticket}
+use Rattle.std.proofs.lemmas.{Bool.cases_Bool, Bool.cond-false, Bool.and_left, Bool.cond-true, Bool.eq-eqb, Bool.not-true, Bool.or_parts, List.Concat.flat_map-append, List.Elements.filter-append, List.Folds.flat_map-map, List.map-append, List.take_more, Option.slice_get-get_or, Option.slice_get-map}
+use Rattle.dm_print_ledger.specs.{Ledger.TicketView, Ledger.are_ranges, Verdicts.SilenceIsExact, Verdicts.lacks_ticket, Verdicts.share_numbers, Verdicts.share_ticket, Verdicts.shown_of_ticket}
+use Rattle.relay_printer_commands.specs.Printers.{AreAllSound, AuditSays.all as says_all, AuditSays.no_memory, EvidenceView, Gathers, HasGathered, IsSoundPair, ShowsFile, ShowsLine, TellsAudit, TellsLines, are_same, audit_lines, breach_line, breach_lines, evidence_name, kept, pair_lines, shows_none, Gathers.file, Gathers.line, IsSoundPair.beside as beside_one, IsSoundPair.same, ShowsLine.refused, ShowsLine.ticket}
+use Rattle.relay_printer_commands.specs.inner.Kept.{may_clash, ticket_evidence, with_tickets}
+use Rattle.relay_printer_commands.specs.declared.audit.LineTicket.{LineTicket}
 use Rattle.relay_shared.proofs.Telling.{told_else}
-use Rattle.relay_shared.specs.Command.{FileView, PutsText, Tells}
+use Rattle.relay_shared.specs.Command.{FileView, PutsText, Tells, refusal_name}
+use Rattle.relay_shared.specs.declared.command.Refusal.TheVariants.{Memory}
 use Rattle.relay_streams.proofs.Parts.{part_after, part_more}
-use Rattle.relay_streams.specs.{Streams.OutputView, Streams.StaysFailed, declared.fault.WriteFault.WriteFault}
+use Rattle.relay_streams.specs.{Streams.OutputView, Streams.StaysFailed, Streams.refused_line, declared.fault.WriteFault.WriteFault}
 
 -- ---- lines one after another
 
 pub nothing : (now : OutputView) → TellsLines [] now false now
 nothing now = (refl, inl (Appends-nil _, refl), λ failed. refl)
+
+pub nothing_of : {text : List ℕ} (now : OutputView) → text ≡ [] → TellsLines text now false now
+nothing_of now none = rw none (nothing now)
 
 any_both : (a b : List ℕ) → (not (length a == 0) || not (length b == 0)) ≡ not (length (a ++ b) == 0)
 any_both [] b = refl
@@ -30,13 +36,32 @@ pub both : {a b : List ℕ} {x y : Bool} (old mid new : OutputView) → TellsLin
     TellsLines (a ++ b) old (x || y) new
 both {a} {b} old mid new first next = (rw (first.0, next.0) (any_both a b), told_both old mid new first.1 next.1 next.2, λ failed. next.2 (rw (first.2 failed) failed) ∙ first.2 failed)
 
-pub both_said : {a b : List ℕ} (x : Bool) (old mid new : OutputView) → TellsLines a old x mid → TellsLines b mid true new →
-    TellsLines (a ++ b) old true new
-both_said x old mid new first next = rw (or_right x true refl) at (both old mid new first next)
-
 pub put_once : (text : List ℕ) (old new : OutputView) (put : Result (Unit {0}) WriteFault) → PutsText text old put new →
     StaysFailed old put new → TellsLines text old (not (length text == 0)) new
 put_once text old new put puts stuck = (refl, told_else put puts, λ failed. (stuck failed).1)
+
+-- the lines of one more
+pub told_next : {X : Type 0} (lines_of : X → List ℕ) (xs : List X) (i : ℕ) (x : X) {told more : Bool} (old mid new : OutputView) →
+    i < length xs → x ≡ get_or xs i x → TellsLines (flat_map lines_of (take i xs)) old told mid →
+    TellsLines (lines_of x) mid more new → TellsLines (flat_map lines_of (take (i + 1) xs)) old (told || more) new
+told_next lines_of xs i x old mid new there is before next = rw (
+  take_more xs i x there,
+  ← is,
+  flat_map-append lines_of (take i xs) (x ∷ []),
+  append-nil (lines_of x),
+) (both old mid new before next)
+
+-- one more that has no line
+pub quiet_next : {X : Type 0} (lines_of : X → List ℕ) (xs : List X) (i : ℕ) (x : X) {told : Bool} (old new : OutputView) →
+    i < length xs → x ≡ get_or xs i x → lines_of x ≡ [] → TellsLines (flat_map lines_of (take i xs)) old told new →
+    TellsLines (flat_map lines_of (take (i + 1) xs)) old told new
+quiet_next lines_of xs i x old new there is none before = rw (
+  take_more xs i x there,
+  ← is,
+  flat_map-append lines_of (take i xs) (x ∷ []),
+  none,
+  append-nil (flat_map lines_of (take i xs)),
+) before
 
 abbrev pub is_kept : EvidenceView → Bool
 is_kept one = length one.fault == 0
@@ -48,8 +73,8 @@ abbrev Keeps : Option (List EvidenceView) → List EvidenceView → Type 0
 Keeps sound all = MatchOption sound (kept all ≢ []) (λ some. some ≡ kept all)
 
 -- what a file or a line shows was kept, or none is any more; or why it shows nothing was told
-abbrev pub Tries : List ℕ → ℕ → Result EvidenceView (Bor (List ℕ)) → Option (List EvidenceView) → OutputView → Bool
-    → Option (List EvidenceView) → OutputView → Type 0
+abbrev pub Tries : {X : Type 0} → List ℕ → ℕ → Result X (Bor (List ℕ)) → Option (List X) → OutputView → Bool
+    → Option (List X) → OutputView → Type 0
 Tries list place seen sound mid more grown new = MatchResult seen
     (λ one. (more ≡ false) × (new ≡ mid) × IfSome grown (λ all. IsSomeAnd sound (λ some. all ≡ some ++ one ∷ [])))
     (λ name. (more ≡ true) × (grown ≡ sound) × TellsLines (shows_none list place name.now).fault mid true new)
@@ -86,11 +111,6 @@ same_one : (sound : Option (List EvidenceView)) (all : List EvidenceView) (one :
     IfSome sound (λ some. some ≡ kept all → one ≡ one)
 same_one None all one = tt
 same_one (Some some) all one = λ e. refl
-
-same_sound : (sound : Option (List EvidenceView)) (before now : List EvidenceView) (one other : EvidenceView) →
-    IfSome sound (λ some. before ≡ some) → (before ≡ now → other ≡ one) → IfSome sound (λ some. some ≡ now → other ≡ one)
-same_sound None before now one other is alike = tt
-same_sound (Some some) before now one other is alike = λ e. alike (is ∙ e)
 
 pub one_more : (files : List FileView) (lines : List (List ℕ)) (n k m j : ℕ) (list : List ℕ) (place : ℕ)
     (seen : Result EvidenceView (Bor (List ℕ))) (sound grown : Option (List EvidenceView)) (told more : Bool)
@@ -133,34 +153,86 @@ one_more_file known files lines i given seen sound grown told more old mid new t
           ap (option_map known) (slice_get-get_or files i given there ∙ ap (λ x. Some x) (sym is))) shows,
     ))
 
+-- the same ticket is lacked among both
+abbrev AreLackedAlike : List EvidenceView → List EvidenceView → Type 0
+AreLackedAlike before now = (its : TicketView) →
+    list_any (λ one. lacks_ticket one.shown its) before ≡ list_any (λ one. lacks_ticket one.shown its) now
+
+-- tickets lack no ticket
+none_lack : (its : TicketView) (tickets : List LineTicket) →
+    list_any (λ one. lacks_ticket one.shown its) (map ticket_evidence tickets) ≡ false
+none_lack its [] = refl
+none_lack its (one ∷ tickets) = none_lack its tickets
+
+ledgers_lack : (ledgers : List EvidenceView) (tickets : List LineTicket) →
+    AreLackedAlike ledgers (ledgers ++ map ticket_evidence tickets)
+ledgers_lack [] tickets its = sym (none_lack its tickets)
+ledgers_lack (one ∷ ledgers) tickets its = ap (λ some. lacks_ticket one.shown its || some) (ledgers_lack ledgers tickets its)
+
 -- a line shows as much whatever is before it, but for whether its ticket is open
 beside : (before now : List EvidenceView) (place : ℕ) (text : List ℕ) (one : EvidenceView) → ShowsLine before place text one →
-    (other : EvidenceView) × (other.fault ≡ one.fault) × (before ≡ now → other ≡ one) × ShowsLine now place text other
+    (other : EvidenceView) × (other.fault ≡ one.fault) × (AreLackedAlike before now → other ≡ one) × ShowsLine now place text other
 beside before now place text one (ticket its has is) = (
   _,
   refl,
-  λ alike. ap (λ (some : List EvidenceView). record {
+  λ alike. ap (λ is_open. record {
     place = place;
     fault = [];
     ticket = Some its;
-    shown = shown_of_ticket its (list_any (λ one. lacks_ticket one.shown its) some);
-  }) (sym alike),
+    shown = shown_of_ticket its is_open;
+  }) (sym (alike its)),
   ticket its has is,
 )
 beside before now place text one (refused none) = (_, refl, λ alike. refl, refused none)
 
+same_sound : (ledgers : Option (List EvidenceView)) (tickets : Option (List LineTicket)) (before now : List EvidenceView)
+    (one other : EvidenceView) → IfSome ledgers (λ some. before ≡ some) → (AreLackedAlike before now → other ≡ one) →
+    IfSome (with_tickets ledgers tickets) (λ some. some ≡ now → other ≡ one)
+same_sound None tickets before now one other is alike = tt
+same_sound (Some ledgers) None before now one other is alike = tt
+same_sound (Some ledgers) (Some tickets) before now one other is alike = λ e. alike (λ its.
+    ap (list_any (λ one. lacks_ticket one.shown its)) is ∙ ledgers_lack ledgers tickets its
+    ∙ ap (list_any (λ one. lacks_ticket one.shown its)) e)
+
+grown_after : (ledgers : Option (List EvidenceView)) (sound grown : Option (List LineTicket)) (one : LineTicket) →
+    IfSome grown (λ all. IsSomeAnd sound (λ some. all ≡ some ++ one ∷ [])) →
+    IfSome (with_tickets ledgers grown) (λ all. IsSomeAnd (with_tickets ledgers sound) (λ some. all ≡ some ++ ticket_evidence one ∷ []))
+grown_after None sound grown one grows = tt
+grown_after (Some ledgers) sound None one grows = tt
+grown_after (Some ledgers) None (Some all) one grows = absurd grows
+grown_after (Some ledgers) (Some some) (Some all) one grows = ap (λ xs. ledgers ++ map ticket_evidence xs) grows
+    ∙ ap (λ xs. ledgers ++ xs) (map-append ticket_evidence some (one ∷ [])) ∙ sym (append_assoc ledgers (map ticket_evidence some) _)
+
+-- what a line shows is after all that the ledgers show
+shows_line : (files : List FileView) (lines : List (List ℕ)) (k : ℕ) (text : List ℕ) (before : List EvidenceView)
+    (ledgers : Option (List EvidenceView)) (sound : Option (List LineTicket)) → slice_get lines k ≡ Some text → length text ≢ 0 →
+    IfSome ledgers (λ some. before ≡ some) → (one : EvidenceView) → ShowsLine before (k + 1) text one →
+    (all : List EvidenceView) → Gathers files lines (length files) k all → (other : EvidenceView)
+    × (other.fault ≡ one.fault) × IfSome (with_tickets ledgers sound) (λ some. some ≡ kept all → other ≡ one)
+    × Gathers files lines (length files) (k + 1) (all ++ other ∷ [])
+shows_line files lines k text before ledgers sound at some is one shows all gathers =
+    let (other, fault, alike, now) = beside before (kept all) (k + 1) text one shows in
+    (other, fault, same_sound ledgers sound before (kept all) one other is alike, line text gathers at some now)
+
 pub one_more_line : (files : List FileView) (lines : List (List ℕ)) (k : ℕ) (text : List ℕ)
-    (seen : Result EvidenceView (Bor (List ℕ))) (before : List EvidenceView) (sound grown : Option (List EvidenceView))
-    (told more : Bool) (old mid new : OutputView) → slice_get lines k ≡ Some text → length text ≢ 0 →
-    IfSome sound (λ some. before ≡ some) → HasGathered files lines (length files) k sound old told mid →
-    MatchResult seen (λ one. (one.fault ≡ []) × ShowsLine before (k + 1) text one)
+    (seen : Result LineTicket (Bor (List ℕ))) (before : List EvidenceView) (ledgers : Option (List EvidenceView))
+    (sound grown : Option (List LineTicket)) (told more : Bool) (old mid new : OutputView) →
+    slice_get lines k ≡ Some text → length text ≢ 0 → IfSome ledgers (λ some. before ≡ some) →
+    HasGathered files lines (length files) k (with_tickets ledgers sound) old told mid →
+    MatchResult seen (λ one. ShowsLine before (k + 1) text (ticket_evidence one))
     (λ name. ShowsLine before (k + 1) text (shows_none (codes "line") (k + 1) name.now)) →
     Tries (codes "line") (k + 1) seen sound mid more grown new →
-    HasGathered files lines (length files) (k + 1) grown old (told || more) new
-one_more_line files lines k text seen before sound grown told more old mid new at some is = one_more files lines (length files) k
-    (length files) (k + 1) (codes "line") (k + 1) seen sound grown told more old mid new (ShowsLine before (k + 1) text)
-    (λ one shows all gathers. let (other, fault, alike, now) = beside before (kept all) (k + 1) text one shows in
-    (other, fault, same_sound sound before (kept all) one other is alike, line text gathers at some now))
+    HasGathered files lines (length files) (k + 1) (with_tickets ledgers grown) old (told || more) new
+one_more_line files lines k text (Ok one) before ledgers sound grown told more old mid new at some is so_far shows does =
+    one_more files lines (length files) k (length files) (k + 1) (codes "line") (k + 1) (Ok (ticket_evidence one))
+    (with_tickets ledgers sound) (with_tickets ledgers grown) told more old mid new (ShowsLine before (k + 1) text)
+    (shows_line files lines k text before ledgers sound at some is) so_far (refl, shows)
+    (does.0, does.1, grown_after ledgers sound grown one does.2)
+one_more_line files lines k text (Err name) before ledgers sound grown told more old mid new at some is so_far shows does =
+    one_more files lines (length files) k (length files) (k + 1) (codes "line") (k + 1) (Err name)
+    (with_tickets ledgers sound) (with_tickets ledgers grown) told more old mid new (ShowsLine before (k + 1) text)
+    (shows_line files lines k text before ledgers sound at some is) so_far shows
+    (does.0, ap (with_tickets ledgers) does.1, does.2)
 
 -- ---- silence
 
@@ -182,6 +254,50 @@ none_faulty : (evidence : List EvidenceView) → flat_map (λ one. one.fault) ev
 none_faulty [] none = refl
 none_faulty (one ∷ later) none = let fault = both_none one.fault _ none in
     cond-true (is_kept one) _ _ (eq-eqb _ _ (ap length fault.0)) ∙ ap (λ some. one ∷ some) (none_faulty later fault.1)
+
+regrouped : (a b c d : List ℕ) → ((a ++ b) ++ c) ++ d ≡ a ++ ((b ++ c) ++ d)
+regrouped a b c d = simp append_assoc
+
+-- the pairs of one ledger are those with later ledgers, and then those with tickets
+pub pairs_next : (one : EvidenceView) (later : List EvidenceView) (tickets : List LineTicket) (text all : List ℕ) →
+    text ++ pair_lines (one ∷ (later ++ map ticket_evidence tickets)) ≡ all →
+    ((text ++ flat_map (breach_lines one) later) ++ flat_map (λ its. breach_lines one (ticket_evidence its)) tickets)
+    ++ pair_lines (later ++ map ticket_evidence tickets) ≡ all
+pairs_next one later tickets text all rest =
+    let ledgers : List ℕ = flat_map (breach_lines one) later in
+    let two = flat_map-append (breach_lines one) later (map ticket_evidence tickets)
+    ∙ ap (λ xs. ledgers ++ xs) (flat_map-map (breach_lines one) ticket_evidence tickets) in
+    regrouped text ledgers _ _ ∙ ap (λ xs. text ++ (xs ++ pair_lines (later ++ map ticket_evidence tickets))) (sym two) ∙ rest
+
+-- ledgers, and no ticket yet
+pub no_ticket_yet : (files : List FileView) (lines : List (List ℕ)) (n k : ℕ) (sound : Option (List EvidenceView)) {told : Bool}
+    (old new : OutputView) → HasGathered files lines n k sound old told new →
+    HasGathered files lines n k (with_tickets sound (Some [])) old told new
+no_ticket_yet files lines n k None old new gathered = gathered
+no_ticket_yet files lines n k (Some some) old new (all, gathers, keeps, told) = (all, gathers, append-nil some ∙ keeps, told)
+
+-- what is told of all that was kept, or that memory was refused
+pub said_after : (files : List FileView) (lines : List (List ℕ)) (sound : Option (List EvidenceView)) {told more : Bool}
+    (old mid new : OutputView) → HasGathered files lines (length files) (length lines) sound old told mid →
+    TellsLines (option_map_or pair_lines sound (refused_line (refusal_name Memory))) mid more new →
+    TellsAudit files lines old (told || more) new
+said_after files lines (Some some) old mid new (all, gathers, keeps, told) tells =
+    (_, says_all all gathers, both old mid new told (rw keeps at tells))
+said_after files lines None old mid new (all, gathers, keeps, told) tells =
+    (_, no_memory all gathers keeps, both old mid new told tells)
+
+-- of two tickets that share nothing nothing is said
+pub no_clash : (one other : LineTicket) → may_clash (ticket_evidence one) (ticket_evidence other) ≡ false →
+    breach_lines (ticket_evidence one) (ticket_evidence other) ≡ []
+no_clash one other none =
+    let a = ticket_evidence one in
+    let b = ticket_evidence other in
+    let apart = or_parts (share_ticket a.shown b.shown) (share_numbers a.shown b.shown) none in
+    elim (cases_Bool (are_same a b)) [
+      | inl is ↦ cond-true (are_same a b) _ _ is
+      | inr is ↦ cond-false (are_same a b) _ _ is ∙ none_both _ _ (none_both _ _ (none_both _ _ (none_both _ _ refl
+          (cond-false _ _ _ apart.1)) (cond-false _ _ _ (and_left (share_ticket a.shown b.shown) _ apart.0))) refl) refl
+    ]
 
 module _ (exact : SilenceIsExact) where
   -- two of which nothing is said

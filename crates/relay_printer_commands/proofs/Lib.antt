@@ -1,3 +1,4 @@
 pub mod AuditSteps
 pub mod CheckWords
+pub mod LineEnds
 pub mod PlanSteps

@@ -1,1 +1,2 @@
 pub mod Printers
+pub mod inner

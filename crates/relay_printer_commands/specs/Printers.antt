@@ -1,7 +1,7 @@
 -- What the commands of printers do to ledgers and streams, and the lines that they write, which are this project's own.
 use Rattle.std.specs.Prelude.{ℕ, List, [], ◌∷◌, ◌++◌, codes, zero, suc, Option, Some, None, take, drop, ◌≡◌, ◌⊎◌, ◌<◌, ◌+◌, ◌*◌, ◌/◌, Ok, length, map, slice_index, Result, Err, ◌↔◌, ◌≤◌, ◌≢◌, true, false, Bool, ◌&&◌, ◌||◌, ◌==◌, not, nat_eq, if◌then◌else◌, slice_get, IfSome, MatchOption}
-use Rattle.std.specs.{Fmt.decimal, Option.option_map_or, Cmp.Lexicographic.pointwise, Io.KnownBytes.Appends}
-use Rattle.std.specs.List.{flat_map, All, range_with_len, AllPairs, Contains, list_any, slice_split, AllByRecursion, filter}
+use Rattle.std.specs.{Fmt.decimal, Option.option_map_or, Cmp.Lexicographic.pointwise, Io.KnownBytes.Appends, Str.Lines.lines}
+use Rattle.std.specs.List.{flat_map, All, range_with_len, AllPairs, Contains, list_any, AllByRecursion, filter}
 use Rattle.hex.specs.Hex.{encode_lower, decode_sized}
 use Rattle.dm_print_ledger.specs.Ledger.{ticket_bytes, TicketView, free_count, ShownView, AreOfTicket, PrinterView, JobView, read_ledger}
 use Rattle.relay_shared.specs.Lines.{id_text}
@@ -420,7 +420,8 @@ HasGathered files lines n k sound old told new = (all : List EvidenceView) × Ga
 abbrev pub TellsAudit : List FileView → List (List ℕ) → OutputView → Bool → OutputView → Type 0
 TellsAudit files lines old told new = (text : List ℕ) × AuditSays files lines text × TellsLines text old told new
 
--- How `audit` ends: tickets could not be read, or are too many; or it wrote what it says, with status 0 if nothing.
+-- How `audit` ends: tickets could not be read, or are too many; or it wrote what it says, with status 0 if nothing. A
+-- carriage return before a line feed is no part of a line.
 pub data EndsAudit (files : List FileView) (old : StreamsView) (status : ℕ) (new : StreamsView) : Type 0 where
   not_read : (fault : InputFault) (rest : InputView) → HasInputFault old.input rest fault
       → RefusesOnOutput (input_fault_name fault) (record old { input = rest }) status new → EndsAudit files old status new
@@ -428,7 +429,7 @@ pub data EndsAudit (files : List FileView) (old : StreamsView) (status : ℕ) (n
       → length bytes ≡ TICKETS_BYTES → RefusesOnOutput (refusal_name TooMany) (record old { input = rest }) status new
       → EndsAudit files old status new
   audited : (bytes : List ℕ) (rest : InputView) (told : Bool) → ReadsFirst old.input rest TICKETS_BYTES bytes
-      → length bytes < TICKETS_BYTES → TellsAudit files (slice_split (λ byte. byte == 10) bytes) old.output told new.output
+      → length bytes < TICKETS_BYTES → TellsAudit files (lines bytes) old.output told new.output
       → status ≡ (if told then 1 else 0) → new ≡ record old { input = rest; output = new.output }
       → EndsAudit files old status new
 

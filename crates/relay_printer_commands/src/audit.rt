@@ -1,12 +1,17 @@
 //! `relay audit`: what ledgers and tickets show that breaks what printers rely on.
 
-ghost use Rattle.std.specs.Prelude.{◌≡◌, ◌==◌, ◌++◌, ◌∷◌, ◌<◌, ◌^◌, false, true, ℕ, List, [], IfSome, IsSomeAnd, Some, MatchResult, codes, length, map, option_map};
+ghost use Rattle.std.specs.Prelude.{◌≡◌, ◌++◌, ◌∷◌, ◌<◌, ◌^◌, false, true, nat_eq, ℕ, List, [], IfSome, IsSomeAnd, Some, MatchResult, codes, length, map, option_map};
+ghost use Rattle.std.specs.Cmp.Lexicographic.{pointwise};
 ghost use Rattle.std.specs.Iterator.{AlwaysYields, IsFinite};
-ghost use Rattle.std.specs.List.{flat_map, list_any, slice_split};
+ghost use Rattle.std.specs.List.{flat_map, list_any};
+ghost use Rattle.std.specs.Option.{option_map_or};
+ghost use Rattle.std.specs.Str.Lines.{lines};
+ghost use Rattle.dm_print_ledger.specs.Ledger.{ticket_bytes};
 ghost use Rattle.dm_print_ledger.specs.Verdicts.{lacks_ticket};
 ghost use Rattle.relay_shared.specs.Command.{FileView, refusal_name};
 ghost use Rattle.relay_streams.specs.Streams.{OutputView, TakesPart, refused_line};
 ghost use Rattle.relay_printer_commands.specs.Printers.{EndsAudit, EvidenceView, HasGathered, ShowsFile, ShowsLine, TellsAudit, TellsLines, are_same, breach_line, breach_lines, evidence_name, is_again, is_receiver as test_of_receiver, pair_lines, shows_none};
+ghost use Rattle.relay_printer_commands.specs.inner.Kept.{may_clash as test_of_clash, ticket_evidence, with_tickets, without_end};
 
 use crate::tickets::ticket_on;
 use dm_print_ledger::{MOST_BYTES, Shown, Ticket};
@@ -62,28 +67,12 @@ impl Evidence {
         }
     }
 
-    // What a line shows, or the name of its fault.
-    fn of_line(before: &[Evidence], line: &[u8], place: usize) -> Result<Evidence, &'static str>
-        ensures { MatchResult result (λ one. (one.fault ≡ []) × ShowsLine before.now place line.now one)
-            (λ name. ShowsLine before.now place line.now (shows_none (codes "line") place name.now)) }
-    {
-        let Some(ticket) = ticket_on(line) else {
-            return Err(Refusal::Ticket.name());
-        };
-        let is_open = is_lacked(before, ticket);
-        Ok(Evidence {
-            place,
-            ticket: Some(ticket),
-            shown: Shown::of_ticket(ticket, is_open),
-        })
-    }
-
     // Whether they are the same ticket.
     fn is_same(&self, other: &Evidence) -> bool
         ensures { result ≡ are_same self.now other.now }
     {
         match (self.ticket, other.ticket) {
-            (Some(ticket), Some(its)) => ticket.bytes().as_slice() == its.bytes().as_slice(),
+            (Some(ticket), Some(its)) => is_same(ticket, its),
             _ => false,
         }
     }
@@ -122,11 +111,67 @@ impl Evidence {
     }
 }
 
-// Whether the ledger of a ticket's receiver is there, and has not taken it.
-fn is_lacked(evidence: &[Evidence], ticket: Ticket) -> bool
-    ensures { result ≡ list_any (λ one. lacks_ticket one.shown ticket) evidence.now }
+// Whether they are the same ticket.
+fn is_same(one: Ticket, other: Ticket) -> bool
+    ensures { result ≡ pointwise nat_eq (ticket_bytes one) (ticket_bytes other) }
 {
-    evidence.iter().any(|one| one.shown.lacks(ticket))
+    one == other
+}
+
+// Whether the ledger of a ticket's receiver is there, and has not taken it.
+fn is_lacked(ledgers: &[Evidence], ticket: Ticket) -> bool
+    ensures { result ≡ list_any (λ one. lacks_ticket one.shown ticket) ledgers.now }
+{
+    ledgers.iter().any(|one| one.shown.lacks(ticket))
+}
+
+// The ticket of a line, and whether it is open. An audit may have tens of thousands, and each is compared with each, so
+// that they are kept small.
+#[derive(Clone, Copy)]
+struct LineTicket {
+    place: usize,
+    ticket: Ticket,
+    is_open: bool,
+}
+
+impl LineTicket {
+    // The ticket of a line, or the name of the line's fault.
+    fn of_line(ledgers: &[Evidence], line: &[u8], place: usize) -> Result<LineTicket, &'static str>
+        ensures { MatchResult result (λ one. ShowsLine ledgers.now place line.now (ticket_evidence one))
+            (λ name. ShowsLine ledgers.now place line.now (shows_none (codes "line") place name.now)) }
+    {
+        let Some(ticket) = ticket_on(line) else {
+            return Err(Refusal::Ticket.name());
+        };
+        let is_open = is_lacked(ledgers, ticket);
+        Ok(LineTicket {
+            place,
+            ticket,
+            is_open,
+        })
+    }
+
+    // What it shows.
+    fn evidence(&self) -> Evidence
+        ensures { result ≡ ticket_evidence self.now }
+    {
+        Evidence {
+            place: self.place,
+            ticket: Some(self.ticket),
+            shown: Shown::of_ticket(self.ticket, self.is_open),
+        }
+    }
+
+    // Whether both show one ticket, or some ID as free. That the ranges meet is one comparison, which is seldom true.
+    fn may_clash(&self, other: &LineTicket) -> bool
+        ensures { result ≡ test_of_clash (ticket_evidence self.now) (ticket_evidence other.now) }
+    {
+        let (one, its) = (self.ticket, other.ticket);
+        let first = one.range.first.max(its.range.first);
+        let last = one.range.last.min(its.range.last);
+        (one.serial == its.serial && one.giver == its.giver)
+            || (first <= last && self.is_open && other.is_open)
+    }
 }
 
 // What is kept, or nothing if memory was refused.
@@ -141,12 +186,12 @@ fn kept_in<A: Allocator>(sound: &Option<Vec<Evidence, A>>) -> &[Evidence]
 
 // Keeps what a file or a line shows after what is kept already, or drops it all if memory is refused. A fault is
 // written, and then the answer is true.
-fn gather<A: Allocator, W: Write>(
-    sound: &mut Option<Vec<Evidence, A>>,
+fn gather<T: Drop, A: Allocator, W: Write>(
+    sound: &mut Option<Vec<T, A>>,
     output: &mut Output<W>,
     list: &str,
     place: usize,
-    seen: Result<Evidence, &str>,
+    seen: Result<T, &str>,
 ) -> bool
     ensures { MatchResult seen.entry
         (λ one. (result ≡ false) × (output.new ≡ output.old) × IfSome (option_map (λ some. some.items) sound.new)
@@ -193,28 +238,42 @@ fn gather_files<A: Allocator, F: NamedFile, W: Write>(
     told
 }
 
-// Gathers what lines show, except empty ones, and says whether any fault was told, of a file or of a line.
+// A line without the line feed that ends it, and without a carriage return before that.
+fn without_end(line: &[u8]) -> &[u8]
+    ensures { result.now ≡ without_end line.now }
+{
+    match line {
+        [text @ .., b'\r', b'\n'] | [text @ .., b'\n'] => text,
+        _ => line,
+    }
+}
+
+// Gathers the tickets of lines, except empty ones, and says whether any fault was told, of a file or of a line.
 fn gather_lines<'a, A: Allocator, W: Write, I: Iterator<Item = &'a [u8]> + Drop>(
-    sound: &mut Option<Vec<Evidence, A>>,
+    ledgers: &Option<Vec<Evidence, A>>,
+    tickets: &mut Option<Vec<LineTicket, A>>,
     output: &mut Output<W>,
     lines: I,
     told: bool,
 ) -> bool
     requires can_next { I.can_next lines × IsFinite (I.remaining lines) }
-    requires few { (all : List (List ℕ)) × AlwaysYields I.next_gives (λ line. line.now) lines all
+    requires few { (all : List (List ℕ)) × AlwaysYields I.next_gives (λ line. without_end line.now) lines all
         × (length all < 2 ^ 64) }
-    ensures { (all : List (List ℕ)) → AlwaysYields I.next_gives (λ line. line.now) lines all
+    ensures { (all : List (List ℕ)) → AlwaysYields I.next_gives (λ line. without_end line.now) lines all
         → (files : List FileView) (old : OutputView)
-        → HasGathered files all (length files) 0 (option_map (λ some. some.items) sound.old) old told output.old
-        → HasGathered files all (length files) (length all) (option_map (λ some. some.items) sound.new) old result
-        output.new }
+        → let kept = with_tickets (option_map (λ some. some.items) ledgers.now) in
+        HasGathered files all (length files) 0 (kept (option_map (λ some. some.items) tickets.old)) old told output.old
+        → HasGathered files all (length files) (length all) (kept (option_map (λ some. some.items) tickets.new)) old
+        result output.new }
 {
+    let before = kept_in(ledgers);
     let (mut place, mut told) = (0, told);
     for line in lines {
         place += 1;
-        if !line.is_empty() {
-            let seen = Evidence::of_line(kept_in(sound), line, place);
-            told |= gather(sound, output, "line", place, seen);
+        let text = without_end(line);
+        if !text.is_empty() {
+            let seen = LineTicket::of_line(before, text, place);
+            told |= gather(tickets, output, "line", place, seen);
         }
     }
     told
@@ -265,43 +324,123 @@ fn tell_later<W: Write>(output: &mut Output<W>, one: &Evidence, later: &[Evidenc
     told
 }
 
-// Tells all that is wrong between any two.
-fn tell_pairs<W: Write>(output: &mut Output<W>, evidence: &[Evidence]) -> bool
-    ensures { TellsLines (pair_lines evidence.now) output.old result output.new }
+// Tells all that is wrong between a ledger and each ticket.
+fn tell_tickets<W: Write>(output: &mut Output<W>, one: &Evidence, tickets: &[LineTicket]) -> bool
+    ensures { TellsLines (flat_map (λ its. breach_lines one.now (ticket_evidence its)) tickets.now)
+        output.old result output.new }
 {
     let mut told = false;
-    for (i, one) in evidence.iter().enumerate() {
-        told |= tell_later(output, one, &evidence[i + 1..]);
+    for ticket in tickets {
+        told |= tell_breaches(output, one, &ticket.evidence());
     }
     told
 }
 
+// Tells all that is wrong between two tickets that may clash: seldom, and so it is kept out of the loop over pairs.
+#[cold]
+#[inline(never)]
+fn tell_clash<W: Write>(output: &mut Output<W>, one: &LineTicket, other: &LineTicket) -> bool
+    ensures { TellsLines (breach_lines (ticket_evidence one.now) (ticket_evidence other.now))
+        output.old result output.new }
+{
+    !is_same(one.ticket, other.ticket) && tell_breaches(output, &one.evidence(), &other.evidence())
+}
+
+// Tells all that is wrong between a ticket and each later one. A copy of the ticket stays in registers, for speed.
+#[inline(never)]
+fn tell_later_tickets<W: Write>(
+    output: &mut Output<W>,
+    one: &LineTicket,
+    later: &[LineTicket],
+) -> bool
+    ensures { TellsLines (flat_map (λ its. breach_lines (ticket_evidence one.now) (ticket_evidence its)) later.now)
+        output.old result output.new }
+{
+    let own = *one;
+    let mut told = false;
+    for other in later {
+        if own.may_clash(other) {
+            told |= tell_clash(output, one, other);
+        }
+    }
+    told
+}
+
+// Tells all that is wrong between any two tickets.
+fn tell_ticket_pairs<W: Write>(output: &mut Output<W>, tickets: &[LineTicket]) -> bool
+    ensures { TellsLines (pair_lines (map ticket_evidence tickets.now)) output.old result output.new }
+{
+    let mut told = false;
+    for (i, one) in tickets.iter().enumerate() {
+        told |= tell_later_tickets(output, one, &tickets[i + 1..]);
+    }
+    told
+}
+
+// Tells all that is wrong between any two.
+fn tell_pairs<W: Write>(
+    output: &mut Output<W>,
+    ledgers: &[Evidence],
+    tickets: &[LineTicket],
+) -> bool
+    ensures { TellsLines (pair_lines (ledgers.now ++ map ticket_evidence tickets.now)) output.old result output.new }
+{
+    let mut told = false;
+    for (i, one) in ledgers.iter().enumerate() {
+        told |= tell_later(output, one, &ledgers[i + 1..]);
+        told |= tell_tickets(output, one, tickets);
+    }
+    told | tell_ticket_pairs(output, tickets)
+}
+
+// Tells that memory was refused.
+fn tell_memory<W: Write>(output: &mut Output<W>) -> bool
+    ensures { TellsLines (refused_line (refusal_name Refusal.Memory)) output.old result output.new }
+{
+    let _ = output.put_refusal(Refusal::Memory.name());
+    true
+}
+
+// Tells all that is wrong between any two that were kept, or that memory was refused for some.
+fn tell_kept<A: Allocator, W: Write>(
+    output: &mut Output<W>,
+    ledgers: &Option<Vec<Evidence, A>>,
+    tickets: &Option<Vec<LineTicket, A>>,
+) -> bool
+    ensures { let memory = refused_line (refusal_name Refusal.Memory) in
+        TellsLines (option_map_or pair_lines (with_tickets (option_map (λ some. some.items) ledgers.now)
+        (option_map (λ some. some.items) tickets.now)) memory) output.old result output.new }
+{
+    let Some(ledgers) = ledgers else {
+        return tell_memory(output);
+    };
+    let Some(tickets) = tickets else {
+        return tell_memory(output);
+    };
+    tell_pairs(output, ledgers.as_slice(), tickets.as_slice())
+}
+
 // Tells what these files, and the tickets in these bytes, show that is wrong, and says whether anything is.
-fn audit<A: Allocator, F: NamedFile, W: Write>(
+fn audit<A: Allocator + Copy, F: NamedFile, W: Write>(
     alloc: A,
     output: &mut Output<W>,
     files: &[F],
     bytes: &[u8],
 ) -> bool
-    ensures { TellsAudit (map F.known files.now) (slice_split (λ byte. byte == 10) bytes.now)
-        output.old result output.new }
+    ensures { TellsAudit (map F.known files.now) (lines bytes.now) output.old result output.new }
 {
-    let mut sound = Some(Vec::new(alloc));
-    let told = gather_files(&mut sound, output, files);
-    let told = gather_lines(&mut sound, output, bytes.split(|byte| *byte == b'\n'), told);
-    match sound {
-        Some(sound) => told | tell_pairs(output, sound.as_slice()),
-        None => {
-            let _ = output.put_refusal(Refusal::Memory.name());
-            true
-        }
-    }
+    let (mut ledgers, mut tickets) = (Some(Vec::new(alloc)), Some(Vec::new(alloc)));
+    let told = gather_files(&mut ledgers, output, files);
+    let lines = bytes.split_inclusive(|byte| *byte == b'\n');
+    let told = gather_lines(&ledgers, &mut tickets, output, lines, told);
+    told | tell_kept(output, &ledgers, &tickets)
 }
 
-/// Reads ledgers from files, and tickets from the lines of the input, at most 1,048,576 bytes of them. Prints a line
-/// for each file that gives no ledger, and each line that has no ticket and is not empty, as it is read; and then one
-/// for each two that break a rule of printers. If memory is refused for what a file or a line shows, the line
-/// `refused Memory` stands in place of these. The exit status is 0 where it prints none. Nothing is saved or locked.
+/// Reads ledgers from files, and tickets from the lines of the input, at most 1,048,576 bytes of them. A line ends in a
+/// line feed, or a carriage return and a line feed. Prints a line for each file that gives no ledger, and each line
+/// that has no ticket and is not empty, as it is read; and then one for each two that break a rule of printers. If
+/// memory is refused for what a file or a line shows, the line `refused Memory` stands in place of these. The exit
+/// status is 0 where it prints none. Nothing is saved or locked.
 pub fn audit_command<A: Allocator + Copy, F: NamedFile, R: Read, W: Write, E: Write>(
     alloc: A,
     files: &[F],

@@ -3,16 +3,17 @@ use Rattle.std.proofs.lemmas.{Grind.common_steps, Iterator.Consumers.YieldsList-
 use Rattle.std.proofs.lemmas.{Option.slice_get-get_or, Bool.eqb-false, Bool.eqb-true}
 use Rattle.std.specs.{Prelude.option_map, Prelude.slice_get, Iterator.AlwaysYields, Iterator.Yields}
 use Rattle.relay_printer_commands.specs.Printers.{Gathers.empty}
+use Rattle.relay_printer_commands.specs.inner.Kept.{without_end}
 use Rattle.relay_printer_commands.proofs.AuditSteps.{one_more_line}
 use Rattle.relay_printer_commands.proofs.audit.gather_lines.Goals as goal
 
 -- where the next line stands
 line_at : {S : Type 0} (steps : S → Option (Bor (List ℕ)) → S → Type 0) (all : List (List ℕ)) {start first now next : S}
     {item : Option (Bor (List ℕ))} {line : Bor (List ℕ)} (yielded : List (Bor (List ℕ))) →
-    AlwaysYields steps (λ line. line.now) start all → first ≡ start → Yields steps first yielded now → item ≡ Some line →
-    steps now item next → (length yielded < length all) × (slice_get all (length yielded) ≡ Some line.now)
+    AlwaysYields steps (λ line. without_end line.now) start all → first ≡ start → Yields steps first yielded now → item ≡ Some line →
+    steps now item next → (length yielded < length all) × (slice_get all (length yielded) ≡ Some (without_end line.now))
 line_at steps all yielded yields same so_far is step =
-    let turn = YieldsList-turn {steps = steps} {v = λ line. line.now} (YieldsList-at same (record { runs = yields })) yielded _ so_far _ _ _ is step in
+    let turn = YieldsList-turn {steps = steps} {v = λ line. without_end line.now} (YieldsList-at same (record { runs = yields })) yielded _ so_far _ _ _ is step in
     (turn.0, slice_get-get_or all (length yielded) _ turn.0 ∙ ap (λ x. Some x) (sym turn.1))
 
 pub overflow_add-place : goal.overflow_add-place
@@ -30,9 +31,10 @@ loop-line-preserved-then-not-is_empty g c =
       grind (arith, common_steps, place),
       λ files all old gathered yields.
           let at = line_at g.I.Iterator.next_gives all c.loop-line.yielded yields c.into_iter-line-iterator.ensures.into_iter_gives c.loop-line.yielded_by c.in-Some.is c.next.ensures.steps in
-          one_more_line files all c.loop-line.place c.in-Some.line.now c.of_line-seen.result c.kept_in.result.now _ (option_map (λ some. some.items) c.gather-told.new.sound) _ _ _ _ _
-          (rw (← place) at at.1) (eqb-false _ _ (sym c.is_empty.ensures ∙ c.if-not-is_empty.true)) c.kept_in.ensures (so_far files all old gathered yields)
-          c.of_line-seen.ensures c.gather-told.ensures,
+          one_more_line files all c.loop-line.place (without_end c.in-Some.line.now) c.of_line-seen.result c.kept_in-before.result.now
+          (option_map (λ some. some.items) c.args.ledgers.now) _ (option_map (λ some. some.items) c.gather-told.new.sound) _ _ _ _ _
+          (rw (← place) at at.1) (eqb-false _ _ (sym (rw c.without_end-text.ensures at c.is_empty.ensures) ∙ c.if-not-is_empty.true)) c.kept_in-before.ensures (so_far files all old gathered yields)
+          (rw c.without_end-text.ensures at c.of_line-seen.ensures) c.gather-told.ensures,
     )
 
 pub loop-line-preserved : goal.loop-line-preserved
@@ -44,11 +46,11 @@ loop-line-preserved g c =
       λ files all old gathered yields.
           let at = line_at g.I.Iterator.next_gives all c.loop-line.yielded yields c.into_iter-line-iterator.ensures.into_iter_gives c.loop-line.yielded_by c.in-Some.is c.next.ensures.steps in
           let kept = so_far files all old gathered yields in
-          (kept.0, empty c.in-Some.line.now kept.1 (rw (← place) at at.1) (eqb-true _ _ (sym c.if-not-is_empty.ensures)), kept.2, kept.3),
+          (kept.0, empty (without_end c.in-Some.line.now) kept.1 (rw (← place) at at.1) (eqb-true _ _ (sym (rw c.without_end-text.ensures at c.if-not-is_empty.ensures))), kept.2, kept.3),
     )
 
 pub returns : goal.returns
 returns g c = λ all yields files old gathered.
     let (can, finite, place, so_far) = c.loop-line.invariant in
-    let end = YieldsList-end {steps = g.I.Iterator.next_gives} {v = λ line. line.now} (YieldsList-at c.into_iter-line-iterator.ensures.into_iter_gives (record { runs = yields })) c.loop-line.yielded _ c.loop-line.yielded_by _ _ c.in-None.is c.next.ensures.steps in
+    let end = YieldsList-end {steps = g.I.Iterator.next_gives} {v = λ line. without_end line.now} (YieldsList-at c.into_iter-line-iterator.ensures.into_iter_gives (record { runs = yields })) c.loop-line.yielded _ c.loop-line.yielded_by _ _ c.in-None.is c.next.ensures.steps in
     rw (place, end.1) at (so_far files all old gathered yields)
