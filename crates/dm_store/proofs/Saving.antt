@@ -20,12 +20,13 @@ by_end (Err fault) ok err = err refl
 pub keeps_on : {a b c : DiskState} {name : List ℕ} → KeepsFile a name b → KeepsFile b name c → KeepsFile a name c
 keeps_on k l = record {
   seen = l.seen ∙ k.seen;
+  named = λ keeps. l.named (k.named keeps);
   synced = λ on. l.synced (k.synced on);
   left = λ content leaves. k.left content (l.left content leaves);
 }
 
 pub keeps_same : {old : DiskState} {name : List ℕ} → KeepsFile old name old
-keeps_same = record { seen = refl; synced = λ on. on; left = λ content leaves. leaves }
+keeps_same = record { seen = refl; named = λ keeps. keeps; synced = λ on. on; left = λ content leaves. leaves }
 
 -- no name but the draft's is touched
 abbrev KeepsBut : DiskState → List ℕ → DiskState → Type 0

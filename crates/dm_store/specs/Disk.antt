@@ -10,17 +10,20 @@ use Rattle.dm_store.specs.Saved.{LoadsOpen, SavesOpen, Saved, Contents, SavedSet
 abbrev pub Content : Type 0
 Content = Option (List ℕ)
 
--- A disk: whether it is honest (it does what is said below); what a reader finds under a name; whether the bytes of the
--- file that has the name are on the disk, as a reader finds them; what a stop at this moment may leave under a name.
+-- A disk: whether it is honest (it does what is said below); what a reader finds under a name; whether no rename takes the
+-- place of a file that has the name; whether the bytes of that file are on the disk, as a reader finds them; what a stop at
+-- this moment may leave under a name.
 pub record DiskState : Type 1 where
   pub is_honest : Bool
   pub seen : List ℕ → Content
+  pub keeps_name : List ℕ → Type 0
   pub is_synced : List ℕ → Type 0
   pub may_leave : List ℕ → Content → Type 0
 
 -- nothing changes under this name, and a stop leaves nothing there that it did not leave before
 pub record KeepsFile (old : DiskState) (name : List ℕ) (new : DiskState) : Type 0 where
   pub seen : new.seen name ≡ old.seen name
+  pub named : old.keeps_name name → new.keeps_name name
   pub synced : old.is_synced name → new.is_synced name
   pub left : (content : Content) → new.may_leave name content → old.may_leave name content
 
@@ -48,13 +51,15 @@ pub record Syncs (old : DiskState) (name : List ℕ) (answer : Result (Unit {0})
   pub kept : IsOk answer ⊎ old.is_synced name → KeepsFile old name new
   pub done : IsOk answer → new.is_synced name
 
--- The file gets another name, in place of the file that had it. If its bytes are on the disk, a stop leaves under the
--- new name what it left before, or these bytes; if they are not, nothing is said. Nothing is said of the old name.
+-- The file gets another name, in place of the file that had it, unless the disk keeps that name. If its bytes are on the
+-- disk, a stop leaves under the new name what it left before, or these bytes; if they are not, nothing is said. Nothing is
+-- said of the old name.
 pub record Renames (old : DiskState) (from to : List ℕ) (answer : Result (Unit {0}) StoreFault) (new : DiskState)
     : Type 0 where
   pub others : (other : List ℕ) → other ≢ from → other ≢ to → KeepsFile old other new
   pub done : IsOk answer → new.seen to ≡ old.seen from
   pub failed : IsErr answer → (new.seen to ≡ old.seen to) ⊎ (new.seen to ≡ old.seen from)
+  pub none : IsOk answer → old.keeps_name to → old.seen to ≡ None
   pub synced : old.is_synced from → IsOk answer ⊎ old.is_synced to → new.is_synced to
   pub left : old.is_synced from
       → (content : Content) → new.may_leave to content → old.may_leave to content ⊎ (content ≡ old.seen from)
@@ -156,4 +161,10 @@ saved_under disk path = record {
 
 -- a disk that is not honest, so that no law speaks of what a reader finds or a stop leaves
 abbrev pub unclaimed : DiskState
-unclaimed = record { is_honest = false; seen = λ name. None; is_synced = λ name. ⊤; may_leave = λ name content. ⊤ }
+unclaimed = record {
+  is_honest = false;
+  seen = λ name. None;
+  keeps_name = λ name. ⊤;
+  is_synced = λ name. ⊤;
+  may_leave = λ name content. ⊤;
+}

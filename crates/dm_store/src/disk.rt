@@ -41,7 +41,8 @@ pub trait Disk: Drop {
         ensures syncs { IsTrue (state self.old).is_honest
             → Syncs (state self.old) name.now result (state self.new) };
 
-    /// Gives the file under `from` the name `to`, in place of the file that had it.
+    /// Gives the file under `from` the name `to`, in place of the file that had it; if the disk keeps that name, it
+    /// fails where a file has it.
     fn rename(&mut self, from: &str, to: &str) -> Result<(), StoreFault>
         ensures honesty { (state self.new).is_honest ≡ (state self.old).is_honest }
         ensures renames { IsTrue (state self.old).is_honest

@@ -17,6 +17,8 @@ fn put_in_place<D: Disk>(disk: &mut D, path: &str, draft: &str) -> Result<(), St
     ensures saves { IsTrue (D.state disk.old).is_honest
         → (bytes : List ℕ) → (D.state disk.old).seen draft.now ≡ Some bytes
         → SavesFile (D.state disk.old) path.now draft.now (Some bytes) result (D.state disk.new) }
+    ensures none { IsTrue (D.state disk.old).is_honest → IsOk result → (D.state disk.old).keeps_name path.now
+        → (D.state disk.old).seen path.now ≡ None }
 {
     disk.sync(draft)?;
     disk.rename(draft, path)?;
@@ -46,6 +48,8 @@ pub(crate) fn replace_file<D: Disk>(
     ensures refused { IsErrOf result StoreFault.Memory → KeepsAll (D.state disk.old) (D.state disk.new) }
     ensures saves { IsTrue (D.state disk.old).is_honest
         → SavesFile (D.state disk.old) path.now draft.now (Some bytes.now) result (D.state disk.new) }
+    ensures none { IsTrue (D.state disk.old).is_honest → IsOk result → (D.state disk.old).keeps_name path.now
+        → (D.state disk.old).seen path.now ≡ None }
 {
     match disk.write(draft, bytes) {
         Ok(()) => {}
@@ -116,6 +120,9 @@ impl<D: Disk, A: Allocator> Store for Filed<D, AtFile, A> {
         ensures saves { IsTrue (D.state self.old.disk).is_honest
             → SavesFile (D.state self.old.disk) self.old.path (draft_of self.old.path) (Some bytes.now)
             result (D.state self.new.disk) }
+        // Where the disk keeps the name, no file had it.
+        ensures none { IsTrue (D.state self.old.disk).is_honest → IsOk result
+            → (D.state self.old.disk).keeps_name self.old.path → (D.state self.old.disk).seen self.old.path ≡ None }
         // If no stop would have taken back what a reader found, a stop leaves what a store under an open plan may hold.
         ensures old_or_new { IsTrue (D.state self.old.disk).is_honest → IsSettled (D.state self.old.disk) self.old.path
             → (content : Content) → (D.state self.new.disk).may_leave self.old.path content

@@ -105,7 +105,7 @@ pub(crate) fn write_draft<R: Files>(runtime: &R, draft: &str, bytes: &[u8]) -> i
 }
 
 // The folder that has the entry `path`, with a slash at its end, so that a pipe that has come there is not opened.
-fn folder_of(path: &str) -> &str {
+pub(crate) fn folder_of(path: &str) -> &str {
     match path.trim_end_matches('/').rsplit_once('/') {
         Some((above, _)) => path.get(..above.len() + 1).unwrap_or("."),
         None => ".",
@@ -126,18 +126,5 @@ pub(crate) fn sync_folder_of<R: Files>(runtime: &R, path: &str) -> io::Result<()
             sync_folder(runtime, folder_of(folder))
         }
         ended => ended,
-    }
-}
-
-// Gives a file a name that nothing has. If something has it, that stays as it is. Where the file system has no second
-// names, it is only looked whether something is there.
-pub(crate) fn name_new<R: Files>(runtime: &R, from: &str, to: &str) -> io::Result<()> {
-    match runtime.hard_link(from, to) {
-        Ok(()) => fs::remove_file(runtime, from),
-        Err(error) if error.kind() == ErrorKind::AlreadyExists => Err(error),
-        Err(error) => match fs::symlink_metadata(runtime, to) {
-            Err(found) if found.kind() == ErrorKind::NotFound => fs::rename(runtime, from, to),
-            _ => Err(error),
-        },
     }
 }

@@ -21,6 +21,8 @@
 //! the file of each key; a remove leaves the old bytes or none, and none once it has answered `Ok`. [`Unsettled`] is a
 //! store whose loads a stop may take back, for those who tell nothing of them before their next save.
 //!
+//! Where a disk keeps names, a save is proved to put a new file only where none was.
+//!
 //! [`RealDisk`] is the system's own files: it claims nothing. That its few lines do what the contract says is trusted,
 //! and tested; so is the sync by which a folder that was made is kept, which no clause speaks of.
 #![tactic(auto)]
@@ -35,6 +37,7 @@ mod key_files;
 mod key_map;
 mod mem_set;
 mod mem_store;
+mod new_file;
 mod real_disk;
 mod set;
 mod store;
@@ -47,6 +50,7 @@ pub use key_files::{PathText, key_of, path_of};
 pub use key_map::KeyMap;
 pub use mem_set::{MemSet, SavedBytes};
 pub use mem_store::{MemStore, NextSave};
+pub use new_file::{MOST_DRAFTS, draft_path};
 pub use real_disk::RealDisk;
 pub use set::StoreSet;
 pub use store::{Store, StoreFault};

@@ -4,12 +4,13 @@
 ghost use Rattle.dm_store.specs.Disk.{unclaimed};
 
 use crate::disk::{Disk, Folders};
-use crate::files::{load_file, name_new, sync_folder, sync_folder_of, write_draft};
+use crate::files::{load_file, sync_folder, sync_folder_of, write_draft};
 use crate::key_files::{key_of, with_end};
+use crate::new_file::{create_draft, draft_path, name_draft, remove_own};
 use crate::store::StoreFault;
 use std::alloc::{Allocator, Global};
 use std::fs::{OpenFile, read_dir};
-use std::io::ErrorKind;
+use std::io::{ErrorKind, Write};
 use std::rt::Files;
 use std::{fs, io};
 
@@ -21,9 +22,12 @@ const MOST_NAMES: usize = 131_072;
 pub struct RealDisk<'a, R: Files, A: Allocator + Copy = Global> {
     alloc: A,
     runtime: &'a R,
-    // The file that was written last, open until its sync, which so sees each fault of its writes.
+    // The draft that was written last, open until it has its name. So its sync sees each fault of its writes, and it is
+    // known from what may come to its place.
     written: Option<R::File>,
     replaces: bool,
+    // The number of the draft that was made last, of a new file.
+    number: u8,
     // Why the system refused a call last.
     last_error: Option<io::Error>,
 }
@@ -36,15 +40,22 @@ impl<'a, R: Files, A: Allocator + Copy> RealDisk<'a, R, A> {
             runtime,
             written: None,
             replaces: true,
+            number: 0,
             last_error: None,
         }
     }
 
-    /// The same files, of which none takes the place of another: a rename to a name that something has fails.
+    /// The same files, of which none takes the place of another: a rename to a name that something has fails. Drafts are
+    /// made under names that nothing has ([`draft_path`]), in place of `PATH.new`; and nothing but they is removed.
     pub fn of_new_files(alloc: A, runtime: &'a R) -> RealDisk<'a, R, A> {
         let mut disk = RealDisk::new(alloc, runtime);
         disk.replaces = false;
         disk
+    }
+
+    /// How many drafts of the new file that was saved last were there already.
+    pub fn other_drafts(&self) -> u8 {
+        self.number.saturating_sub(1)
     }
 
     /// Why the system refused a call last, if it has refused one.
@@ -60,10 +71,37 @@ impl<'a, R: Files, A: Allocator + Copy> RealDisk<'a, R, A> {
         ended
     }
 
+    // Makes the draft of a new file, and writes the bytes to it.
+    fn write_new(&mut self, path: &str, bytes: &[u8]) -> io::Result<()> {
+        let (file, number) = create_draft(self.runtime, path)?;
+        self.number = number;
+        self.written.insert(file).write_all(bytes)
+    }
+
+    // Gives the draft of a new file that file's name.
+    fn name_new(&self, path: &str) -> io::Result<()> {
+        match (&self.written, draft_path(path, self.number)) {
+            (Some(file), Ok(draft)) => name_draft(self.runtime, file, draft.as_str(), path),
+            _ => Err(io::Error::other("has no draft")),
+        }
+    }
+
+    // Removes the draft of a new file, if it was made here and is still there.
+    fn drop_new(&mut self, path: &str) {
+        if let (Some(file), Ok(draft)) = (self.written.take(), draft_path(path, self.number)) {
+            remove_own(self.runtime, &file, draft.as_str());
+        }
+    }
+
     // What is answered to a call that changes something, or settles it.
     fn done(&mut self, ended: io::Result<()>) -> Result<(), StoreFault> {
         self.kept(ended).map_err(|_| StoreFault::Device)
     }
+}
+
+// The path of the file whose draft a store names.
+fn file_of(draft: &str) -> &str {
+    draft.strip_suffix(".new").unwrap_or(draft)
 }
 
 // Makes the folder, if it isn't there.
@@ -121,28 +159,40 @@ impl<R: Files, A: Allocator + Copy> Disk for RealDisk<'_, R, A> {
     }
 
     fn write(&mut self, name: &str, bytes: &[u8]) -> Result<(), StoreFault> {
-        let written = write_draft(self.runtime, name, bytes);
-        self.written = self.kept(written).ok();
-        match &self.written {
-            Some(_) => Ok(()),
-            None => Err(StoreFault::Device),
-        }
+        self.written = None;
+        let ended = if self.replaces {
+            write_draft(self.runtime, name, bytes).map(|file| self.written = Some(file))
+        } else {
+            self.write_new(file_of(name), bytes)
+        };
+        self.done(ended)
     }
 
     fn sync(&mut self, _name: &str) -> Result<(), StoreFault> {
-        let written = self.written.take().ok_or(StoreFault::Device)?;
-        self.done(written.sync_all())
+        let synced = match &self.written {
+            Some(file) => file.sync_all(),
+            None => return Err(StoreFault::Device),
+        };
+        self.done(synced)
     }
 
     fn rename(&mut self, from: &str, to: &str) -> Result<(), StoreFault> {
-        if self.replaces {
-            self.done(fs::rename(self.runtime, from, to))
+        let ended = if self.replaces {
+            fs::rename(self.runtime, from, to)
         } else {
-            self.done(name_new(self.runtime, from, to))
+            self.name_new(to)
+        };
+        if ended.is_ok() {
+            self.written = None;
         }
+        self.done(ended)
     }
 
     fn remove(&mut self, name: &str) -> Result<(), StoreFault> {
+        if !self.replaces {
+            self.drop_new(file_of(name));
+            return Ok(());
+        }
         match fs::remove_file(self.runtime, name) {
             Err(error) if error.kind() == ErrorKind::NotFound => Ok(()),
             ended => self.done(ended),

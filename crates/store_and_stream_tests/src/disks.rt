@@ -4,7 +4,7 @@
 use dm_store::{Disk, FileStore, Kept, Store, StoreFault};
 use std::alloc::{AllocError, Global};
 use std::test::Fail;
-use test_helpers::{MemDisk, Stopping};
+use test_helpers::{KeepingNames, MemDisk, Stopping};
 
 // Which contents a stop may leave in the file; anything is the old one, the new one, a part of it, or nothing.
 #[derive(Clone, Copy, PartialEq, Eq)]
@@ -83,6 +83,16 @@ fn a_stop_leaves_the_old_or_the_new(rt: HostRuntime) -> Result<(), Fail> {
         assert!(rt; what_is_left(&disk) == Some(left));
         assert!(rt; is_new || *wanted != Leaves::New);
     }
+    Ok(())
+}
+
+// Over a disk that keeps names the first save is done, and none after it.
+#[test]
+fn a_kept_name_is_given_once(rt: HostRuntime) -> Result<(), Fail> {
+    let mut store = store_over(rt.alloc(), KeepingNames::new(MemDisk::new(rt.alloc())))?;
+    assert!(rt; store.replace(b"old") == Ok(()));
+    assert!(rt; store.replace(b"new") == Err(StoreFault::Device));
+    assert!(rt; store.load(9)? == Some(Vec::from_slice(rt.alloc(), b"old")?));
     Ok(())
 }
 

@@ -4,3 +4,4 @@ mod SeenIsLeft
 mod Noted
 mod Stopped
 mod Named
+mod NamesKept

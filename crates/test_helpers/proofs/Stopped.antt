@@ -23,6 +23,7 @@ module _ (old new : DiskState) (name : List ℕ) (made answer : Result (Unit {0}
     others = renames.others;
     done = λ ok. renames.done (oks ok);
     failed = λ _. by_end made renames.done renames.failed;
+    none = λ ok. renames.none (oks ok);
     synced = λ on. ⊎_elim (λ ok. renames.synced on (inl (oks ok))) (λ on_to. renames.synced on (inr on_to));
     left = renames.left;
   }

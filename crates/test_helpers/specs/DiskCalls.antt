@@ -59,6 +59,7 @@ abbrev pub disk_after : {A : Type 0} → List (DiskCall A) → DiskState
 disk_after calls = record {
   is_honest = true;
   seen = seen_after calls;
+  keeps_name = λ name. ⊥;
   is_synced = λ name. IsTrue (synced_after calls name);
   may_leave = λ name content. IsTrue (leaves_after calls name content);
 }

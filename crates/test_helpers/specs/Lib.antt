@@ -1,1 +1,2 @@
 pub mod DiskCalls
+pub mod Keeping

@@ -7,5 +7,5 @@ returns-clause-settles g c = λ _. noted_folder _ _ _ _ c.note.result c.in_ok-st
 
 pub returns-clause-kept : goal.returns-clause-kept
 returns-clause-kept g c = λ each. noted_kept _ _ _ each c.note.result
-    (record { seen = refl; synced = λ on. on; left = left_before _ c.args.self.now.calls.items each })
+    (record { seen = refl; named = λ keeps. keeps; synced = λ on. on; left = left_before _ c.args.self.now.calls.items each })
     c.note.ensures.ok c.note.ensures.err

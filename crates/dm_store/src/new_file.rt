@@ -1,0 +1,94 @@
+//! Files that take the place of nothing. A draft is made under a name that nothing has, and is known by its open file:
+//! what was not made here is neither removed nor renamed.
+
+use crate::files::folder_of;
+use crate::key_files::{PathText, with_end};
+use crate::store::StoreFault;
+use std::fmt::Write;
+use std::fs::{OpenFile, OpenOptions};
+use std::io::ErrorKind;
+use std::os::unix::fs::MetadataExt;
+use std::rt::Files;
+use std::{fs, io};
+
+/// How many drafts may be beside a new file: those that programs write, and those that stops have left.
+pub const MOST_DRAFTS: u8 = 99;
+
+/// The name of a draft of the new file at `path`, by its number, 1 to 99.
+///
+/// # Errors
+/// `Device` where it is longer than any that the system takes.
+pub fn draft_path(path: &str, number: u8) -> Result<PathText, StoreFault> {
+    let mut draft = with_end(path, ".")?;
+    write!(draft, "{number}.new").map_err(|_| StoreFault::Device)?;
+    Ok(draft)
+}
+
+// Opens a file of its own at `path`, where nothing is.
+fn create<R: Files>(runtime: &R, path: &str) -> io::Result<R::File> {
+    let mut how = OpenOptions::new();
+    how.write(true).create_new(true).open(runtime, path)
+}
+
+/// Makes a draft of its own of the new file at `path`, with the first number of which none is there. A folder that can't
+/// be opened, and so can't be synced when the draft is in place, is refused before.
+pub(crate) fn create_draft<R: Files>(runtime: &R, path: &str) -> io::Result<(R::File, u8)> {
+    fs::open(runtime, folder_of(path))?;
+    for number in 1..=MOST_DRAFTS {
+        let draft = draft_path(path, number).map_err(|_| io::Error::other("is too long"))?;
+        match create(runtime, draft.as_str()) {
+            Ok(file) => return Ok((file, number)),
+            Err(error) if error.kind() == ErrorKind::AlreadyExists => {}
+            Err(error) => return Err(error),
+        }
+    }
+    Err(io::Error::other("has 99 drafts, .1.new to .99.new, already"))
+}
+
+// Whether this file is what has the name, which is no link.
+fn has_name<R: Files>(runtime: &R, file: &R::File, path: &str) -> bool {
+    match (file.metadata(), fs::symlink_metadata(runtime, path)) {
+        (Ok(own), Ok(found)) => (own.dev(), own.ino()) == (found.dev(), found.ino()),
+        _ => false,
+    }
+}
+
+/// Removes what is at `path`, if it is still this file.
+pub(crate) fn remove_own<R: Files>(runtime: &R, file: &R::File, path: &str) {
+    if has_name(runtime, file, path) {
+        let _ = fs::remove_file(runtime, path);
+    }
+}
+
+// Renames a draft where the file system has no second names. An empty file that is made at `path` before keeps others
+// from the name; a stop may leave it there.
+fn rename_draft<R: Files>(runtime: &R, draft: &str, path: &str) -> io::Result<()> {
+    let kept = create(runtime, path)?;
+    let renamed = fs::rename(runtime, draft, path);
+    if renamed.is_err() {
+        remove_own(runtime, &kept, path);
+    }
+    renamed
+}
+
+/// Gives a draft, which is open as `file`, the name `path`, if nothing has it. If something has it, that stays as it is.
+pub(crate) fn name_draft<R: Files>(
+    runtime: &R,
+    file: &R::File,
+    draft: &str,
+    path: &str,
+) -> io::Result<()> {
+    if !has_name(runtime, file, draft) {
+        return Err(io::Error::other("its draft was removed or replaced"));
+    }
+    match runtime.hard_link(draft, path) {
+        Ok(()) => {}
+        Err(error) if error.kind() == ErrorKind::AlreadyExists => return Err(error),
+        Err(_) => rename_draft(runtime, draft, path)?,
+    }
+    if !has_name(runtime, file, path) {
+        return Err(io::Error::other("was replaced while it was saved"));
+    }
+    remove_own(runtime, file, draft);
+    Ok(())
+}
