@@ -26,12 +26,18 @@ kept_at (kept ∷ rest) path =
 abbrev pub KeepsOthers : List ℕ → PlacesView → PlacesView → Type 0
 KeepsOthers path old new = (other : List ℕ) → other ≢ path → new other ≡ old other
 
--- Nothing was changed, or the file at the path was saved as stores are; all else is as it was.
+-- these hold nothing, if they are honest
+abbrev pub HoldNothing : DeskFiles → Type 0
+HoldNothing files = (IsTrue files.joint.is_honest → files.joint.content ≡ None)
+    × (IsTrue files.set.is_honest → files.set.content ≡ empty)
+
+-- Nothing was changed, and the save was refused. Or nothing was at the path, neither a file nor a desk, and the file there
+-- was saved as stores are; all else is as it was.
 abbrev pub SavesNew : List ℕ → List ℕ → PlacesView → Result (Unit {0}) StoreFault → PlacesView → Type 0
 SavesNew path bytes old answer new =
     ((new ≡ old) × ((fault : StoreFault) × (answer ≡ Err fault)))
-    ⊎ (Replaces (old path).joint bytes answer (new path).joint × ((new path).set ≡ (old path).set)
-    × KeepsOthers path old new)
+    ⊎ (HoldNothing (old path) × Replaces (old path).joint bytes answer (new path).joint
+    × ((new path).set ≡ (old path).set) × KeepsOthers path old new)
 
 -- The draft of a file is beside it, and so is the file that is locked, beside a ledger or beside a desk's folder.
 pub record IsPlaced (place : Place) : Type 0 where

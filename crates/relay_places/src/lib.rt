@@ -4,26 +4,29 @@
 //! The files of a command, in the order in which it comes to them. Nothing is opened before its first load, so what can
 //! be said without a file is said without one. Then a command that may save locks PATH.lock, or PATH.pages.lock at a
 //! desk, and holds it until its output is out. It loads PATH, and at a desk the files in the folder PATH.pages. It
-//! saves to NAME.new, looks whether the lock file is still its own, and gives that file the name NAME. What a command
-//! can't have is a device fault to it, and a line `relay: PATH: ..` on the standard error says why. Proved of the disk
-//! behind a lock: it is a disk like the one within, whose calls may fail. That it is locked is in no clause.
+//! saves to NAME.new, or for a new ledger NAME.1.new, looks whether the lock file is still its own, and gives that file
+//! the name NAME. What a command can't have is a device fault to it, and a line `relay: PATH: ..` on the standard error
+//! says why. Proved of the disk behind a lock: it is a disk like the one within, whose calls may fail. That it is locked
+//! is in no clause.
 #![tactic(auto)]
 
 mod lock;
 mod locked;
 mod mem_places;
+mod new_place;
 mod notes;
 mod place;
 mod places;
 mod real_file;
 mod real_places;
+mod reason;
 mod saved_output;
 mod system_disk;
 mod watched;
 
 pub use mem_places::{MemPlace, MemPlaces};
-pub use notes::{note, note_of_input};
+pub use notes::{note, note_of_desk, note_of_input};
 pub use place::{Access, Named};
-pub use places::Places;
+pub use places::{Closed, Places, SavedNew};
 pub use real_places::RealPlaces;
 pub use watched::Watched;

@@ -4,10 +4,12 @@ ghost use Rattle.std.specs.Prelude.{◌≡◌, IfErr};
 ghost use Rattle.relay_places.specs.Places.{locks};
 
 use crate::lock::{Lock, LockFault};
-use crate::notes::note_of_error;
+use crate::new_place::obstacle_at;
+use crate::notes::{note_of_draft, note_of_error, note_of_many};
 use crate::place::{Access, Place};
+use crate::reason::Reason;
 use crate::system_disk::KeepsError;
-use dm_store::{Disk, Folders, StoreFault};
+use dm_store::{Disk, Folders, MOST_DRAFTS, StoreFault, draft_path};
 use std::cell::{Cell, OnceCell};
 use std::fs::Metadata;
 use std::io::{self, ErrorKind};
@@ -15,30 +17,8 @@ use std::os::unix::fs::MetadataExt;
 use std::rc::Rc;
 use std::rt::Files;
 
-// The endings of what is made beside a ledger or a desk.
-const OWN_ENDINGS: [&str; 3] = [".new", ".lock", ".pages"];
-
 // The length of a joint file that has no documents.
 const EMPTY_JOINT_FILE_BYTES: u64 = 7;
-
-/// Why a command does not find or does not get its files. What each says stands in [`crate::notes`].
-#[derive(Clone, Copy)]
-pub(crate) enum Reason {
-    NoDesk,
-    LostLink,
-    LostFolder,
-    NoPlainFile,
-    /// The system has refused to say.
-    Refused,
-    OwnEnding,
-    SecondName,
-    Busy,
-    NoLock,
-    LostLock,
-    /// There was no folder for it, or nothing at all when it was first looked at.
-    NotLocked,
-    Taken,
-}
 
 /// What is at the paths of a command.
 #[derive(Clone, Copy)]
@@ -62,17 +42,37 @@ fn locks_files(access: Access, found: Found) -> bool
     }
 }
 
-/// Whether a path is that of a file that is made beside a ledger or a desk, or lies in a desk's folder.
-pub(crate) fn has_own_ending(place: &Place) -> bool {
-    let path = place.file.as_str();
-    path.contains(".pages/") || OWN_ENDINGS.iter().any(|ending| path.ends_with(*ending))
+// Whether the draft of this number, or for 0 the one without, is a second name of the file, which a stop has left it.
+fn is_own_draft(rt: &HostRuntime, place: &Place, number: u8, file: &Metadata) -> bool {
+    let numbered = draft_path(place.file.as_str(), number);
+    let draft = match &numbered {
+        _ if number == 0 => place.draft.as_str(),
+        Ok(draft) => draft.as_str(),
+        Err(_) => return false,
+    };
+    matches!(rt.symlink_metadata(draft), Ok(draft) if (draft.dev(), draft.ino()) == (file.dev(), file.ino()))
 }
 
-// Whether a file has a name beside its own, and beside that of its draft, which a stop may have left it.
+// Whether a file has a name beside its own, and beside those of drafts, which a stop may have left it.
 fn has_second_name(rt: &HostRuntime, place: &Place, file: &Metadata) -> bool {
-    let is_draft = matches!(rt.symlink_metadata(place.draft.as_str()), Ok(draft)
-        if (draft.dev(), draft.ino()) == (file.dev(), file.ino()));
-    file.nlink() > 1 + u64::from(is_draft)
+    let mut names = file.nlink();
+    if names > 1 {
+        for number in 0..=MOST_DRAFTS {
+            names = names.saturating_sub(u64::from(is_own_draft(rt, place, number, file)));
+        }
+    }
+    names > 1
+}
+
+// Removes the drafts that a stop has left a file, which is locked, as second names.
+fn remove_own_drafts(rt: &HostRuntime, place: &Place, file: &Metadata) {
+    for number in 1..=MOST_DRAFTS {
+        if is_own_draft(rt, place, number, file)
+            && let Ok(draft) = draft_path(place.file.as_str(), number)
+        {
+            let _ = rt.remove_file(draft.as_str());
+        }
+    }
 }
 
 /// The files of one command, which its stores share: they are looked at, and locked if the command may save, at its
@@ -125,12 +125,34 @@ impl<'a> CommandFiles<'a> {
             .set(note_of_error(self.rt.alloc(), path, error));
     }
 
+    // Why a link can't be followed: it leads nowhere, which has this reason, or else the system's reason is kept.
+    fn lost(&self, path: &str, error: &io::Error, nowhere: Reason) -> Reason {
+        if error.kind() == ErrorKind::NotFound {
+            return nowhere;
+        }
+        self.keep(path, error);
+        Reason::Refused
+    }
+
+    // Why nothing new can be at the place of the command, if nothing can.
+    fn why_not_new(&self) -> Option<Reason> {
+        let (rt, place) = (self.rt, &self.place);
+        if let Some(obstacle) = obstacle_at(rt, place) {
+            self.refused.set(obstacle.note);
+            return Some(Reason::Refused);
+        }
+        if place.access == Access::Creates && rt.symlink_metadata(place.draft.as_str()).is_ok() {
+            return Some(Reason::DraftTaken);
+        }
+        None
+    }
+
     // The plain file of the command, if surely something is there.
     fn file(&self) -> Result<Option<Metadata>, Reason> {
-        if self.place.is_file_lost {
-            return Err(Reason::LostLink);
-        }
         let path = self.place.file.as_str();
+        if let Some(error) = &self.place.file_fault {
+            return Err(self.lost(path, error, Reason::LostLink));
+        }
         match self.rt.metadata(path) {
             Ok(metadata) if metadata.is_file() => Ok(Some(metadata)),
             Ok(_) => Err(Reason::NoPlainFile),
@@ -158,14 +180,23 @@ impl<'a> CommandFiles<'a> {
         if !locks_files(access, found) {
             return Ok(None);
         }
-        if !found.is_any && has_own_ending(place) {
-            return Err(Reason::OwnEnding);
+        if !found.is_any
+            && let Some(reason) = self.why_not_new()
+        {
+            return Err(reason);
         }
         if matches!(&file, Some(file) if has_second_name(rt, place, file)) {
             return Err(Reason::SecondName);
         }
         match Lock::take(rt, place.lock.as_str()) {
-            Ok(lock) => Ok(Some(lock)),
+            Ok(lock) => {
+                if let Some(file) = &file
+                    && file.nlink() > 1
+                {
+                    remove_own_drafts(rt, place, file);
+                }
+                Ok(Some(lock))
+            }
             // So nothing is there to be loaded.
             Err(LockFault::NoFolder) => Ok(None),
             Err(LockFault::Busy) => Err(Reason::Busy),
@@ -195,11 +226,12 @@ impl<'a> CommandFiles<'a> {
         if self.entered.get().is_none() {
             let _ = self.entered.set(self.enter());
         }
-        let place = &self.place;
-        let is_lost = place.is_folder_lost && path.starts_with(place.folder.as_str());
-        self.allow(match self.entered.get() {
-            Some(Err(reason)) => Err(*reason),
-            _ if is_lost => Err(Reason::LostFolder),
+        let folder = self.place.folder.as_str();
+        self.allow(match (self.entered.get(), &self.place.folder_fault) {
+            (Some(Err(reason)), _) => Err(*reason),
+            (_, Some(error)) if path.starts_with(folder) => {
+                Err(self.lost(folder, error, Reason::LostFolder))
+            }
             _ => Ok(()),
         })
     }
@@ -216,13 +248,35 @@ impl<'a> CommandFiles<'a> {
         })
     }
 
-    // Keeps why a rename has failed, if something has come to the place of a new ledger.
-    fn look_at_place(&self) {
+    // Keeps what is to be said of a new ledger whose draft was to get its name: that something has come there, or that
+    // another draft of it was there.
+    fn look_at_new(&self, is_named: bool, other_drafts: u8) {
         let place = &self.place;
-        if place.access == Access::Creates
-            && self.rt.symlink_metadata(place.file.as_str()).is_ok()
-        {
+        if place.access != Access::Creates {
+            return;
+        }
+        if is_named && other_drafts > 0 {
+            self.refused.set(note_of_draft(self.rt.alloc(), place));
+            self.reason.set(Some(Reason::Refused));
+        }
+        if !is_named && self.rt.symlink_metadata(place.file.as_str()).is_ok() {
             self.reason.set(Some(Reason::Taken));
+        }
+    }
+
+    // Keeps what is to be said of a desk with more documents than the command takes.
+    fn look_at_count(&self, count: usize, limit: usize) {
+        if count > limit {
+            self.refused
+                .set(note_of_many(self.rt.alloc(), &self.place, limit));
+        }
+    }
+
+    // The path that is named where a draft could not be written.
+    fn written_at<'b>(&'b self, draft: &'b str) -> &'b str {
+        match self.place.access {
+            Access::Creates => self.place.file.as_str(),
+            _ => draft,
         }
     }
 }
@@ -279,20 +333,19 @@ impl<D: Disk + KeepsError> Disk for Locked<'_, D> {
     fn write(&mut self, name: &str, bytes: &[u8]) -> Result<(), StoreFault> {
         self.command_files.may_save()?;
         let written = self.within.write(name, bytes);
-        self.told(name, written)
+        self.told(self.command_files.written_at(name), written)
     }
 
     fn sync(&mut self, name: &str) -> Result<(), StoreFault> {
         let synced = self.within.sync(name);
-        self.told(name, synced)
+        self.told(self.command_files.written_at(name), synced)
     }
 
     fn rename(&mut self, from: &str, to: &str) -> Result<(), StoreFault> {
         self.command_files.may_save()?;
         let renamed = self.within.rename(from, to);
-        if renamed.is_err() {
-            self.command_files.look_at_place();
-        }
+        self.command_files
+            .look_at_new(renamed.is_ok(), self.within.other_drafts());
         self.told(to, renamed)
     }
 
@@ -326,6 +379,11 @@ impl<D: Folders + KeepsError> Folders for Locked<'_, D> {
         self.command_files
             .has_no_list
             .set(matches!(&keys, Err(StoreFault::Device)));
+        let count = match &keys {
+            Ok(keys) => keys.len(),
+            Err(_) => 0,
+        };
+        self.command_files.look_at_count(count, limit);
         self.told(folder, keys)
     }
 

@@ -1,11 +1,12 @@
 //! Ledgers and desks in memory, and files to be read.
 
-ghost use Rattle.std.specs.Prelude.{◌≡◌, ◌∷◌, false, option_map, string_bytes};
-ghost use Rattle.relay_places.specs.Places.{KeepsOthers, files_of, kept_at};
+ghost use Rattle.std.specs.Prelude.{◌≡◌, ◌∷◌, ◌⊎◌, false, option_map, string_bytes, IsErr};
+ghost use Rattle.dm_store.specs.Saved.{Replaces};
+ghost use Rattle.relay_places.specs.Places.{HoldNothing, KeepsOthers, SavesNew, files_of, kept_at};
 
 use crate::place::{Access, Named};
-use crate::places::Places;
-use dm_store::{MemSet, MemStore, Store, StoreFault};
+use crate::places::{Closed, Places, SavedNew};
+use dm_store::{MemSet, MemStore, Store, StoreFault, StoreSet};
 use std::alloc::{AllocError, Global};
 use std::mem;
 
@@ -53,6 +54,36 @@ fn content<'a>(kept: &'a [MemPlace], path: &str) -> Option<&'a [u8]>
     }
 }
 
+// Saves the bytes as a file, where neither a file nor a desk is.
+fn save_where_none(file: &mut MemStore, folder: &mut MemSet, bytes: &[u8]) -> Result<(), StoreFault>
+    ensures set { folder.new ≡ folder.old }
+    ensures saves { ((file.new ≡ file.old) × IsErr result)
+        ⊎ (HoldNothing (files_of file.old folder.old) × Replaces file.old bytes.now result file.new) }
+{
+    if file.content().is_some() || !folder.keys(0)?.is_empty() {
+        return Err(StoreFault::Device);
+    }
+    file.replace(bytes)
+}
+
+// Saves the bytes as a file at a path, where neither a file nor a desk is.
+fn save_at(places: &mut MemPlaces<'_>, path: &str, bytes: &[u8]) -> Result<(), StoreFault>
+    ensures { SavesNew path.now bytes.now (kept_at (places.old.opened ∷ places.old.kept.items)) result
+        (kept_at (places.new.opened ∷ places.new.kept.items)) }
+{
+    let named = Named {
+        file: path,
+        is_desk: false,
+        access: Access::Creates,
+    };
+    let Ok((mut file, mut folder)) = places.open(named) else {
+        return Err(StoreFault::Memory);
+    };
+    let answer = save_where_none(&mut file, &mut folder, bytes);
+    places.close(named, file, folder, 0);
+    answer
+}
+
 #[rattlefmt::skip] // a signature a line
 impl<'a> Places for MemPlaces<'a> {
     type File = MemStore;
@@ -81,21 +112,17 @@ impl<'a> Places for MemPlaces<'a> {
         Ok(take(&mut self.kept, self.alloc, named.file))
     }
 
-    fn close(&mut self, _named: Named<'_>, file: MemStore, folder: MemSet, _status: u8) -> Option<String> {
+    fn close(&mut self, _named: Named<'_>, file: MemStore, folder: MemSet, _status: u8) -> Closed {
         self.opened.files = (file, folder);
-        None
+        Closed { note: None, is_absent: false }
     }
 
     fn input(&self, name: &str) -> Result<&'a [u8], AllocError> {
         content(self.inputs, name).ok_or(AllocError)
     }
 
-    fn save_new(&mut self, path: &str, bytes: &[u8]) -> (Result<(), StoreFault>, Option<String>) {
-        let named = Named { file: path, is_desk: false, access: Access::Creates };
-        let Ok((mut file, folder)) = self.open(named) else {
-            return (Err(StoreFault::Memory), None);
-        };
-        let saved = file.replace(bytes);
-        (saved, self.close(named, file, folder, 0))
+    fn save_new(&mut self, path: &str, bytes: &[u8]) -> SavedNew {
+        let answer = save_at(self, path, bytes);
+        SavedNew { answer, note: None }
     }
 }

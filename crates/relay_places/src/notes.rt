@@ -1,11 +1,12 @@
-//! What goes to the standard error beside the line of a refusal, since that line can't say it. Each note is one line.
+//! What goes to the standard error beside the line of a refusal, since that line can't say it. A note is a line, or two.
 //! Where there is no memory for it, nothing is said.
 
-use crate::locked::Reason;
 use crate::place::Place;
+use crate::reason::{IS_DESK, Reason};
 use crate::watched::NO_IMAGE;
-use dm_assembly_desk::{JointFile, MOST_JOINT_FILE_BYTES, MoveFault, held_at};
-use dm_store::{FileSet, FileStore, Folders, Store, StoreFault};
+use dm_append_label::FileId;
+use dm_assembly_desk::{JointFile, MOST_CAPACITY, MOST_JOINT_FILE_BYTES, MoveFault, held_at};
+use dm_store::{FileSet, FileStore, Folders, Store, StoreFault, draft_path};
 use std::alloc::{AllocError, Global};
 use std::io::{self, Read};
 use std::rt::Files;
@@ -15,7 +16,7 @@ const MOST_PIECES: usize = 65_536;
 
 // The line `relay: NAME: WHY`. What could end the line, or show it as another, is escaped in the name, as are
 // quotes and backslashes.
-fn line_of(alloc: Global, name: &str, why: &str) -> Result<String, AllocError> {
+pub(crate) fn line_of(alloc: Global, name: &str, why: &str) -> Result<String, AllocError> {
     let name = name.escape_debug();
     format!(in alloc; "relay: {name}: {why}\n")
 }
@@ -42,41 +43,57 @@ pub(crate) fn note_of_error(alloc: Global, path: &str, error: &io::Error) -> Opt
     line_of(alloc, path, why).ok()
 }
 
+/// That a new file was to come to the path of the desk itself.
+pub fn note_of_desk(alloc: Global, path: &str) -> Option<String> {
+    line_of(alloc, path, IS_DESK).ok()
+}
+
+/// Writes why the system refused a file to the standard error, at once.
+pub(crate) fn note_error(rt: &HostRuntime, path: &str, error: &io::Error) {
+    if let Some(line) = note_of_error(rt.alloc(), path, error) {
+        let _ = eprint!(rt; "{line}");
+    }
+}
+
 /// Why a command did not find or did not get its files.
 pub(crate) fn note_of_reason(alloc: Global, place: &Place, reason: Reason) -> Option<String> {
-    let (file, folder) = (place.named.as_str(), place.folder.as_str());
-    let lock = place.lock.as_str();
-    let (path, why) = match reason {
-        Reason::NoDesk => (file, "there is no desk"),
-        Reason::LostLink => (file, "a link that leads nowhere"),
-        Reason::LostFolder => (folder, "a link that leads nowhere"),
-        Reason::NoPlainFile => (file, "not a plain file"),
-        Reason::Refused => (file, "can't be looked at"),
-        Reason::OwnEnding => (
-            file,
-            "paths that end in .new, .lock or .pages, or lead into a .pages folder, are reserved",
-        ),
-        Reason::SecondName => (file, "has a second name"),
-        Reason::Busy => (file, "another program is at work there"),
-        Reason::NoLock => (lock, "can't be locked"),
-        Reason::LostLock => (lock, "was removed or replaced"),
-        Reason::NotLocked => (file, "nothing can be saved there"),
-        Reason::Taken => (file, "something is there already"),
-    };
+    let (path, why) = reason.at(place);
     line_of(alloc, path, why).ok()
 }
 
-// The fault of a file of a desk, if it has one: of the joint file, or of one in the folder, whose name is its key.
+/// That a draft of a new file was there before it was saved.
+pub(crate) fn note_of_draft(alloc: Global, place: &Place) -> Option<String> {
+    let draft = draft_path(place.file.as_str(), 1).ok()?;
+    let why = "was there before; a save that was stopped may have left it";
+    line_of(alloc, draft.as_str(), why).ok()
+}
+
+/// That a desk has more documents than this.
+pub(crate) fn note_of_many(alloc: Global, place: &Place, limit: usize) -> Option<String> {
+    let way = if limit < MOST_CAPACITY as usize {
+        "; --capacity makes room for more"
+    } else {
+        ""
+    };
+    let why = format!(in alloc; "it holds more than {limit} documents{way}").ok()?;
+    line_of(alloc, place.named.as_str(), why.as_str()).ok()
+}
+
+// The key whose file is at a path, unless it is that of the joint file.
+fn key_at(place: &Place, path: &str) -> Option<u16> {
+    if path == place.file.as_str() {
+        return None;
+    }
+    u16::from_str_radix(path.rsplit('/').next()?, 16).ok()
+}
+
+// The fault of a file of a desk, if it has one: of the one of a key, or of the joint file.
 fn fault_in<D: Folders>(
     disk: D,
     place: &Place,
-    path: &str,
+    key: Option<u16>,
 ) -> Result<Option<&'static str>, AllocError> {
-    if path != place.file.as_str() {
-        let digits = path.rsplit('/').next().unwrap_or(path);
-        let Ok(key) = u16::from_str_radix(digits, 16) else {
-            return Ok(None);
-        };
+    if let Some(key) = key {
         let mut set = FileSet::new(disk, place.folder.clone()?);
         return Ok(held_at(&mut set, key).err().map(|fault| fault.name()));
     }
@@ -89,15 +106,22 @@ fn fault_in<D: Folders>(
     }
 }
 
-/// The fault of the file that a desk's command has loaded last, if it has one: the command has ended there.
+/// The fault of the file that a desk's command has loaded last, if it has one: the command has ended there. The file of a
+/// document is told with its ID.
 pub(crate) fn note_of_file<D: Folders>(
     alloc: Global,
     disk: D,
     place: &Place,
     path: &str,
 ) -> Option<String> {
-    let name = fault_in(disk, place, path).ok()??;
-    line_of(alloc, path, name).ok()
+    let key = key_at(place, path);
+    let name = fault_in(disk, place, key).ok()??;
+    let Some(id) = key.and_then(FileId::of_number) else {
+        return line_of(alloc, path, name).ok();
+    };
+    let (first, second) = id.words();
+    let why = format!(in alloc; "{name}; its ID is {first:02x}{second:02x}").ok()?;
+    line_of(alloc, path, why.as_str()).ok()
 }
 
 // The first name in a folder that is not UTF-8, escaped, if it has one. Each name ends with a byte 0.

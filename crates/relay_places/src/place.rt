@@ -4,7 +4,7 @@ ghost use Rattle.std.specs.Prelude.{IfOk};
 ghost use Rattle.relay_places.specs.Places.{IsPlaced};
 
 use std::alloc::AllocError;
-use std::io::ErrorKind;
+use std::io::{self, ErrorKind};
 use std::rt::Files;
 
 /// What a command does to its files.
@@ -34,7 +34,7 @@ pub struct Named<'a> {
     pub access: Access,
 }
 
-/// Where the files that a command names are. At none of the paths is a link, but of one that leads nowhere.
+/// Where the files that a command names are. At none of the paths is a link, but of one that can't be followed.
 #[derive(Drop)]
 pub(crate) struct Place {
     /// The path that the command names.
@@ -44,27 +44,27 @@ pub(crate) struct Place {
     pub(crate) access: Access,
     /// The ledger, or the joint file of a desk.
     pub(crate) file: String,
-    /// Whether a link is there that leads nowhere.
-    pub(crate) is_file_lost: bool,
+    /// Why a link that is there can't be followed.
+    pub(crate) file_fault: Option<io::Error>,
     /// What a save writes first.
     pub(crate) draft: String,
     /// The folder of a desk's files.
     pub(crate) folder: String,
-    /// Whether a link is there that leads nowhere.
-    pub(crate) is_folder_lost: bool,
+    /// Why a link that is there can't be followed.
+    pub(crate) folder_fault: Option<io::Error>,
     /// The file that is locked.
     pub(crate) lock: String,
 }
 
-// Where the link at a path leads, if one is there, and whether it leads nowhere.
-fn follow(rt: &HostRuntime, path: String) -> Result<(String, bool), AllocError> {
+// Where the link at a path leads, if one is there, or why it can't be followed.
+fn follow(rt: &HostRuntime, path: String) -> Result<(String, Option<io::Error>), AllocError> {
     if !matches!(rt.symlink_metadata(path.as_str()), Ok(found) if found.is_symlink()) {
-        return Ok((path, false));
+        return Ok((path, None));
     }
     match rt.canonicalize(rt.alloc(), path.as_str()) {
-        Ok(own) => Ok((own.into_string(), false)),
+        Ok(own) => Ok((own.into_string(), None)),
         Err(error) if error.kind() == ErrorKind::OutOfMemory => Err(AllocError),
-        Err(_) => Ok((path, true)),
+        Err(error) => Ok((path, Some(error))),
     }
 }
 
@@ -77,10 +77,10 @@ impl Place {
         ensures { IfOk result IsPlaced }
     {
         let alloc = rt.alloc();
-        let (file, is_file_lost) = follow(rt, String::from_str(alloc, named.file)?)?;
+        let (file, file_fault) = follow(rt, String::from_str(alloc, named.file)?)?;
         let beside = file.as_str();
         let draft = format!(in alloc; "{beside}.new")?;
-        let (folder, is_folder_lost) = follow(rt, format!(in alloc; "{beside}.pages")?)?;
+        let (folder, folder_fault) = follow(rt, format!(in alloc; "{beside}.pages")?)?;
         let locked = if named.is_desk { &folder } else { &file };
         let locked = locked.as_str();
         let lock = format!(in alloc; "{locked}.lock")?;
@@ -89,10 +89,10 @@ impl Place {
             is_desk: named.is_desk,
             access: named.access,
             file,
-            is_file_lost,
+            file_fault,
             draft,
             folder,
-            is_folder_lost,
+            folder_fault,
             lock,
         })
     }

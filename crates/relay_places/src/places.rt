@@ -9,6 +9,23 @@ use dm_store::{Store, StoreFault, StoreSet};
 use relay_shared::NamedFile;
 use std::alloc::AllocError;
 
+/// What was found out of the files of a command, once they are taken back.
+#[derive(Drop)]
+pub struct Closed {
+    /// What is to be said of them on the standard error.
+    pub note: Option<String>,
+    /// Whether nothing was there of a desk that was to be read.
+    pub is_absent: bool,
+}
+
+/// What came of saving a new file.
+#[derive(Drop)]
+pub struct SavedNew {
+    pub answer: Result<(), StoreFault>,
+    /// What is to be said of it on the standard error.
+    pub note: Option<String>,
+}
+
 /// What is at the paths of a system: at each a ledger or a desk; and files to be read.
 pub trait Places: Drop {
     /// A ledger, or the joint file of a desk.
@@ -41,10 +58,9 @@ pub trait Places: Drop {
         ensures is_open { OnOk result (is_open self.new named.entry.file.now) }
         ensures refused { OnErr result (state self.new ≡ state self.old) };
 
-    /// Takes them back after a command of this status, ends their lock, and gives what is to be said of them on the
-    /// standard error.
+    /// Takes them back after a command of this status, and ends their lock.
     #[rattlefmt::skip] // a signature a line
-    fn close(&mut self, named: Named<'_>, file: Self::File, folder: Self::Folder, status: u8) -> Option<String>
+    fn close(&mut self, named: Named<'_>, file: Self::File, folder: Self::Folder, status: u8) -> Closed
         requires { is_open self.old named.file.now }
         ensures there { state self.new named.entry.file.now
             ≡ files_of (Self.File.state file) (Self.Folder.state folder) }
@@ -58,7 +74,7 @@ pub trait Places: Drop {
         ensures { IfOk result (λ given. Self.Input.known given ≡ known self.now name.now) };
 
     /// Saves the bytes as a new file, as stores are saved: whenever the machine stops, the whole file is there or none.
-    /// If it is not saved, it may give what is to be said of it on the standard error.
-    fn save_new(&mut self, path: &str, bytes: &[u8]) -> (Result<(), StoreFault>, Option<String>)
-        ensures { SavesNew path.now bytes.now (state self.old) result.0 (state self.new) };
+    /// Nothing is replaced: a path that has a file, or is that of a desk, is refused.
+    fn save_new(&mut self, path: &str, bytes: &[u8]) -> SavedNew
+        ensures { SavesNew path.now bytes.now (state self.old) result.answer (state self.new) };
 }

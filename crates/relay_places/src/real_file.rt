@@ -2,12 +2,12 @@
 
 ghost use Rattle.std.specs.Prelude.{None, true};
 
-use crate::notes::note;
+use crate::notes::{note, note_error};
 use crate::watched::{NO_IMAGE, Watched};
 use relay_shared::NamedFile;
 use relay_streams::InputFault;
 use std::fs::File;
-use std::io::{BufReader, Read};
+use std::io::{BufReader, ErrorKind, Read};
 use std::{fs, io};
 
 /// A file by its name, or the standard input if that is `-`.
@@ -42,18 +42,25 @@ impl NamedFile for RealFile<'_> {
         let source = if self.name.as_str() == "-" {
             Source::Input(self.rt.reader())
         } else {
-            let Ok(file) = fs::open(self.rt, self.name.as_str()) else {
-                note(self.rt, self.name.as_str(), "can't be opened");
-                return Err(InputFault::Read);
-            };
-            Source::File(file)
+            match fs::open(self.rt, self.name.as_str()) {
+                Ok(file) => Source::File(file),
+                Err(error) if error.kind() == ErrorKind::OutOfMemory => {
+                    return Err(InputFault::Memory);
+                }
+                Err(error) => {
+                    note_error(self.rt, self.name.as_str(), &error);
+                    return Err(InputFault::Read);
+                }
+            }
         };
         let reader = BufReader::new(self.rt.alloc(), source).map_err(|_| InputFault::Memory)?;
         Ok(Watched::new(reader))
     }
 
     fn end(&self, reader: Self::Reader, refused: Option<&str>) {
-        if let Some(why) = refused {
+        if let Some(error) = &reader.error {
+            note_error(self.rt, self.name.as_str(), error);
+        } else if let Some(why) = refused {
             note(self.rt, self.name.as_str(), why);
         } else if reader.is_empty() {
             note(self.rt, self.name.as_str(), NO_IMAGE);

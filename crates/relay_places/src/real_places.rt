@@ -3,14 +3,15 @@
 ghost use Rattle.std.specs.Prelude.{None, true};
 ghost use Rattle.relay_places.specs.Places.{unclaimed_places};
 
-use crate::locked::{CommandFiles, Locked, Reason};
+use crate::locked::{CommandFiles, Locked};
 use crate::notes::{note_of_file, note_of_folder, note_of_reason};
 use crate::place::{Access, Named, Place};
-use crate::places::Places;
+use crate::places::{Closed, Places, SavedNew};
 use crate::real_file::RealFile;
+use crate::reason::Reason;
 use crate::saved_output::save_new;
 use crate::system_disk::SystemDisk;
-use dm_store::{FileSet, FileStore, StoreFault};
+use dm_store::{FileSet, FileStore};
 use std::alloc::AllocError;
 use std::fs::File;
 use std::rc::Rc;
@@ -86,15 +87,19 @@ fn folder_at<'a>(
     Ok(FileSet::new(Locked::new(rt, command_files.clone()?, disk), path))
 }
 
-// Ends the lock of files that are let go, and gives what is to be said of them.
-fn close_gate(rt: &HostRuntime, command_files: CommandFiles<'_>, status: u8) -> Option<String> {
-    let note = if status != 0 || command_files.reason.get().is_some() {
+// Ends the lock of files that are let go, and gives what is found out of them.
+fn close_gate(rt: &HostRuntime, command_files: CommandFiles<'_>, status: u8) -> Closed {
+    let reason = command_files.reason.get();
+    let note = if status != 0 || reason.is_some() {
         note_of(rt, &command_files)
     } else {
         None
     };
     command_files.close();
-    note
+    Closed {
+        note,
+        is_absent: matches!(reason, Some(Reason::NoDesk)),
+    }
 }
 
 impl<'a> Places for RealPlaces<'a> {
@@ -121,13 +126,13 @@ impl<'a> Places for RealPlaces<'a> {
     }
 
     #[rattlefmt::skip] // a signature a line
-    fn close(&mut self, _named: Named<'_>, file: Self::File, folder: Self::Folder, status: u8) -> Option<String> {
+    fn close(&mut self, _named: Named<'_>, file: Self::File, folder: Self::Folder, status: u8) -> Closed {
         // While these live they share the command's files.
         drop(file);
         drop(folder);
-        match Rc::try_unwrap(self.command_files.take()?) {
-            Ok(command_files) => close_gate(self.rt, command_files, status),
-            Err(_) => None,
+        match self.command_files.take().map(Rc::try_unwrap) {
+            Some(Ok(command_files)) => close_gate(self.rt, command_files, status),
+            _ => Closed { note: None, is_absent: false },
         }
     }
 
@@ -136,7 +141,7 @@ impl<'a> Places for RealPlaces<'a> {
         Ok(RealFile { rt, name })
     }
 
-    fn save_new(&mut self, path: &str, bytes: &[u8]) -> (Result<(), StoreFault>, Option<String>) {
+    fn save_new(&mut self, path: &str, bytes: &[u8]) -> SavedNew {
         save_new(self.rt, path, bytes)
     }
 }

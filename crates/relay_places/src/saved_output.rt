@@ -1,60 +1,59 @@
 //! A new file that the output of a command is saved as.
 
-use crate::locked::{Reason, has_own_ending};
-use crate::notes::{note_of_error, note_of_reason};
+use crate::new_place::obstacle_to_output;
+use crate::notes::{note_of_draft, note_of_error, note_of_reason};
 use crate::place::{Access, Named, Place};
+use crate::places::SavedNew;
+use crate::reason::Reason;
 use crate::system_disk::{KeepsError, SystemDisk};
 use dm_store::{FileStore, Store, StoreFault};
-use std::alloc::AllocError;
-use std::rt::Files;
+use std::io::{self, ErrorKind};
 
-// Why no new file can be at a place, if none can.
-fn why_not_new(rt: &HostRuntime, place: &Place) -> Option<Reason> {
-    if place.is_file_lost {
-        Some(Reason::LostLink)
-    } else if rt.symlink_metadata(place.file.as_str()).is_ok() {
-        Some(Reason::Taken)
-    } else if has_own_ending(place) {
-        Some(Reason::OwnEnding)
-    } else {
-        None
+// A save that memory was refused for.
+const NO_MEMORY: SavedNew = SavedNew {
+    answer: Err(StoreFault::Memory),
+    note: None,
+};
+
+// What is to be said of a save that was refused at a place.
+fn note_of_refusal(rt: &HostRuntime, place: &Place, error: &io::Error) -> Option<String> {
+    match error.kind() {
+        ErrorKind::AlreadyExists => note_of_reason(rt.alloc(), place, Reason::Taken),
+        _ => note_of_error(rt.alloc(), place.file.as_str(), error),
     }
 }
 
-// Saves the bytes as the file of a place, where none was, and gives what is to be said where it is not saved.
-fn save_at(
-    rt: &HostRuntime,
-    place: &Place,
-    bytes: &[u8],
-) -> (Result<(), StoreFault>, Option<String>) {
-    let alloc = rt.alloc();
+// Saves the bytes as the file of a place, where none was.
+fn save_at(rt: &HostRuntime, place: &Place, bytes: &[u8]) -> SavedNew {
     let Ok(path) = place.file.clone() else {
-        return (Err(StoreFault::Memory), None);
+        return NO_MEMORY;
     };
     let mut store = FileStore::new(SystemDisk::of_new_files(rt), path);
-    let saved = store.replace(bytes);
-    let error = store.into_disk().last_error();
-    let note = error.and_then(|error| note_of_error(alloc, place.file.as_str(), &error));
-    (saved, note)
+    let answer = store.replace(bytes);
+    let disk = store.into_disk();
+    let note = match &disk.last_error() {
+        _ if answer.is_ok() && disk.other_drafts() > 0 => note_of_draft(rt.alloc(), place),
+        Some(error) if answer.is_err() => note_of_refusal(rt, place, error),
+        _ => None,
+    };
+    SavedNew { answer, note }
 }
 
-/// Saves the bytes as a new file, as stores are saved, and gives what is to be said where it is not saved.
-pub(crate) fn save_new(
-    rt: &HostRuntime,
-    name: &str,
-    bytes: &[u8],
-) -> (Result<(), StoreFault>, Option<String>) {
+/// Saves the bytes as a new file, as stores are saved.
+pub(crate) fn save_new(rt: &HostRuntime, name: &str, bytes: &[u8]) -> SavedNew {
     let named = Named {
         file: name,
         is_desk: false,
         access: Access::Creates,
     };
     let Ok(place) = Place::of(rt, named) else {
-        return (Err(StoreFault::Memory), None);
+        return NO_MEMORY;
     };
-    if let Some(reason) = why_not_new(rt, &place) {
-        let note = note_of_reason(rt.alloc(), &place, reason);
-        return (Err(StoreFault::Device), note);
+    if let Some(obstacle) = obstacle_to_output(rt, &place) {
+        return SavedNew {
+            answer: Err(StoreFault::Device),
+            note: obstacle.note,
+        };
     }
     save_at(rt, &place, bytes)
 }

@@ -16,7 +16,7 @@ impl<'a> SystemDisk<'a> {
         SystemDisk(RealDisk::new(rt.alloc(), rt))
     }
 
-    /// The same files, of which none takes the place of another.
+    /// The same files, of which none takes the place of another, and none is removed that was not made here.
     pub(crate) fn of_new_files(rt: &'a HostRuntime) -> SystemDisk<'a> {
         SystemDisk(RealDisk::of_new_files(rt.alloc(), rt))
     }
@@ -26,11 +26,18 @@ impl<'a> SystemDisk<'a> {
 pub(crate) trait KeepsError {
     /// Why the system refused a call last, if it has refused one.
     fn last_error(&self) -> Option<io::Error>;
+
+    /// How many drafts of the new file that was saved last were there already.
+    fn other_drafts(&self) -> u8;
 }
 
 impl KeepsError for SystemDisk<'_> {
     fn last_error(&self) -> Option<io::Error> {
         self.0.last_error()
+    }
+
+    fn other_drafts(&self) -> u8 {
+        self.0.other_drafts()
     }
 }
 

@@ -7,12 +7,13 @@ use std::io::{self, Read};
 /// What is said of an input in which no image was.
 pub(crate) const NO_IMAGE: &str = "no image was read";
 
-/// A reader that remembers whether it was asked for bytes, and whether it has given any.
+/// A reader that remembers whether it was asked for bytes, whether it has given any, and why it has failed.
 #[derive(Drop)]
 pub struct Watched<R: Drop> {
     pub reader: R,
     pub was_asked: bool,
     pub has_given: bool,
+    pub error: Option<io::Error>,
 }
 
 impl<R: Read + Drop> Watched<R> {
@@ -24,6 +25,7 @@ impl<R: Read + Drop> Watched<R> {
             reader,
             was_asked: false,
             has_given: false,
+            error: None,
         }
     }
 
@@ -44,9 +46,15 @@ impl<R: Read + Drop> Read for Watched<R> {
     ghost remaining = { λ watched. R.remaining watched.reader };
 
     fn read(&mut self, buf: &mut [u8]) -> io::Result<usize> {
-        let count = self.reader.read(buf)?;
-        self.was_asked = true;
-        self.has_given |= count > 0;
-        Ok(count)
+        let read = self.reader.read(buf);
+        match &read {
+            Ok(count) => {
+                self.was_asked = true;
+                self.has_given |= *count > 0;
+                self.error = None;
+            }
+            Err(error) => self.error = Some(*error),
+        }
+        read
     }
 }
