@@ -1,12 +1,15 @@
 -- What a command does to the store and the set at the path that it names, and to its streams, and with which exit
 -- status: a line for each command. What a command does not need, it leaves as it was.
-use Rattle.std.specs.Prelude.{◌≡◌, ◌==◌, ℕ, List, [], ◌∷◌, ◌++◌, Option, Bool, true, false, codes, max, string_bytes, ◌≢◌, ◌⊎◌, map, unwrap_or, IsSome, None, Some, Result, Ok, Err}
-use Rattle.std.specs.{Borrow.Bor, List.before_first, Str.Lines.lines, Option.option_copied, Io.KnownBytes.Appends, Io.KnownBytes.Keeps}
+use Rattle.std.specs.Prelude.{◌≡◌, ◌==◌, ◌<◌, ◌-◌, ℕ, List, [], ◌∷◌, ◌++◌, Option, Bool, true, false, codes, if◌then◌else◌, length, max, string_bytes, ◌≢◌, ◌⊎◌, map, unwrap_or, IsSome, None, Some, Result, Ok, Err}
+use Rattle.std.specs.{Borrow.Bor, Fmt.decimal, Option.option_copied, Io.KnownBytes.Appends, Io.KnownBytes.Keeps}
+use Rattle.std.specs.FinMap as finite
 use Rattle.relay_command.specs.declared.command.Command.{Command}
-use Rattle.relay_command.specs.declared.command.Command.TheVariants.{Words, Draw, Read, Plan, Ticket, Ledger, Print, Give, GiveLast, Take, Left, Audit, Scan, Deliver, Forget, Export, ExportAll, Import, Held, Copy, World}
+use Rattle.relay_command.specs.declared.command.Command.TheVariants.{Words, Draw, Read, Plan, Ticket, Ledger, Print, Give, GiveLast, Take, Left, Audit, Scan, Deliver, DeliverAll, Forget, Export, ExportAll, Import, Held, Copy, World}
 use Rattle.relay_streams.specs.{Streams.TakesPart, Streams.AppendsPart, Streams.OutputView, Streams.write_fault_name, declared.fault.WriteFault.TheVariants.Write}
-use Rattle.relay_shared.specs.{Command.FileView, Command.StreamsView, Command.TellsRefusal, declared.command.TheConstants.DOCUMENT_BYTES}
-use Rattle.relay_desk_commands.specs.{declared.import.TheConstants.IMPORT_BYTES, Desks.OnDesk, Desks.EndsDeliver, Desks.EndsExport, Desks.EndsForget, Desks.EndsImport, Desks.EndsScan, Desks.EndsCopy, Desks.EndsHeld, Desks.DeskFiles}
+use Rattle.relay_shared.specs.{Command.FileView, Command.StreamsView, Command.TellsRefusal, Lines.id_text, declared.command.TheConstants.DOCUMENT_BYTES}
+use Rattle.dm_assembly_desk.specs.{Documents.DeskView, Documents.Documents, declared.limits.TheConstants.MOST_CAPACITY}
+use Rattle.relay_desk_commands.specs.{declared.import.TheConstants.IMPORT_BYTES, Desks.OnDesk, Desks.EndsDeliver, Desks.EndsExport, Desks.EndsForget, Desks.EndsImport, Desks.EndsOpening, Desks.EndsScan, Desks.EndsCopy, Desks.EndsHeld, Desks.DeskFiles, Desks.OpensDesk, Desks.ids_given}
+use Rattle.relay_desk_commands.specs.declared.documents.Given.{Given, TheVariants.Document, TheVariants.File}
 use Rattle.relay_printer_commands.specs.{declared.audit.TheConstants.TICKETS_BYTES, Printers.EndsLeft, Printers.OnLedger, Printers.EndsLedger, Printers.EndsAudit, Printers.EndsGive, Printers.EndsGiveLast, Printers.EndsTake, Printers.ledger_at, Printers.EndsPlan, Printers.EndsPrint, Printers.EndsTicket}
 use Rattle.relay_world_command.specs.{declared.world.TheConstants.INPUT_BYTES, World.EndsWorld}
 use Rattle.relay_symbol_commands.specs.Symbols.{EndsWords, EndsDraw, EndsRead}
@@ -32,7 +35,7 @@ OnFile Ends old status new = Ends (ledger_at old.files.joint old.streams) status
     × (new.files.set ≡ old.files.set)
 
 -- What a command does over the store at the path that it names and the set beside it, and, of `scan`, `read`, `audit`
--- and `import`, over the files to be read; `A` is what it allocates in.
+-- and `import`, over the files to be read; `A` is what it allocates in. For all documents it only opens the desk.
 abbrev pub Does : Type 0 → Command → List FileView → OnDesk → ℕ → OnDesk → Type 0
 Does A (Words side scheme) inputs old status new =
     OnStreams (EndsWords (record { side = side; scheme = scheme })) old status new
@@ -58,9 +61,10 @@ Does A (Left file) inputs old status new = OnFile EndsLeft old status new
 Does A Audit inputs old status new = OnStreams (EndsAudit inputs) old status new × ReadsPart TICKETS_BYTES old.streams new.streams
 Does A (Scan file capacity) inputs old status new = EndsScan capacity inputs old status new
 Does A (Deliver file id) inputs old status new = EndsDeliver id.now old status new
+Does A (DeliverAll file folder) inputs old status new = EndsOpening old status new
 Does A (Forget file id) inputs old status new = EndsForget id.now old status new
 Does A (Export file id) inputs old status new = EndsExport id.now old status new
-Does A (ExportAll file folder) inputs old status new = EndsHeld None old status new
+Does A (ExportAll file folder) inputs old status new = EndsOpening old status new
 Does A (Import file capacity) inputs old status new =
     EndsImport capacity inputs old status new × ReadsPart IMPORT_BYTES old.streams new.streams
 Does A (Held file id) inputs old status new = EndsHeld (option_copied id) old status new
@@ -77,6 +81,7 @@ named_path (Take file number ticket) = Some file.now
 named_path (Left file) = Some file.now
 named_path (Scan file capacity) = Some file.now
 named_path (Deliver file id) = Some file.now
+named_path (DeliverAll file folder) = Some file.now
 named_path (Forget file id) = Some file.now
 named_path (Export file id) = Some file.now
 named_path (ExportAll file folder) = Some file.now
@@ -94,6 +99,7 @@ abbrev pub refuses_on_errors : Command → Bool
 refuses_on_errors (Draw side scheme plain) = true
 refuses_on_errors (Print file number labels scheme) = true
 refuses_on_errors (Copy file id page side scheme) = true
+refuses_on_errors (DeliverAll file folder) = true
 refuses_on_errors (ExportAll file folder) = true
 refuses_on_errors other = saves_output other
 
@@ -136,6 +142,10 @@ ShowsOnErrors text old new = (new.input ≡ old.input) × (new.output ≡ old.ou
 -- the first bytes of a note go there, or nothing happens
 abbrev pub Notes : StandardView → StandardView → Type 0
 Notes old new = (new ≡ old) ⊎ ((note : List ℕ) × ShowsOnErrors note old new)
+
+-- the line of a refusal goes there, and then perhaps a note
+abbrev pub RefusesNoted : List ℕ → StandardView → ℕ → StandardView → Type 0
+RefusesNoted name old status new = (told : StandardView) × PutsRefusal true name old status told × Notes told new
 
 -- What a command wrote is out, and its status is the program's. Or the output refused a write, and the first bytes of
 -- what the command wrote are out: then a refusal goes to the standard error and the status is 1; or the command's own
@@ -189,11 +199,11 @@ abbrev pub save_fault_name : StoreFault → List ℕ
 save_fault_name faults.Device = codes "Save"
 save_fault_name faults.Memory = codes "Memory"
 
--- The output of a command was saved; or it was not, and the line of a refusal goes to the standard error.
+-- The output of a command was saved; or it was not, and the line of a refusal goes to the standard error. A note may
+-- follow.
 abbrev pub TellsSave : Result (Unit {0}) StoreFault → StandardView → ℕ → StandardView → Type 0
-TellsSave (Ok _) old status new = (new ≡ old) × (status ≡ 0)
-TellsSave (Err fault) old status new =
-    (told : StandardView) × PutsRefusal true (save_fault_name fault) old status told × Notes told new
+TellsSave (Ok _) old status new = Notes old new × (status ≡ 0)
+TellsSave (Err fault) old status new = RefusesNoted (save_fault_name fault) old status new
 
 pub record SavesOutput (path bytes : List ℕ) (old : SystemView) (status : ℕ) (new : SystemView) : Type 0 where
   pub answer : Result (Unit {0}) StoreFault
@@ -214,36 +224,74 @@ pub record DoesAndSaves (A : Type 0) (command : Command) (path : List ℕ) (old 
   pub output : done.standard.output ≡ old.standard.output
   pub saves : ((ended ≢ 0) × (status ≡ ended) × (new ≡ done)) ⊎ ((ended ≡ 0) × SavesOutput path bytes done status new)
 
--- the IDs with which the lines of `held` begin
-unfoldable pub ids_in : List ℕ → List (List ℕ)
-ids_in text = map (λ line. before_first (λ byte. byte == 32) line) (lines text)
+-- ---- all documents of a desk
 
--- The documents with these IDs are exported in turn, to files of those names in a folder, or memory is refused for one.
-pub data ExportsEach (A : Type 0) (file folder : List ℕ) : List (List ℕ) → SystemView → ℕ → SystemView → Type 0 where
-  no_id : {now : SystemView} → ExportsEach A file folder [] now 0 now
+-- the command that gives this of all documents, each as a file of its own in a folder; and the one that gives it of one
+abbrev pub all_command : Given → Bor (List ℕ) → Bor (List ℕ) → Command
+all_command Document file folder = DeliverAll file folder
+all_command File file folder = ExportAll file folder
+
+abbrev pub one_command : Given → Bor (List ℕ) → Bor (List ℕ) → Command
+one_command Document file id = Deliver file id
+one_command File file id = Export file id
+
+-- The documents with these IDs are given in turn, each by a command of its own whose output is saved as the file of that
+-- name in a folder.
+pub data GivesEach (A : Type 0) (what : Given) (file folder : List ℕ) : List (List ℕ) → SystemView → ℕ → SystemView → Type 0 where
+  no_id : {now : SystemView} → GivesEach A what file folder [] now 0 now
   next_id : {later : List (List ℕ)} {old now new : SystemView} {one others : ℕ} (from id : Bor (List ℕ)) → from.now ≡ file →
-      DoesAndSaves A (Export from id) (folder ++ 47 ∷ id.now) old one now ⊎ ((now.places ≡ old.places)
-      × PutsRefusal true (codes "Memory") old.standard one now.standard) → ExportsEach A file folder later now others new →
-      ExportsEach A file folder (id.now ∷ later) old (max one others) new
+      DoesAndSaves A (one_command what from id) (folder ++ 47 ∷ id.now) old one now →
+      GivesEach A what file folder later now others new → GivesEach A what file folder (id.now ∷ later) old (max one others) new
+
+-- how many documents are incomplete
+abbrev pub incomplete_note : ℕ → List ℕ
+incomplete_note count = codes "relay: " ++ (decimal count ++ (32 ∷
+    ((if count == 1 then codes "document is incomplete" else codes "documents are incomplete") ++ 10 ∷ [])))
+
+-- that goes to the standard error if there are any, unless memory is refused for it
+abbrev pub NotesIncomplete : ℕ → StandardView → StandardView → Type 0
+NotesIncomplete count old new = (new ≡ old) ⊎ ((0 < count) × ShowsOnErrors (incomplete_note count) old new)
+
+-- What a desk that holds these documents gives of all of them, as files in a folder: of each in turn, and then it is noted
+-- of how many nothing is given. Or it holds none, and is refused, since nothing is there.
+pub data GivesHeld (A : Type 0) (what : Given) (file folder : List ℕ) (held : Documents) (old : SystemView) (status : ℕ)
+    (new : SystemView) : Type 0 where
+  gives_each : (done : SystemView) → GivesEach A what file folder (map id_text (ids_given what held)) old status done →
+      NotesIncomplete (finite.len held - length (ids_given what held)) done.standard new.standard → new.places ≡ done.places →
+      GivesHeld A what file folder held old status new
+  has_none : finite.len held ≡ 0 → RefusesNoted (codes "Absent") old.standard status new.standard → new.places ≡ old.places →
+      GivesHeld A what file folder held old status new
+
+-- the desk was opened between these files
+abbrev pub OpensBetween : DeskView → DeskFiles → DeskFiles → Type 0
+OpensBetween desk before after = OpensDesk before MOST_CAPACITY after.joint desk × (after.set ≡ desk.saved)
+
+-- What a command for all documents does: it opens the desk, and gives what that holds; or it is refused.
+pub data DoesAll (A : Type 0) (what : Given) (file folder : Bor (List ℕ)) (old : SystemView) (status : ℕ) (new : SystemView)
+    : Type 0 where
+  opens_desk : (seen : SystemView) (desk : DeskView) (at : DoesAt A (all_command what file folder) [] old 0 seen) →
+      OpensBetween desk at.before at.after → GivesHeld A what file.now folder.now desk.held seen status new →
+      DoesAll A what file folder old status new
+  opens_none : status ≢ 0 → DoesAt A (all_command what file folder) [] old status new →
+      DoesAll A what file folder old status new
+
+-- ---- what a line names
 
 -- a line that names a path, or files to be read
 abbrev pub NamesFiles : CommandLine → Type 0
 NamesFiles line = IsSome (named_path line.command) ⊎ (named_images line ≢ [])
 
 -- What a line does: its command, with the files that it names to be read and, if it names one, the file for its output;
--- or the exports of all documents that `held` lists, if that ends with 0; or nothing, since memory is refused.
+-- or what is given of all documents of a desk; or nothing, since memory is refused.
 pub data DoesFor (A : Type 0) (inputs : List ℕ → FileView) (line : CommandLine) (old : SystemView) (status : ℕ)
     (new : SystemView) : Type 0 where
-  does_here : saved_path line ≡ None → ((file folder : Bor (List ℕ)) → line.command ≢ ExportAll file folder) →
+  does_here : saved_path line ≡ None →
+      ((what : Given) (file folder : Bor (List ℕ)) → line.command ≢ all_command what file folder) →
       DoesAt A line.command (map inputs (named_images line)) old status new → DoesFor A inputs line old status new
   does_and_saves : (path : List ℕ) → saved_path line ≡ Some path → DoesAndSaves A line.command path old status new →
       DoesFor A inputs line old status new
-  exports_all : (file folder : Bor (List ℕ)) (ended : ℕ) (text : List ℕ) (seen : SystemView) →
-      line.command ≡ ExportAll file folder → seen.standard.output ≡ old.standard.output →
-      DoesAt A line.command [] (with_output old (Some [])) ended (with_output seen (Some text)) →
-      ((new.places ≡ seen.places) × (((ended ≢ 0) × (status ≡ ended) × ShowsOnErrors text seen.standard new.standard)
-      ⊎ PutsRefusal true (codes "Memory") seen.standard status new.standard))
-      ⊎ ((ended ≡ 0) × ExportsEach A file.now folder.now (ids_in text) seen status new) → DoesFor A inputs line old status new
+  does_all : (what : Given) (file folder : Bor (List ℕ)) → line.command ≡ all_command what file folder →
+      DoesAll A what file folder old status new → DoesFor A inputs line old status new
   lacks_memory : NamesFiles line → new.places ≡ old.places → PutsRefusal (refuses_on_errors line.command) (codes "Memory")
       old.standard status new.standard → DoesFor A inputs line old status new
 

@@ -19,6 +19,7 @@
 //! call of the printer or of the desk says. `world` plays printers and desks in memory, and carries the headline.
 #![tactic(auto)]
 
+mod all;
 mod closed_streams;
 mod commands;
 mod line;

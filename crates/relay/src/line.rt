@@ -1,19 +1,20 @@
 //! What the words of a line say, done on a system.
 
-ghost use Rattle.std.specs.Prelude.{◌≡◌, ◌≢◌, ◌⊎◌, ◌==◌, ◌++◌, [], ◌∷◌, true, IfOk, IfSome, IsSome, OnErr, Some, codes, map};
-ghost use Rattle.std.specs.{Prelude.option_map, Prelude.slice_get, List.before_first};
-ghost use Rattle.relay.specs.Program.{DoesAndSaves, DoesAt, DoesFor, ExportsEach, Helps, NamesFiles, Notes, OrNothing};
-ghost use Rattle.relay.specs.Program.{Runs, SavesOutput, ShowsOnErrors, Informs, PutsRefusal, ids_in, named_path};
+ghost use Rattle.std.specs.Prelude.{◌≡◌, ◌≢◌, [], true, IfOk, IsSome, MatchOption, OnErr, Some};
+ghost use Rattle.std.specs.Prelude.{codes, map, option_map, slice_get, string_bytes};
+ghost use Rattle.relay_places.specs.Places.{KeepsOthers};
+ghost use Rattle.relay.specs.Program.{DoesAndSaves, DoesAt, DoesFor, Helps, NamesFiles, Notes, OrNothing, RefusesNoted};
+ghost use Rattle.relay.specs.Program.{Runs, SavesOutput, ShowsOnErrors, Informs, PutsRefusal, named_path};
 ghost use Rattle.relay.specs.Program.{refuses_on_errors, save_fault_name, system_at, with_output};
 
-use crate::named::{named_by, refuses_on_errors};
+use crate::named::{for_all, named_by, refuses_on_errors};
 use crate::standard::{Done, StandardStreams, do_between, show, tell};
 use crate::system::System;
 use dm_store::{MemSet, MemStore, StoreFault};
 use relay_command::Command;
 use relay_line::{CommandLine, LineFault, command_line};
-use relay_places::{Places, note_of_input};
-use relay_shared::{NamedFile, greater};
+use relay_places::{Places, SavedNew, note_of_input};
+use relay_shared::NamedFile;
 use std::alloc::{AllocError, Global};
 use std::convert::AsStr;
 use std::io::{Read, Write};
@@ -45,29 +46,9 @@ fn inputs_of<P: Places>(
     Ok(files)
 }
 
-// The first word of a line.
-fn first_word(line: &str) -> &str
-    ensures { result.now ≡ before_first (λ byte. byte == 32) line.now }
-{
-    match line.split_once(' ') {
-        Some((word, _)) => word,
-        None => line,
-    }
-}
-
-// The IDs with which the lines of `held` begin, if there is memory for them.
-fn ids_in(alloc: Global, text: &[u8]) -> Option<Vec<&str>>
-    ensures { IfSome result (λ ids. map (λ id. id.now) ids.items ≡ ids_in text.now) }
-{
-    let Ok(text) = str::from_utf8(text) else {
-        return None;
-    };
-    text.lines().map(first_word).collect(alloc).ok()
-}
-
 impl<I: Read + Drop, O: Write + Drop, E: Write + Drop> StandardStreams<I, O, E> {
-    // Puts a text on the standard error.
-    fn show_on_errors(self, alloc: Global, text: &[u8]) -> Self
+    /// Puts a text on the standard error.
+    pub(crate) fn show_on_errors(self, alloc: Global, text: &[u8]) -> Self
         ensures { ShowsOnErrors text.now self result }
     {
         let StandardStreams(input, output, errors) = self;
@@ -75,9 +56,10 @@ impl<I: Read + Drop, O: Write + Drop, E: Write + Drop> StandardStreams<I, O, E> 
         StandardStreams(input, output, errors)
     }
 
-    // Puts a note, if there is one, on the standard error.
-    fn noted(self, alloc: Global, note: Option<String>) -> Self
-        ensures { Notes self result }
+    /// Puts a note, if there is one, on the standard error.
+    pub(crate) fn noted(self, alloc: Global, note: Option<String>) -> Self
+        ensures notes { Notes self result }
+        ensures text { MatchOption note (result ≡ self) (λ text. ShowsOnErrors (string_bytes text) self result) }
     {
         match note {
             Some(text) => self.show_on_errors(alloc, text.as_bytes()),
@@ -92,6 +74,15 @@ impl<I: Read + Drop, O: Write + Drop, E: Write + Drop> StandardStreams<I, O, E> 
         let StandardStreams(input, output, errors) = self;
         let (status, errors) = tell(alloc, errors, name);
         (status, StandardStreams(input, output, errors))
+    }
+
+    /// The same, with a note after it, if there is one.
+    pub(crate) fn refuse_noted(self, alloc: Global, name: &str, note: Option<String>) -> (u8, Self)
+        ensures told { RefusesNoted name.now self result.0 result.1 }
+        ensures status { result.0 ≡ 1 }
+    {
+        let (status, standard) = self.refuse_on_errors(alloc, name);
+        (status, standard.noted(alloc, note))
     }
 
     // Shows the help that a line asks for, and gives the exit status.
@@ -142,8 +133,8 @@ impl<I: Read + Drop, O: Write + Drop, E: Write + Drop, P: Places> System<I, O, E
         };
         let done = do_between(alloc, file, folder, inputs, standard, command);
         let Done { status, store, set, standard, has_no_image } = done;
-        let note = places.close(named, store, set, status);
-        let note = note.or(note_of_input(alloc, has_no_image));
+        let closed = places.close(named, store, set, status);
+        let note = closed.note.or(note_of_input(alloc, has_no_image));
         let standard = standard.noted(alloc, note);
         (Ok(status), System { standard, places })
     }
@@ -165,20 +156,20 @@ impl<I: Read + Drop, O: Write + Drop, E: Write + Drop, P: Places> System<I, O, E
         (status, System { standard, places })
     }
 
-    // Saves what a command has written as a new file, and gives the exit status.
-    fn save_output(self, alloc: Global, path: &str, bytes: &[u8]) -> (u8, Self)
-        ensures { SavesOutput path.now bytes.now
+    /// Saves what a command has written as a new file, and gives the exit status.
+    pub(crate) fn save_output(self, alloc: Global, path: &str, bytes: &[u8]) -> (u8, Self)
+        ensures saves { SavesOutput path.now bytes.now
             (system_at self.standard (P.state self.places)) result.0
             (system_at result.1.standard (P.state result.1.places)) }
+        ensures others { KeepsOthers path.now (P.state self.places) (P.state result.1.places) }
     {
         let System { standard, mut places } = self;
-        let (answer, note) = places.save_new(path, bytes);
+        let SavedNew { answer, note } = places.save_new(path, bytes);
         let Err(fault) = answer else {
+            let standard = standard.noted(alloc, note);
             return (0, System { standard, places });
         };
-        let name = save_fault_name(fault);
-        let (status, standard) = standard.refuse_on_errors(alloc, name);
-        let standard = standard.noted(alloc, note);
+        let (status, standard) = standard.refuse_noted(alloc, save_fault_name(fault), note);
         (status, System { standard, places })
     }
 
@@ -218,38 +209,6 @@ impl<I: Read + Drop, O: Write + Drop, E: Write + Drop, P: Places> System<I, O, E
         (Ok(status), system)
     }
 
-    // Exports the document of an ID as the file of that name in a folder, and gives the exit status.
-    fn export_one(self, alloc: Global, file: &str, folder: &str, id: &str) -> (u8, Self)
-        ensures { DoesAndSaves Global (Command.Export file.entry id.entry) (folder.now ++ 47 ∷ id.now)
-            (system_at self.standard (P.state self.places)) result.0
-            (system_at result.1.standard (P.state result.1.places))
-            ⊎ ((P.state result.1.places ≡ P.state self.places)
-            × PutsRefusal true (codes "Memory") self.standard result.0 result.1.standard) }
-    {
-        let command = Command::Export { file, id };
-        let Ok(path) = format!(in alloc; "{folder}/{id}") else {
-            return self.refuse_memory(alloc, command);
-        };
-        match self.do_saved(alloc, path.as_str(), command) {
-            (Ok(status), system) => (status, system),
-            (Err(AllocError), system) => system.refuse_memory(alloc, command),
-        }
-    }
-
-    // Exports the documents of these IDs, one after another, and gives the greatest exit status.
-    fn export_each(self, alloc: Global, file: &str, folder: &str, ids: &[&str]) -> (u8, Self)
-        ensures { ExportsEach Global file.now folder.now (map (λ id. id.now) ids.now)
-            (system_at self.standard (P.state self.places)) result.0
-            (system_at result.1.standard (P.state result.1.places)) }
-    {
-        let (mut status, mut system) = (0, self);
-        for id in ids {
-            let (one, next) = system.export_one(alloc, file, folder, *id);
-            (status, system) = (greater(status, one), next);
-        }
-        (status, system)
-    }
-
     // Does the command of a line with the other files of the line.
     fn do_with(self, alloc: Global, line: &CommandLine<'_>) -> (Result<u8, AllocError>, Self)
         ensures { OrNothing (DoesFor Global (P.known self.places) line.now)
@@ -259,27 +218,15 @@ impl<I: Read + Drop, O: Write + Drop, E: Write + Drop, P: Places> System<I, O, E
         if let Some(path) = line.saved_as {
             return self.do_saved(alloc, path, line.command);
         }
-        let Command::ExportAll { file, folder } = line.command else {
-            return match inputs_of(alloc, &self.places, line.images.as_slice()) {
-                Ok(inputs) => self.do_here(alloc, inputs.as_slice(), line.command),
-                Err(AllocError) => (Err(AllocError), self),
-            };
-        };
-        let (ended, text, system) = self.do_kept(alloc, line.command);
-        let Ok(status) = ended else {
-            return (Err(AllocError), system);
-        };
-        if status != 0 {
-            let System { standard, places } = system;
-            let standard = standard.show_on_errors(alloc, text.as_slice());
-            return (Ok(status), System { standard, places });
+        if let Some(all) = for_all(line.command) {
+            return self.do_all(alloc, all);
         }
-        let (status, system) = match ids_in(alloc, text.as_slice()) {
-            Some(ids) => system.export_each(alloc, file, folder, ids.as_slice()),
-            None => system.refuse_memory(alloc, Command::ExportAll { file, folder }),
-        };
-        (Ok(status), system)
+        match inputs_of(alloc, &self.places, line.images.as_slice()) {
+            Ok(inputs) => self.do_here(alloc, inputs.as_slice(), line.command),
+            Err(AllocError) => (Err(AllocError), self),
+        }
     }
+
 
     // Does what a line says, and gives the exit status.
     fn do_line(self, alloc: Global, line: &CommandLine<'_>) -> (u8, Self)

@@ -51,12 +51,11 @@ fn least_of(command: Command) -> usize {
 }
 
 // Whether it is said that the output has failed: always of a command that has ended with 0; else where the output has
-// failed before, but for one that answers to each image, and for one that has said so itself, as `--all` does not.
+// failed before, but for one that answers to each image, and for one that has said so itself.
 fn says_failure(command: Command, has_failed: bool, status: u8) -> bool
     ensures { status ≡ 0 → result ≡ true }
 {
-    let says_so = refuses_on_errors(command) && !matches!(command, Command::ExportAll { .. });
-    status == 0 || has_failed && !says_so && !answers_each_image(command)
+    status == 0 || has_failed && !refuses_on_errors(command) && !answers_each_image(command)
 }
 
 /// Tells a stream the line of a refusal, and gives the exit status.

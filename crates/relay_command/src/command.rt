@@ -43,6 +43,8 @@ pub enum Command<'a> {
     Scan { file: &'a str, capacity: u16 },
     /// Gives the document of an ID, whose two codewords are in hexadecimal, back.
     Deliver { file: &'a str, id: &'a str },
+    /// Gives each complete document that a desk holds back, as a file of its own in a folder.
+    DeliverAll { file: &'a str, folder: &'a str },
     /// Lets a document go.
     Forget { file: &'a str, id: &'a str },
     /// Gives the pages that are held of a document, for another desk.

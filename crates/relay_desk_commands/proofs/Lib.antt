@@ -1,3 +1,5 @@
 pub mod ScanLaws
 pub mod LoadedJoint
 pub mod CopiedPages
+pub mod Reopened
+pub mod AllDocuments

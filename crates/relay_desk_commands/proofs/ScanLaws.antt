@@ -1,7 +1,7 @@
 -- What a desk is after a scan: if a save failed, it has failed, and else it runs on.
 use Rattle.dm_pbm_io.specs.Image.{Picture}
 use Rattle.relay_shared.specs.Command.{EndsNote}
-use Rattle.std.specs.Prelude.{◌≡◌, ◌||◌, ℕ, List, Bool, true, false, Result, Ok, Err}
+use Rattle.std.specs.Prelude.{◌≡◌, ℕ, List, Bool, true, false, Result, Ok, Err}
 use Rattle.std.proofs.Common.{inl, inr, refl, ap, sym, ◌∙◌}
 use Rattle.dm_append_label.specs.{declared.fault.LabelFault.LabelFault, Labels.PageView}
 use Rattle.dm_assembly_desk.specs.{Desk.lone, Desk.scan_of, Desk.Scans, Documents.DeskView}
@@ -39,8 +39,3 @@ pub ends_note : {tried wanted : Bool} {p : Picture} {text ending : List ℕ} →
     → text ≡ ending → EndsNote tried p ending → EndsNote wanted p text
 ends_note may same (inl is) = inl (same ∙ is)
 ends_note may same (inr (tried, cure, is, ends)) = inr (may tried, cure, is, same ∙ ends)
-
--- what follows from each of two follows from either
-pub either : {P : Type 0} (a b : Bool) → (a ≡ true → P) → (b ≡ true → P) → (a || b) ≡ true → P
-either true b one other is = one refl
-either false b one other is = other is

@@ -1,7 +1,7 @@
 -- What the commands of desks do to files and streams, and the lines that they write, which are this project's own.
-use Rattle.std.specs.Prelude.{ℕ, List, [], ◌∷◌, ◌++◌, codes, zero, suc, take, ◌+◌, ◌^◌, ◌==◌, Bool, if◌then◌else◌, ◌≡◌, ◌<◌, Option, None, IfSome, Result, Ok, Err, MatchResult, true, false, ◌≤◌, ◌⊎◌, ◌||◌, Some, is_err, IsOk, IsTrue, IsSomeAnd, IsSome, IfOk}
-use Rattle.std.specs.Fmt.{decimal}
-use Rattle.dm_assembly_desk.specs.Documents.{names, Documents, DeskView, KeepsPages, DeskIsInOrder, Pages, summary, count_at, page_at}
+use Rattle.std.specs.Prelude.{ℕ, List, [], ◌∷◌, ◌++◌, codes, zero, suc, take, ◌+◌, ◌^◌, ◌==◌, Bool, if◌then◌else◌, ◌≡◌, ◌<◌, Option, None, IfSome, Result, Ok, Err, MatchResult, true, false, ◌≤◌, ◌⊎◌, ◌||◌, Some, is_err, IsOk, IsTrue, IsSomeAnd, IsSome, IfOk, All, filter, is_some, length, map as each}
+use Rattle.std.specs.{Fmt.decimal, List.list_all}
+use Rattle.dm_assembly_desk.specs.Documents.{names, Documents, DeskView, KeepsPages, DeskIsInOrder, Pages, summaries, summary, count_at, page_at}
 use Rattle.dm_assembly_desk.specs.declared.{reply.Held.Held, limits.TheConstants.MOST_CAPACITY, reply.Accepted.Accepted, reply.Imported.Imported}
 use Rattle.relay_shared.specs.Lines.{id_text, word_text, accepted_line, imported_line}
 use Rattle.hex.specs.Hex.{decode_sized}
@@ -13,7 +13,7 @@ use Rattle.dm_assembly_desk.specs.declared.fault.{DeskFault.DeskFault, ImportFau
 use Rattle.relay_streams.specs.Streams.{input_fault_name, OutputView, ReadsFirst, refused_line, AppendsPart}
 use Rattle.relay_streams.specs.declared.fault.InputFault.{InputFault}
 use Rattle.relay_desk_commands.specs.declared.documents.Given.{Given, TheVariants.Document, TheVariants.File}
-use Rattle.relay_desk_commands.specs.declared.{import.TheConstants.IMPORT_BYTES, copy.CopyOptions.CopyOptions}
+use Rattle.relay_desk_commands.specs.declared.{import.TheConstants.IMPORT_BYTES, copy.CopyOptions.CopyOptions, all_documents.GivenAll.GivenAll}
 use Rattle.relay_shared.specs.Command.{FileView, GivesNothing, HasInputFault, refusal_name, OnlyOutput, RefusesOnErrors, RefusesOnOutput, StreamsView, TellsAnswer, TellsBytes, TellsRefusal, ImageCommand, Said, TellsFiles, TellsInputs, progress_at, refusal_of, Tells, EndsNote, NotesImage}
 use Rattle.dm_finder_frame.specs.Frame.{GridView}
 use Rattle.dm_pbm_io.specs.{FaultNames.shape_fault_name, Image.Picture, Image.HasShape, Image.IsGridInside, Image.p4}
@@ -155,6 +155,28 @@ EndsDeliver text = EndsGiving Document text
 abbrev pub EndsExport : List ℕ → OnDesk → ℕ → OnDesk → Type 0
 EndsExport text = EndsGiving File text
 
+-- ---- what is given out of all documents
+
+-- whether something is given of a document with these pages: the file of them always, the document if each is held
+abbrev pub is_given : Given → Pages → Bool
+is_given File pages = true
+is_given Document pages = list_all is_some pages
+
+-- the IDs of the documents of which something is given, as they rise
+abbrev pub ids_given : Given → Documents → List ℕ
+ids_given what held = each (λ e. e.0) (filter (λ e. is_given what e.1) (map.entries held))
+
+-- what is given of all documents: of each of these just what the desk yields of it alone; and how many others it holds
+pub record GivesAll {A : Type 0} (what : Given) (held : Documents) (all : GivenAll A) : Type 0 where
+  pub ids : each (λ given. given.id) all.documents.items ≡ ids_given what held
+  pub yields : All (λ given. Yields what given.id held (Ok given.bytes.items)) all.documents.items
+  pub others : length all.documents.items + all.incomplete ≡ map.len held
+
+-- How a command ends that only opens the desk: what it gives of all documents goes to no stream.
+abbrev pub EndsOpening : OnDesk → ℕ → OnDesk → Type 0
+EndsOpening = EndsAtDesk RefusesOnErrors MOST_CAPACITY
+    (λ desk old status new. (status ≡ 0) × (new.streams ≡ old) × (new.files.set ≡ desk.saved))
+
 -- ---- what is forgotten, and what is imported
 
 -- an open desk answered a call, and the answer was written
@@ -211,16 +233,26 @@ pub record AtDesk : Type 0 where
   pub desk : DeskView
   pub errors : OutputView
 
--- the refusal of a picture was noted and, if it is of the image itself, perhaps a change after which it would be read
-abbrev pub NotesPicture : Bool → Picture → ℕ → Option ℕ → List ℕ → OutputView → OutputView → Type 0
-NotesPicture of_image p number id name old new =
-    (ending : List ℕ) × EndsNote of_image p ending × NotesImage number id name ending old new
+-- how many documents a full desk has room for, and that it may have more
+abbrev pub room_text : ℕ → List ℕ
+room_text count = codes "; the desk has room for " ++ (decimal count ++ codes ", and with --capacity for up to 1024 documents")
 
 -- the refusal is of the image itself, and not of what its label says, nor of the desk
 abbrev pub is_of_image : ScanFault → Bool
 is_of_image (Label (Border wrong)) = true
 is_of_image (Label (Block block)) = true
 is_of_image fault = false
+
+-- How the note of a refusal ends, by the documents that are held: with nothing; with a change after which the image
+-- would be read, if the refusal is of the image; with how many the desk has room for, if it is full and so holds as many.
+abbrev pub EndsRefusal : ScanFault → Picture → Documents → List ℕ → Type 0
+EndsRefusal Full p held ending = (ending ≡ []) ⊎ (ending ≡ room_text (length (summaries held)))
+EndsRefusal fault p held ending = EndsNote (is_of_image fault) p ending
+
+-- the refusal of a picture was noted, with such an ending
+abbrev pub NotesPicture : (List ℕ → Type 0) → ℕ → Option ℕ → List ℕ → OutputView → OutputView → Type 0
+NotesPicture Ends number id name old new =
+    (ending : List ℕ) × Ends ending × NotesImage number id name ending old new
 
 -- the grid opens as a label with this ID
 abbrev pub IsIdOn : GridView → ℕ → Type 0
@@ -251,14 +283,14 @@ pub data ScansPicture (number : ℕ) (p : Picture) (before : AtDesk) : Said → 
       (record { line = accepted_line reply.id reply.m reply.n (kind_name reply.kind); refused = false }) (record before { desk = desk })
   refused : {after : AtDesk} (grid : GridView) (fault : ScanFault) (id : Option ℕ) → HasShape p → IsGridInside p grid
       → AcceptsGrid grid before.desk (Err fault) after.desk → IfSome id (IsIdOn grid)
-      → NotesPicture (is_of_image fault) p number id (scan_fault_name fault) before.errors after.errors
+      → NotesPicture (EndsRefusal fault p after.desk.held) number id (scan_fault_name fault) before.errors after.errors
       → ScansPicture number p before (refusal_of (scan_fault_name fault)) after
   unsettled : {errors : OutputView} (grid : GridView) (why : StoreFault) → HasShape p → IsGridInside p grid
       → IsUnsettled grid why before.desk
       → NotesImage number None (move_fault_name (move_fault_of why)) [] before.errors errors
       → ScansPicture number p before (refusal_of (move_fault_name (move_fault_of why))) (record before { errors = errors })
   no_grid : {errors : OutputView} → ¬ HasShape p
-      → NotesPicture true p number None (shape_fault_name Shape) before.errors errors
+      → NotesPicture (EndsNote true p) number None (shape_fault_name Shape) before.errors errors
       → ScansPicture number p before (refusal_of (shape_fault_name Shape)) (record before { errors = errors })
 
 -- `scan` as a command over images: after a failed save it reads no more

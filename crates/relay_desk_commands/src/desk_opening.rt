@@ -44,6 +44,87 @@ impl<S: Store, T: StoreSet, A: Allocator + Copy> OpenDesk<S, T, A> {
     }
 }
 
+/// Why no desk was opened, by name, and the stores of its files as they were left.
+#[derive(Drop)]
+pub(crate) struct Unopened<S: Store, T: StoreSet> {
+    pub(crate) name: &'static str,
+    pub(crate) store: S,
+    pub(crate) set: T,
+}
+
+impl<S: Store, T: StoreSet> Unopened<S, T> {
+    // Writes the line `refused NAME`, and says how the command ends.
+    fn refuse<W: Write>(self, output: &mut Output<W>) -> EndedDesk<S, T>
+        ensures told { TellsRefusal self.name.now output.old result.status output.new }
+        ensures store { S.state result.store ≡ S.state self.store }
+        ensures set { T.state result.set ≡ T.state self.set }
+    {
+        let Unopened { name, store, set } = self;
+        let status = refuse(output, name);
+        EndedDesk { status, store, set }
+    }
+}
+
+/// Moves the documents of a joint file to the set, opens the desk, and settles what was found; or says why not.
+pub(crate) fn settled_desk<A: Allocator + Copy, S: Store, T: StoreSet>(
+    alloc: A,
+    store: S,
+    set: T,
+    capacity: u16,
+) -> Result<OpenDesk<S, T, A>, Unopened<S, T>>
+    ensures { MatchResult result
+        (λ opened. OpensDesk (record { joint = S.state store; set = T.state set }) capacity (S.state opened.store)
+        opened.desk × DeskIsInOrder opened.desk)
+        (λ unopened. HasNoDesk (record { joint = S.state store; set = T.state set }) capacity unopened.name.now
+        (record { joint = S.state unopened.store; set = T.state unopened.set })) }
+{
+    let mut opened = match unsettled_desk(alloc, store, set, capacity) {
+        Ok(opened) => opened,
+        Err(unopened) => return Err(unopened),
+    };
+    match opened.desk.settle() {
+        Ok(()) => Ok(opened),
+        Err(fault) => {
+            let name = MoveFault::from(fault).name();
+            let OpenDesk { store, desk } = opened;
+            let set = desk.close();
+            Err(Unopened { name, store, set })
+        }
+    }
+}
+
+// The same, but what was found is not settled.
+fn unsettled_desk<A: Allocator + Copy, S: Store, T: StoreSet>(
+    alloc: A,
+    store: S,
+    set: T,
+    capacity: u16,
+) -> Result<OpenDesk<S, T, A>, Unopened<S, T>>
+    ensures { MatchResult result
+        (λ opened. OpensDesk (record { joint = S.state store; set = T.state set }) capacity (S.state opened.store)
+        opened.desk × DeskIsInOrder opened.desk)
+        (λ unopened. HasNoDesk (record { joint = S.state store; set = T.state set }) capacity unopened.name.now
+        (record { joint = S.state unopened.store; set = T.state unopened.set })) }
+{
+    let mut store = store;
+    let mut set = set;
+    match move_pages(alloc, &mut store, &mut set) {
+        Ok(_) => {}
+        Err(fault) => {
+            let name = fault.name();
+            return Err(Unopened { name, store, set });
+        }
+    }
+    match Desk::open_unsettled(alloc, set, capacity) {
+        Ok(desk) => Ok(OpenDesk { store, desk }),
+        Err(refused) => {
+            let name = refused.fault.name();
+            let set = refused.store;
+            Err(Unopened { name, store, set })
+        }
+    }
+}
+
 /// Moves the documents of a joint file to the set, opens the desk, and settles what was found; or writes the line
 /// `refused NAME`, and says how the command ends.
 pub(crate) fn open_desk<A: Allocator + Copy, S: Store, T: StoreSet, W: Write>(
@@ -60,16 +141,9 @@ pub(crate) fn open_desk<A: Allocator + Copy, S: Store, T: StoreSet, W: Write>(
         (record { joint = S.state ended.store; set = T.state ended.set })
         × TellsRefusal name output.old ended.status output.new) }
 {
-    let mut opened = match open_unsettled(alloc, store, set, output, capacity) {
-        Ok(opened) => opened,
-        Err(ended) => return Err(ended),
-    };
-    match opened.desk.settle() {
-        Ok(()) => Ok(opened),
-        Err(fault) => {
-            let status = refuse(output, MoveFault::from(fault).name());
-            Err(opened.end(status))
-        }
+    match settled_desk(alloc, store, set, capacity) {
+        Ok(opened) => Ok(opened),
+        Err(unopened) => Err(unopened.refuse(output)),
     }
 }
 
@@ -88,21 +162,8 @@ pub(crate) fn open_unsettled<A: Allocator + Copy, S: Store, T: StoreSet, W: Writ
         (record { joint = S.state ended.store; set = T.state ended.set })
         × TellsRefusal name output.old ended.status output.new) }
 {
-    let mut store = store;
-    let mut set = set;
-    match move_pages(alloc, &mut store, &mut set) {
-        Ok(_) => {}
-        Err(fault) => {
-            let status = refuse(output, fault.name());
-            return Err(EndedDesk { status, store, set });
-        }
-    }
-    match Desk::open_unsettled(alloc, set, capacity) {
-        Ok(desk) => Ok(OpenDesk { store, desk }),
-        Err(refused) => {
-            let status = refuse(output, refused.fault.name());
-            let set = refused.store;
-            Err(EndedDesk { status, store, set })
-        }
+    match unsettled_desk(alloc, store, set, capacity) {
+        Ok(opened) => Ok(opened),
+        Err(unopened) => Err(unopened.refuse(output)),
     }
 }

@@ -15,7 +15,7 @@ use std::io::{Read, Write};
 
 /// What is given out of a document.
 #[derive(Clone, Copy, Debug, PartialEq, Eq)]
-pub(crate) enum Given {
+pub enum Given {
     /// The document itself.
     Document,
     /// The file of the pages that are held.

@@ -7,13 +7,14 @@ ghost use Rattle.relay_streams.specs.Streams.{TakesPart};
 ghost use Rattle.relay_desk_commands.specs.Desks.{EndsImport, ImportsFile, desk_at, import_line};
 
 use crate::desk_opening::{OpenDesk, open_desk};
+use crate::lines::room_text;
 use dm_assembly_desk::{Desk, ImportFault, Imported};
 use dm_store::{Store, StoreSet};
 use relay_shared::{
     EndedDesk, NamedFile, Refusal, Streams, greater, put_imported, refuse, status_after,
 };
 use relay_streams::{Input, Output};
-use std::alloc::Allocator;
+use std::alloc::{AllocError, Allocator};
 use std::io::{Read, Write};
 
 /// One byte more than the greatest file of a document.
@@ -30,10 +31,23 @@ fn tell<W: Write>(output: &mut Output<W>, answer: Result<Imported, ImportFault>)
     }
 }
 
+// What is noted of a refused file: the name of the refusal, and how many documents a full desk has room for.
+fn why_refused<A: Allocator + Copy, T: StoreSet>(
+    alloc: A,
+    desk: &Desk<T, A>,
+    name: &str,
+) -> Result<String<A>, AllocError> {
+    if name != ImportFault::Full.name() {
+        return String::from_str(alloc, name);
+    }
+    let room = room_text(alloc, desk)?;
+    format!(in alloc; "{name}{room}")
+}
+
 // Takes in a file, whose bytes are read into this room, and writes the line of the answer.
 #[rattlefmt::skip] // a signature a line
 fn import_file<A: Allocator + Copy, T: StoreSet, F: NamedFile, W: Write>(
-    desk: &mut Desk<T, A>, file: &F, room: &mut [u8], output: &mut Output<W>,
+    alloc: A, desk: &mut Desk<T, A>, file: &F, room: &mut [u8], output: &mut Output<W>,
 ) -> u8
     requires running { desk.old.is_failed ≡ false }
     requires room { length room.old ≡ IMPORT_BYTES }
@@ -49,7 +63,12 @@ fn import_file<A: Allocator + Copy, T: StoreSet, F: NamedFile, W: Write>(
         Ok(count) => tell(output, desk.import(&room[..count])),
         Err(fault) => (refuse(output, fault.name()), Some(fault.name())),
     };
-    file.end(input.into_reader(), refused);
+    let why = match refused {
+        Some(name) => why_refused(alloc, desk, name).ok(),
+        None => None,
+    };
+    let noted = why.as_ref().map(|why| why.as_str());
+    file.end(input.into_reader(), noted.or(refused));
     status
 }
 
@@ -100,7 +119,7 @@ pub fn import_command<A: Allocator + Copy, S: Store, T: StoreSet, F: NamedFile, 
     };
     let mut status = 0;
     for file in files {
-        status = greater(status, import_file(&mut desk, file, &mut room, output));
+        status = greater(status, import_file(alloc, &mut desk, file, &mut room, output));
         if output.has_failed() | desk.has_failed() {
             return EndedDesk { status, store, set: desk.close() };
         }

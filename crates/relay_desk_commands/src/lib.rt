@@ -8,6 +8,7 @@
 //! by what its file holds, and for each that is not sound. What `copy` gives opens as the page that is held.
 #![tactic(auto)]
 
+mod all_documents;
 mod copy;
 mod desk_opening;
 mod documents;
@@ -17,8 +18,9 @@ pub mod laws;
 mod lines;
 mod scan;
 
+pub use all_documents::{EndedAll, GivenAll, GivenDocument, give_all, opening_command};
 pub use copy::{CopyOptions, copy_command};
-pub use documents::{deliver_command, export_command, forget_command};
+pub use documents::{Given, deliver_command, export_command, forget_command};
 pub use held::held_command;
 pub use import::{IMPORT_BYTES, import_command};
 pub use scan::scan_command;

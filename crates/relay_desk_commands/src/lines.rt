@@ -1,16 +1,35 @@
 //! The lines that the commands of desks write. They take no memory; an `Err` is a write that the output has refused.
 
-ghost use Rattle.std.specs.Prelude.{◌≡◌, ◌∷◌, [], ◌/◌, ◌%◌, ◌<◌, ◌≤◌, ◌+◌, ◌++◌, length};
-ghost use Rattle.relay_desk_commands.specs.Desks.{forgotten_line, held_line, held_word, missing_page, missing_pages, unsound_joint_line, unsound_line};
+ghost use Rattle.std.specs.Prelude.{◌≡◌, ◌∷◌, [], ◌/◌, ◌%◌, ◌<◌, ◌≤◌, ◌+◌, ◌++◌, length, string_bytes, IfOk};
+ghost use Rattle.dm_assembly_desk.specs.Documents.{summaries};
+ghost use Rattle.relay_desk_commands.specs.Desks.{forgotten_line, held_line, held_word, missing_page, missing_pages, room_text, unsound_joint_line, unsound_line};
 ghost use Rattle.relay_shared.specs.Command.{PutsText};
 
 use arrayvec::ArrayString;
 use dm_append_label::FileId;
-use dm_assembly_desk::Held;
+use dm_assembly_desk::{Desk, Held};
+use dm_store::StoreSet;
 use itoa::Buffer;
 use relay_shared::{id_digits, word_digits};
 use relay_streams::{Output, WriteFault};
+use std::alloc::{AllocError, Allocator};
 use std::io::Write;
+
+/// What a note says of a full desk: how many documents it has room for, as it holds as many.
+///
+/// # Errors
+/// Where the allocator refuses its memory.
+pub(crate) fn room_text<T: StoreSet, A: Allocator + Copy>(
+    alloc: A,
+    desk: &Desk<T, A>,
+) -> Result<String<A>, AllocError>
+    ensures { IfOk result (λ text. string_bytes text ≡ room_text (length (summaries desk.now.held))) }
+{
+    let count = desk.held()?.len();
+    format!(in alloc;
+        "; the desk has room for {count}, and with --capacity for up to 1024 documents"
+    )
+}
 
 /// Writes which document was forgotten.
 pub(crate) fn put_forgotten<W: Write>(output: &mut Output<W>, id: FileId) -> Result<(), WriteFault>

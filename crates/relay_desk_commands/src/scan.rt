@@ -1,14 +1,16 @@
 //! `relay scan`: labels gathered at a desk.
 
-ghost use Rattle.std.specs.Prelude.{◌≡◌, map, false, true, IfOk, IfSome, MatchResult, OnErr, Result};
+ghost use Rattle.std.specs.Prelude.{◌≡◌, map, false, true, IfOk, IfSome, MatchResult, OnErr, Result, string_bytes};
 ghost use Rattle.std.specs.Io.KnownBytes.{Appends};
 ghost use Rattle.dm_assembly_desk.specs.Desk.{AcceptsGrid, Scans};
 ghost use Rattle.dm_assembly_desk.specs.Documents.{DeskView, KeepsPages, DeskIsInOrder};
 ghost use Rattle.dm_append_label.specs.{Labels.PageView, declared.fault.LabelFault.LabelFault};
 ghost use Rattle.relay_streams.specs.Streams.{AppendsPart, refused_line};
-ghost use Rattle.relay_desk_commands.specs.Desks.{desk_at, EndsScan, IsIdOn, IsUnsettled, rests_on_held, scan_images};
+ghost use Rattle.dm_pbm_io.specs.Image.{picture};
+ghost use Rattle.relay_desk_commands.specs.Desks.{desk_at, EndsRefusal, EndsScan, IsIdOn, IsUnsettled, rests_on_held, scan_images};
 
 use crate::desk_opening::{OpenDesk, open_unsettled};
+use crate::lines::room_text;
 use dm_append_label::LabelFault::{Block, Border};
 use dm_append_label::{FileId, MOST_PAGE_BYTES, open_page};
 use dm_assembly_desk::{Accepted, Desk, Kind, MoveFault, ScanFault};
@@ -89,6 +91,17 @@ impl<T: StoreSet, A: Allocator + Copy> Scanning<T, A> {
         self.is_settled = true;
         Ok(answer)
     }
+
+    // What the note of a refusal ends with.
+    fn ending_of(&self, alloc: A, image: &Image<A>, fault: ScanFault) -> String<A>
+        ensures { EndsRefusal fault (picture image.now) self.now.desk.held (string_bytes result) }
+    {
+        match fault {
+            ScanFault::Full => room_text(alloc, &self.desk).unwrap_or(String::new(alloc)),
+            ScanFault::Label(Border { .. } | Block { .. }) => note_ending(alloc, image, true),
+            _ => String::new(alloc),
+        }
+    }
 }
 
 impl<T: StoreSet, A: Allocator + Copy> OnImages<A> for Scanning<T, A> {
@@ -130,9 +143,7 @@ impl<T: StoreSet, A: Allocator + Copy> OnImages<A> for Scanning<T, A> {
             Err(fault) => {
                 let id = id_of_label(&grid);
                 let name = fault.name();
-                let of_image = matches!(fault, ScanFault::Label(Border { .. }))
-                    | matches!(fault, ScanFault::Label(Block { .. }));
-                let ending = note_ending(alloc, image, of_image);
+                let ending = self.ending_of(alloc, image, fault);
                 put_image_note(errors, number, id, name, &ending);
                 put_refused(output, name, matches!(fault, ScanFault::Save))
             }
@@ -163,7 +174,7 @@ impl<T: StoreSet, A: Allocator + Copy> OnImages<A> for Scanning<T, A> {
 /// A refused image doesn't end the command; a save that failed does. Bytes that are no image and a plain image end
 /// their file, and the next file is read. At most 65,536 images of a file are read. Which image a refusal is of goes to
 /// the standard error, as `relay: image N: NAME`, or `relay: image N (IIII): NAME` if its label opens, and then what
-/// [`note_ending`] gives.
+/// [`note_ending`] gives, or how many documents a full desk has room for.
 pub fn scan_command<
     A: Allocator + Copy,
     S: Store,

@@ -9,18 +9,19 @@ use Rattle.dm_append_label.specs.Labels.{Carries, PageView}
 use Rattle.dm_store.specs.Saved.{Contents, SavedSet}
 use Rattle.dm_print_ledger.specs.declared.range.Range.{Range}
 use Rattle.dm_assembly_desk.specs.Documents.{HoldsFiles, Pages, file, page, page_at}
+use Rattle.dm_assembly_desk.specs.declared.limits.TheConstants.{MOST_CAPACITY}
 use Rattle.dm_event_history.specs.Relay.{Label}
 use Rattle.dm_event_history.specs.Headline.{AreDisjoint, AreOfOneDocument, ArePrinted, HaveLeft, RelayIsSound, IsTheDocument}
 use Rattle.dm_event_history.proofs.{Gotten.get_more, Gotten.set_at, Headline.each_run_is_sound, Told.page_none}
 use Rattle.dm_event_history.proofs.Stays.{have_more, more_left, more_pages}
 use Rattle.relay_command.specs.declared.command.Command.{Command}
-use Rattle.relay_command.specs.declared.command.Command.TheVariants.{Words, Draw, Read, Plan, Ticket, Ledger, Print, Give, GiveLast, Take, Left, Audit, Scan, Deliver, Forget, Export, ExportAll, Import, Held, Copy, World}
-use Rattle.relay_desk_commands.specs.Desks.{DeskFiles, OnDesk}
+use Rattle.relay_command.specs.declared.command.Command.TheVariants.{Words, Draw, Read, Plan, Ticket, Ledger, Print, Give, GiveLast, Take, Left, Audit, Scan, Deliver, DeliverAll, Forget, Export, ExportAll, Import, Held, Copy, World}
+use Rattle.relay_desk_commands.specs.Desks.{DeskFiles, EndsOpening, OnDesk}
 use Rattle.relay_desk_runs.specs.Answered.{GivesPrinted, HoldsPrinted, HasPrinted, IsNearPrinted, IsOfLabel, IsPrintedFile}
 use Rattle.relay_desk_runs.specs.Answered.GivesPrinted.{nothing as gives_nothing, document as gives_document}
 use Rattle.relay_desk_runs.proofs.{Scanning.each_scan_keeps, Importing.each_forget_keeps, Importing.each_import_keeps}
 use Rattle.relay_desk_runs.proofs.Giving.{each_copy_is_printed, each_deliver_is_printed, each_export_is_printed, export_clean}
-use Rattle.relay_desk_runs.proofs.Opened.{held_same}
+use Rattle.relay_desk_runs.proofs.Opened.{at_desk_keeps, held_same}
 use Rattle.relay.specs.Program.{Does, path_of}
 use Rattle.relay_program_runs.specs.Law.{At, DeliversPrinted, Halts, IsBlank, LeavesFile, LetsOut, PrintsUnder, Ran, SomeRan, TakesPrinted, WritesPrinted, at_its_path, cut_short, exited, passed, passed_at, status_of, writes, writes_nothing}
 use Rattle.relay_program_runs.specs.Passed.{Passed, passed_by, text_of}
@@ -121,6 +122,10 @@ module _ (A : Type 0) (labels : List Label) (printed : ArePrinted labels) (one :
   same_files : after.files ≡ before.files → HoldsPrinted labels after.files.set
   same_files same = same_set (ap (λ (f : DeskFiles). f.set) same)
 
+  opening_keeps : EndsOpening before status after → HoldsPrinted labels after.files.set
+  opening_keeps does = (at_desk_keeps labels MOST_CAPACITY before status after clean
+      (λ desk o rest. subst (HoldsPrinted labels) (sym rest.2) o.shows.set) does).set
+
   effect : (command : Command) (does : Does A command inputs before status after) →
       AllByRecursion (IsNearPrinted labels) (passed_by A command inputs before status after does).scanned →
       AllByRecursion (IsPrintedFile labels) (passed_by A command inputs before status after does).imported →
@@ -159,8 +164,10 @@ module _ (A : Type 0) (labels : List Label) (printed : ArePrinted labels) (one :
     copied = tt;
     delivered = tt;
   }
+  effect (DeliverAll file folder) does near sent =
+      record { set = opening_keeps does; exported = tt; copied = tt; delivered = tt }
   effect (ExportAll file folder) does near sent =
-      record { set = same_files (held_same None before status after does); exported = tt; copied = tt; delivered = tt }
+      record { set = opening_keeps does; exported = tt; copied = tt; delivered = tt }
   effect (Ledger file number first last) does near sent =
       record { set = same_set does.1; exported = tt; copied = tt; delivered = tt }
   effect (Print file number how scheme) does near sent =

@@ -9,7 +9,7 @@ use Rattle.dm_assembly_desk.specs.{Documents.Documents, Documents.Pages, Desk.Ho
 use Rattle.dm_assembly_desk.specs.declared.limits.TheConstants.{MOST_CAPACITY}
 use Rattle.dm_event_history.specs.Relay.{Actor, Relay, stored_of}
 use Rattle.relay_command.specs.declared.command.Command.{Command}
-use Rattle.relay_command.specs.declared.command.Command.TheVariants.{Words, Draw, Read, Plan, Ticket, Ledger, Print, Give, GiveLast, Take, Left, Audit, Scan, Deliver, Forget, Export, ExportAll, Import, Held, Copy, World}
+use Rattle.relay_command.specs.declared.command.Command.TheVariants.{Words, Draw, Read, Plan, Ticket, Ledger, Print, Give, GiveLast, Take, Left, Audit, Scan, Deliver, DeliverAll, Forget, Export, ExportAll, Import, Held, Copy, World}
 use Rattle.relay_printer_commands.specs.Printers.{images_of, ledger_at}
 use Rattle.relay_streams.specs.Streams.{AppendsPart}
 use Rattle.relay_desk_commands.specs.Desks.{DeskFiles, OnDesk}
@@ -145,7 +145,10 @@ module _ (A : Type 0) (relay : Relay) (inputs : List FileView) (before after : O
       refl refl
   effect (Import file capacity) does o holds left = idle
       (import_joint capacity before status after (no_documents relay before.files.joint o holds) does.0) refl refl
-  effect (ExportAll file folder) does o holds left = idle (same_joint (held_same None before status after does)) refl refl
+  effect (DeliverAll file folder) does o holds left = idle
+      (at_desk_joint MOST_CAPACITY before status after (no_documents relay before.files.joint o holds) does) refl refl
+  effect (ExportAll file folder) does o holds left = idle
+      (at_desk_joint MOST_CAPACITY before status after (no_documents relay before.files.joint o holds) does) refl refl
   effect (Held file id) does o holds left =
       idle (same_joint (held_same (option_copied id) before status after does)) refl refl
   effect (Copy file id page side scheme) does o holds left = idle

@@ -1,15 +1,17 @@
 -- Lines that ran over the places of a system are commands that ran at a site: the paths that they name, each once.
-use Rattle.std.proofs.Common.{◌≡◌, ◌≢◌, ◌++◌, ◌⊎◌, inl, inr, ℕ, zero, suc, List, [], ◌∷◌, None, Option, Some, slice_get, slice_set, refl, sym, ap, subst, ◌∙◌, Bool, true, false, append_assoc}
+use Rattle.std.proofs.Common.{◌≡◌, ◌≢◌, ◌++◌, ◌⊎◌, Bor, inl, inr, ℕ, zero, suc, List, [], ◌∷◌, None, Option, Some, slice_get, slice_set, refl, sym, ap, subst, ◌∙◌, Bool, true, false}
 use Rattle.std.specs.{Prelude.Decides, Prelude.map, Prelude.unwrap_or, List.AllByRecursion, Str.bytes_eq}
 use Rattle.std.proofs.lemmas.Slice.Eq.{bytes_eq-Decides}
 use Rattle.relay_command.specs.declared.command.Command.{Command}
-use Rattle.relay_command.specs.declared.command.Command.TheVariants.{Export}
-use Rattle.relay_desk_commands.specs.Desks.{DeskFiles}
+use Rattle.relay_command.specs.declared.command.Command.TheVariants.{Deliver, Export}
+use Rattle.relay_desk_commands.specs.{Desks.DeskFiles, declared.documents.Given.Given}
+use Rattle.relay_desk_commands.specs.declared.documents.Given.TheVariants.{Document, File}
 use Rattle.relay.specs.Places.{PlacesView}
-use Rattle.relay.specs.Program.{named_path, path_of, DoesAndSaves, ExportsEach, IsAt, SystemView, does, does_and_saves, does_here, exports_all, lacks_memory, next_id, no_id, shows}
+use Rattle.relay.specs.Program.{named_path, path_of, DoesAll, DoesAndSaves, DoesAt, GivesEach, IsAt, SystemView, all_command, does, does_all, does_and_saves, does_here, gives_each, has_none, lacks_memory, next_id, no_id, one_command, opens_desk, opens_none, shows}
+use Rattle.relay.proofs.AllDocuments.{others_stay}
 use Rattle.relay.specs.Program as program
 use Rattle.relay_program_runs.specs.Law.{At, MeetsPremises, IsBlank, IsNew, Ran, RunInTurn}
-use Rattle.relay_program_runs.specs.Lines.{Follow, LineRan, LinesAsk, NoLinePrintsAnIdAgain, WhatLinesDeliverWasPrinted, all_commands, commands_in, exports_in, if_named, ran_at, saved_as}
+use Rattle.relay_program_runs.specs.Lines.{Follow, LineRan, LinesAsk, NoLinePrintsAnIdAgain, WhatLinesDeliverWasPrinted, all_commands, commands_in, commands_of, givers_in, if_named, paths_of_all, ran_at, saved_as}
 use Rattle.relay_program_runs.proofs.{Lists.all_so, Walk.no_id_is_printed_twice, Walk.what_is_delivered_was_printed}
 use Rattle.relay_program_runs.proofs.Steps.{Pairs, at_same, found, pairs_so, there}
 use Rattle.relay_shared.specs.Command.{FileView}
@@ -196,24 +198,43 @@ module _ (A : Type 0) where
     over_saved command path old new status to rans all saved over =
         over_at (named_path command) (ran_at to.does) old.places to.done.places refl to.does.is_at rans (elim to.saves [
           | inl kept ↦ subst (λ (s : SystemView). RunsOver s.places rans) kept.2 over
-          | inr (zero_is, saves) ↦ elim saves.saves [
-            | inl kept ↦ subst (λ (p : PlacesView). RunsOver p rans) kept.0 over
-            | inr (replaced, set, keeps) ↦ agree to.done.places new.places rans all
-                (λ other is. keeps other (λ same. found (λ (p : List ℕ). path ≢ p) paths saved is.0 other is.1 (sym same)))
-                over
-          ]
+          | inr (zero_is, saves) ↦ agree to.done.places new.places rans all
+              (λ other is. others_stay path _ _ _ _ saves.saves other
+              (λ same. found (λ (p : List ℕ). path ≢ p) paths saved is.0 other is.1 (sym same))) over
         ])
 
-    over_exports : {file folder : List ℕ} {ids : List (List ℕ)} {old new : SystemView} {status : ℕ}
-        (each : ExportsEach A file folder ids old status new) (rans : List (Ran A)) → AllIn paths (exports_in each ++ rans) →
+    over_one : (what : Given) (from id : Bor (List ℕ)) (path : List ℕ) (old new : SystemView) (status : ℕ)
+        (to : DoesAndSaves A (one_command what from id) path old status new) (rans : List (Ran A)) → AllIn paths rans →
+        IsNone paths path → RunsOver new.places rans → RunsOver old.places (ran_at to.does ∷ rans)
+    over_one Document from id = over_saved (Deliver from id)
+    over_one File from id = over_saved (Export from id)
+
+    over_each : {what : Given} {file folder : List ℕ} {ids : List (List ℕ)} {old new : SystemView} {status : ℕ}
+        (each : GivesEach A what file folder ids old status new) (rans : List (Ran A)) → AllIn paths (givers_in each ++ rans) →
         AllByRecursion (IsNone paths) (map (λ id. folder ++ 47 ∷ id) ids) → RunsOver new.places rans →
-        RunsOver old.places (exports_in each ++ rans)
-    over_exports no_id rans all saved over = over
-    over_exports (next_id from id at (inl to) later) rans all saved over =
-        over_saved (Export from id) _ _ _ _ to (exports_in later ++ rans) all.1 saved.0
-        (over_exports later rans all.1 saved.1 over)
-    over_exports (next_id from id at (inr lacks) later) rans all saved over =
-        subst (λ (p : PlacesView). RunsOver p (exports_in later ++ rans)) lacks.0 (over_exports later rans all saved.1 over)
+        RunsOver old.places (givers_in each ++ rans)
+    over_each no_id rans all saved over = over
+    over_each (next_id from id at to later) rans all saved over =
+        over_one _ from id _ _ _ _ to (givers_in later ++ rans) all.1 saved.0 (over_each later rans all.1 saved.1 over)
+
+    over_opening : (what : Given) (file folder : Bor (List ℕ)) (old new : SystemView) (status : ℕ)
+        (at : DoesAt A (all_command what file folder) [] old status new) (rans : List (Ran A)) → RunsOver new.places rans →
+        RunsOver old.places (ran_at at ∷ rans)
+    over_opening Document file folder old new status at rans over =
+        over_at (Some file.now) (ran_at at) old.places new.places refl at.is_at rans over
+    over_opening File file folder old new status at rans over =
+        over_at (Some file.now) (ran_at at) old.places new.places refl at.is_at rans over
+
+    over_all : {what : Given} {file folder : Bor (List ℕ)} {old new : SystemView} {status : ℕ}
+        (all : DoesAll A what file folder old status new) (rans : List (Ran A)) → AllIn paths (commands_of all ++ rans) →
+        AllByRecursion (IsNone paths) (paths_of_all all) → RunsOver new.places rans →
+        RunsOver old.places (commands_of all ++ rans)
+    over_all (opens_desk seen desk at between (gives_each done each noted same)) rans all saved over =
+        over_opening _ _ _ _ seen 0 at (givers_in each ++ rans)
+        (over_each each rans all.1 saved (subst (λ (p : PlacesView). RunsOver p rans) same over))
+    over_all (opens_desk seen desk at between (has_none none told same)) rans all saved over =
+        over_opening _ _ _ _ seen 0 at rans (subst (λ (p : PlacesView). RunsOver p rans) same over)
+    over_all (opens_none refused at) rans all saved over = over_opening _ _ _ _ _ _ at rans over
 
     over_line : (inputs : List ℕ → FileView) (name : Option (List ℕ)) (old new : SystemView) (status : ℕ)
         (line : program.Runs A inputs name old status new) (rans : List (Ran A)) → AllIn paths (commands_in line ++ rans) →
@@ -224,13 +245,8 @@ module _ (A : Type 0) where
     over_line inputs name old new status (does line named met (does_and_saves path is to)) rans all saved over =
         over_saved line.command path old new status to rans
         (all_later _ (if_named (named_path line.command) (ran_at to.does)) rans all) saved.0 over
-    over_line inputs name old new status (does line named met (exports_all file folder ended text seen is out at (inl told)))
-        rans all saved over = rw append_assoc (over_at (named_path line.command) (ran_at at) old.places seen.places refl
-        at.is_at rans (subst (λ (p : PlacesView). RunsOver p rans) told.0 over))
-    over_line inputs name old new status (does line named met (exports_all file folder ended text seen is out at (inr then)))
-        rans all saved over = rw append_assoc (over_at (named_path line.command) (ran_at at) old.places seen.places refl
-        at.is_at (exports_in then.1 ++ rans) (over_exports then.1 rans
-        (all_later _ (if_named (named_path line.command) (ran_at at)) _ (rw append_assoc at all)) saved over))
+    over_line inputs name old new status (does line named met (does_all what file folder is each)) rans all saved over =
+        over_all each rans all saved over
     over_line inputs name old new status (does line named met (lacks_memory names same told)) rans all saved over =
         subst (λ (p : PlacesView). RunsOver p rans) same over
     over_line inputs name old new status (shows fault ends shown same) rans all saved over =

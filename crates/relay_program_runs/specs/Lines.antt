@@ -1,8 +1,11 @@
 -- The laws of commands, said of the program: of lines that ran one after another on the places of one system.
 use Rattle.std.specs.Prelude.{◌≡◌, ◌≢◌, ◌++◌, ◌∷◌, ℕ, AllPairs, Bool, List, [], None, Option, Some, IsTrue, map}
-use Rattle.std.{specs.List.AllByRecursion, specs.Io.KnownBytes.Keeps, proofs.Common.inl, proofs.Common.inr}
+use Rattle.std.specs.{Borrow.Bor, List.AllByRecursion, Io.KnownBytes.Keeps}
+use Rattle.dm_assembly_desk.specs.Documents.{Documents}
+use Rattle.relay_shared.specs.Lines.{id_text}
 use Rattle.relay_command.specs.declared.command.Command.{Command}
-use Rattle.relay.specs.{Places.PlacesView, Program.named_path, Program.path_of, Program.DoesAt, Program.ExportsEach, Program.SystemView, Program.does, Program.does_and_saves, Program.does_here, Program.exports_all, Program.ids_in, Program.next_id, Program.no_id, Program.streams_over}
+use Rattle.relay_desk_commands.specs.{Desks.ids_given, declared.documents.Given.Given}
+use Rattle.relay.specs.{Places.PlacesView, Program.named_path, Program.path_of, Program.DoesAll, Program.DoesAt, Program.GivesEach, Program.GivesHeld, Program.SystemView, Program.does, Program.does_all, Program.does_and_saves, Program.does_here, Program.gives_each, Program.has_none, Program.next_id, Program.no_id, Program.opens_desk, Program.opens_none, Program.streams_over}
 use Rattle.relay.specs.Program as program
 use Rattle.relay_program_runs.specs.Law.{AreApart, DeliversPrinted, Each, IsBlank, IsFirstOfItsId, Ran, TakesGiven, TakesPrinted, all_made, exited}
 use Rattle.relay_shared.specs.Command.{FileView}
@@ -37,31 +40,46 @@ module _ {A : Type 0} where
   if_named None ran = []
   if_named (Some path) ran = ran ∷ []
 
-  -- the exports of documents, in turn
-  abbrev pub exports_in : {file folder : List ℕ} {ids : List (List ℕ)} {old new : SystemView} {status : ℕ} →
-      ExportsEach A file folder ids old status new → List (Ran A)
-  exports_in no_id = []
-  exports_in (next_id from id at (inl to) later) = ran_at to.does ∷ exports_in later
-  exports_in (next_id from id at (inr lacks) later) = exports_in later
+  -- the commands that give documents, in turn
+  abbrev pub givers_in : {what : Given} {file folder : List ℕ} {ids : List (List ℕ)} {old new : SystemView} {status : ℕ} →
+      GivesEach A what file folder ids old status new → List (Ran A)
+  givers_in no_id = []
+  givers_in (next_id from id at to later) = ran_at to.does ∷ givers_in later
+
+  abbrev pub givers_of : {what : Given} {file folder : List ℕ} {held : Documents} {old new : SystemView} {status : ℕ} →
+      GivesHeld A what file folder held old status new → List (Ran A)
+  givers_of (gives_each done each noted same) = givers_in each
+  givers_of (has_none none told same) = []
+
+  -- the command that opened a desk, and those that gave all its documents
+  abbrev pub commands_of : {what : Given} {file folder : Bor (List ℕ)} {old new : SystemView} {status : ℕ} →
+      DoesAll A what file folder old status new → List (Ran A)
+  commands_of (opens_desk seen desk at between gives) = ran_at at ∷ givers_of gives
+  commands_of (opens_none refused at) = ran_at at ∷ []
 
   abbrev pub commands_in : {inputs : List ℕ → FileView} {name : Option (List ℕ)} {old new : SystemView} {status : ℕ} →
       program.Runs A inputs name old status new → List (Ran A)
   commands_in (does line named met (does_here none one at)) = if_named (named_path line.command) (ran_at at)
   commands_in (does line named met (does_and_saves path is to)) = if_named (named_path line.command) (ran_at to.does)
-  commands_in (does line named met (exports_all file folder ended text seen is out at after)) =
-      if_named (named_path line.command) (ran_at at) ++ elim after [ inl told ↦ [] | inr (zero, each) ↦ exports_in each ]
+  commands_in (does line named met (does_all what file folder is all)) = commands_of all
   commands_in other = []
 
   abbrev pub all_commands : List (LineRan A) → List (Ran A)
   all_commands [] = []
   all_commands (line ∷ later) = commands_in line.runs ++ all_commands later
 
+  -- the paths at which the documents of a desk were to be saved
+  abbrev pub paths_of_all : {what : Given} {file folder : Bor (List ℕ)} {old new : SystemView} {status : ℕ} →
+      DoesAll A what file folder old status new → List (List ℕ)
+  paths_of_all {what} {file} {folder} (opens_desk seen desk at between gives) =
+      map (λ id. folder.now ++ 47 ∷ id) (map id_text (ids_given what desk.held))
+  paths_of_all (opens_none refused at) = []
+
   -- the paths at which a line was to save its outputs
   abbrev pub saved_as : {inputs : List ℕ → FileView} {name : Option (List ℕ)} {old new : SystemView} {status : ℕ} →
       program.Runs A inputs name old status new → List (List ℕ)
   saved_as (does line named met (does_and_saves path is to)) = path ∷ []
-  saved_as (does line named met (exports_all file folder ended text seen is out at after)) =
-      map (λ id. folder.now ++ 47 ∷ id) (ids_in text)
+  saved_as (does line named met (does_all what file folder is all)) = paths_of_all all
   saved_as other = []
 
   -- ---- premises

@@ -8,12 +8,14 @@ use std::test::Fail;
 // Each line reads what the one before has written, and writes this, if it is known. The print's document is what the
 // ledger's line has written.
 #[rattlefmt::skip] // a line a line
-const LINES: [(&str, &[u8]); 6] = [
+const LINES: [(&str, &[u8]); 8] = [
     ("relay ledger --file other --number 7 --first 10 --last 19", b"left 10\n"),
     ("relay ledger --file ledger --first 0 --last 9", b"left 10\n"),
     ("relay print --file ledger --side 22", b""),
     ("relay scan --file desk", b"0101 1/2 new\n0101 2/2 complete\n"),
     ("relay deliver --file desk --id 0101", b"left 10\n"),
+    ("relay deliver --file desk --all documents", b""),
+    ("relay export --file desk --all pages", b""),
     ("relay left --file other", b"printer 7\nleft 10\nfree 10 19 010b 0114\ngiven 0\n"),
 ];
 

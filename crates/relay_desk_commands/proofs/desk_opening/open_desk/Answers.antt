@@ -1,26 +1,4 @@
-use Rattle.std.specs.Prelude.{◌≡◌, ℕ, Err}
-use Rattle.std.proofs.Common.{ap, inl, refl, ◌∙◌}
-use Rattle.dm_store.specs.Saved.{SavedSet, Settles}
-use Rattle.dm_store.specs.declared.store.StoreFault.{StoreFault, TheVariants.Device, TheVariants.Memory}
-use Rattle.dm_assembly_desk.specs.Documents.{IsCapacity}
-use Rattle.dm_assembly_desk.specs.Desk.{HasDeskFault, desk_fault_name, move_fault_name, move_fault_of}
-use Rattle.dm_assembly_desk.specs.declared.fault.DeskFault.{DeskFault}
-use Rattle.dm_assembly_desk.specs.declared.fault.DeskFault.TheVariants as faults
-use Rattle.relay_desk_commands.specs.Desks.HasNoDesk.{not_opened}
 use Rattle.relay_desk_commands.proofs.desk_opening.open_desk.Goals as goal
 
-desk_fault : (set : SavedSet) (capacity : ℕ) (why : StoreFault) → IsCapacity capacity → Settles set (Err why) set
-    → (fault : DeskFault) × HasDeskFault set capacity fault × (move_fault_name (move_fault_of why) ≡ desk_fault_name fault)
-desk_fault set capacity Device is settles = (faults.Device, (is, settles.device refl), refl)
-desk_fault set capacity Memory is settles = (faults.Memory, (is, inl (settles.memory refl)), refl)
-
-pub returns-in-Err-settle : goal.returns-in-Err-settle
-returns-in-Err-settle g c =
-    let opens = c.in-Ok.ensures.0 in
-    let settles = rw c.settle.ensures.same at c.in-Err-settle.ensures.settles in
-    let found = desk_fault _ c.args.capacity c.in-Err-settle.fault opens.opens.is_capacity settles in
-    rw (c.end.ensures.store, c.end.ensures.set, c.settle.ensures.same) (
-      _,
-      not_opened found.0 opens.moves found.1 (ap move_fault_name c.from.ensures ∙ found.2),
-      rw (← c.in-Ok.ensures.1, c.end.ensures.status, ← c.name.ensures) c.refuse-status.ensures,
-    )
+pub returns-in-Err : goal.returns-in-Err
+returns-in-Err g c = (_, rw (c.refuse.ensures.store, c.refuse.ensures.set) c.in-Err.ensures, c.refuse.ensures.told)

@@ -8,7 +8,7 @@ returns-in_default g c = record {
   done = c.do_between-done.result.standard;
   between = c.do_between-done.ensures;
   is_at = rw (sym c.in_default.ensures.path) refl;
-  noted = c.noted-standard.ensures;
+  noted = c.noted-standard.ensures.notes;
 }
 
 pub returns : goal.returns
@@ -19,8 +19,8 @@ returns g c = record {
   between = c.do_between-done-2.ensures;
   is_at = rw (sym c.in-Some.ensures.path) (
     c.in-Ok.ensures.there,
-    c.close-note.ensures.there,
-    λ other is_other. c.close-note.ensures.others other is_other ∙ c.open.ensures.others other is_other,
+    c.close-closed.ensures.there,
+    λ other is_other. c.close-closed.ensures.others other is_other ∙ c.open.ensures.others other is_other,
   );
-  noted = c.noted-standard-2.ensures;
+  noted = c.noted-standard-2.ensures.notes;
 }

@@ -1,6 +1,6 @@
 use Rattle.std.proofs.Common.{sym, refl, inl, inr}
 use Rattle.relay.specs.Program.{system_at}
-use Rattle.relay.proofs.Exporting.{not_begun}
+use Rattle.relay.proofs.NotBegun.{not_begun}
 use Rattle.relay.proofs.system.System.do_saved.Goals as goal
 
 -- a command that was not begun: its refusal, and that all is as it was
@@ -30,5 +30,5 @@ returns g c = record {
   done = _;
   does = rw c.in-Ok.is at c.do_kept-ended.ensures.does;
   output = c.do_kept-ended.ensures.output;
-  saves = inr (c.if-status-ne0.false, rw (sym c.as_slice.ensures.value) c.save_output-status.ensures);
+  saves = inr (c.if-status-ne0.false, rw (sym c.as_slice.ensures.value) c.save_output-status.ensures.saves);
 }

@@ -1,9 +1,8 @@
-use Rattle.std.proofs.Common.{rules, ◌≡◌, true, true≢false, Ok, Err, ap, refl, sym, ◌∙◌}
+use Rattle.std.proofs.Common.{rules, ◌≡◌, Ok, Err, refl, sym, ◌∙◌}
 use Rattle.std.proofs.lemmas.Result.{err_from_is_err_and}
-use Rattle.relay_desk_commands.specs.Desks.{ScansPicture.accepted, ScansPicture.no_grid, ScansPicture.refused, ScansPicture.unsettled, is_of_image}
-use Rattle.dm_assembly_desk.specs.declared.fault.ScanFault.TheVariants.{Label}
-use Rattle.relay_desk_commands.proofs.ScanLaws.{after_scan, either, ends_note, no_save}
-use Rattle.relay_desk_commands.proofs.scan.ScanningOnImages.answer.Goals.{in-Label-Border, in_default-matches, in_default-matches-4, in-Label-Block, in_default-matches-2, in_default-matches-2-2, in-Save, in_default-matches-3}
+use Rattle.relay_desk_commands.specs.Desks.{ScansPicture.accepted, ScansPicture.no_grid, ScansPicture.refused, ScansPicture.unsettled}
+use Rattle.relay_desk_commands.proofs.ScanLaws.{after_scan, ends_note, no_save}
+use Rattle.relay_desk_commands.proofs.scan.ScanningOnImages.answer.Goals.{in-Save, in_default-matches}
 use Rattle.relay_desk_commands.proofs.scan.ScanningOnImages.answer.Goals as goal
 
 pub returns-in_default-clause-answer : goal.returns-in_default-clause-answer
@@ -47,33 +46,20 @@ returns-in_err-put_accepted-in-Ok-accepted-clause-answer g c =
       told = (rw c.name-kind.ensures at c.put_accepted.ensures.part, c.in_err-put_accepted-in-Ok-accepted.ensures.failed);
     }
 
-pub returns-after-matches-3-clause-answer : goal.returns-after-matches-3-clause-answer
-returns-after-matches-3-clause-answer g c =
+pub returns-after-matches-clause-answer : goal.returns-after-matches-clause-answer
+returns-after-matches-clause-answer g c =
     let fault = c.in-Err-accepted.fault in
     let accepts = rw c.in-Err-accepted.is at c.in-Ok.ensures.answers in
     let ends = after_scan accepts.opened _ (Err fault) c.accept.new.self.desk c.requires.running accepts.scans in
-    let border : c.match-matches.matches ≡ true → is_of_image fault ≡ true = elim c.match-matches.branch [
-      | in-Label-Border w ↦ λ e.
-          (let is = w.in-Label-Border.is in ap is_of_image (is ∙ ap Label (rw is at w.in-Label-Border.field-0-is)))
-      | in_default-matches w ↦ λ e. absurd (true≢false (sym e ∙ w.matches-is))
-      | in_default-matches-4 w ↦ λ e. absurd (true≢false (sym e ∙ w.matches-is))
-    ] in
-    let block : c.match-matches-2.matches ≡ true → is_of_image fault ≡ true = elim c.match-matches-2.branch [
-      | in-Label-Block w ↦ λ e.
-          (let is = w.in-Label-Block.is in ap is_of_image (is ∙ ap Label (rw is at w.in-Label-Block.field-0-is)))
-      | in_default-matches-2 w ↦ λ e. absurd (true≢false (sym e ∙ w.matches-is))
-      | in_default-matches-2-2 w ↦ λ e. absurd (true≢false (sym e ∙ w.matches-is))
-    ] in
-    let may = either c.match-matches.matches c.match-matches-2.matches border block in
-    let last : c.match-matches-3.matches ≡ c.accept.new.self.desk.is_failed = elim c.match-matches-3.branch [
+    let last : c.match-matches.matches ≡ c.accept.new.self.desk.is_failed = elim c.match-matches.branch [
       | in-Save w ↦ w.matches-is ∙ sym (rw w.in-Save.is at ends)
-      | in_default-matches-3 w ↦ w.matches-is ∙ sym (ends ∙ no_save fault w.in_default-matches-3.not-Save)
+      | in_default-matches w ↦ w.matches-is ∙ sym (ends ∙ no_save fault w.in_default-matches.not-Save)
     ] in record {
       said = _;
       answers = refused c.in-Some.grid fault c.id_of_label-id.result c.in-Some.ensures.0 c.in-Some.ensures.1 accepts
           c.id_of_label-id.ensures (
             c.deref-in-Err-accepted.result.now,
-            ends_note may c.deref-in-Err-accepted.ensures c.note_ending-ending-in-Err-accepted.ensures,
+            rw c.deref-in-Err-accepted.ensures c.ending_of-ending.ensures,
             rw c.name-name-in-Err-accepted.ensures at c.put_image_note-in-Err-accepted.ensures,
           );
       told = rw (c.name-name-in-Err-accepted.ensures, last) at c.put_refused-in-Err-accepted.ensures;

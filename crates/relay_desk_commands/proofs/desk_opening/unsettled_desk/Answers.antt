@@ -1,0 +1,20 @@
+use Rattle.std.proofs.Common.{sym}
+use Rattle.relay_desk_commands.specs.Desks.HasNoDesk.{not_moved, not_opened}
+use Rattle.relay_desk_commands.proofs.desk_opening.unsettled_desk.Goals as goal
+
+pub returns-in-Err : goal.returns-in-Err
+returns-in-Err g c = not_moved c.in-Err.fault c.in-Err.ensures c.name-name.ensures
+
+pub returns-in-Ok-open_unsettled : goal.returns-in-Ok-open_unsettled
+returns-in-Ok-open_unsettled g c =
+    let opens = c.in-Ok-open_unsettled.ensures.ok in
+    let moves = rw (sym opens.same) at c.in-Ok.ensures in
+    let is = rw (sym opens.same) at opens in
+    (record { moves = (_, moves); opens = is }, c.in-Ok-open_unsettled.ensures.order)
+
+pub returns-in-Err-open_unsettled : goal.returns-in-Err-open_unsettled
+returns-in-Err-open_unsettled g c =
+    let same = sym c.in-Err-open_unsettled.ensures.same in
+    let fault = rw same at c.in-Err-open_unsettled.ensures.fault in
+    let moves = rw same at c.in-Ok.ensures in
+    not_opened c.in-Err-open_unsettled.refused.fault (c.in-Ok.field-0, moves) fault c.name-name-in-Err-open_unsettled.ensures

@@ -1,0 +1,9 @@
+use Rattle.std.proofs.Common.{◌≡◌, ap, arith, length, vec_len}
+use Rattle.dm_assembly_desk.specs.Documents.{summaries}
+use Rattle.relay_desk_commands.proofs.lines.room_text.Goals as goal
+
+pub returns : goal.returns
+returns g c =
+    let count : c.len-count.result ≡ length (summaries c.args.desk.now.held) =
+    grind (arith, vec_len, ap length c.in_ok-held.ensures.list) in
+    rw (← count) c.format.ensures.ok
