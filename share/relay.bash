@@ -15,7 +15,7 @@ _relay() {
     left) words='--file --help' ;;
     audit) words='--help' ;;
     scan) words='--capacity --file --help' ;;
-    deliver) words='--file --help --id --to' ;;
+    deliver) words='--all --file --help --id --to' ;;
     forget) words='--file --help --id' ;;
     export) words='--all --file --help --id --to' ;;
     import) words='--capacity --file --help' ;;

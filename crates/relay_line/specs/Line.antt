@@ -5,7 +5,7 @@ use Rattle.std.specs.Str.Parse.{digits_value, without_leading_plus}
 use Rattle.clap.specs.Walk.{Row, all_of, first_of, one_of}
 use Rattle.dm_encodation.specs.declared.scheme.Scheme.TheVariants.{Ascii}
 use Rattle.relay_command.specs.{declared.command.Command.Command, declared.command.Labels.Labels, Schemes.scheme_name}
-use Rattle.relay_command.specs.declared.command.Command.TheVariants.{Words, Draw, Read, Plan, Ticket, Ledger, Print, Give, GiveLast, Take, Left, Audit, Scan, Deliver, Forget, Export, ExportAll, Import, Held, Copy, World}
+use Rattle.relay_command.specs.declared.command.Command.TheVariants.{Words, Draw, Read, Plan, Ticket, Ledger, Print, Give, GiveLast, Take, Left, Audit, Scan, Deliver, DeliverAll, Forget, Export, ExportAll, Import, Held, Copy, World}
 use Rattle.relay_command.specs.declared.command.Labels.TheVariants.{OfSide, AtMost}
 use Rattle.relay_line.specs.declared.{line.CommandLine.CommandLine, fault.LineFault.LineFault}
 use Rattle.relay_line.specs.declared.fault.LineFault.TheVariants.{Line, Memory}
@@ -26,6 +26,7 @@ command_name (Left file) = codes "left"
 command_name Audit = codes "audit"
 command_name (Scan file capacity) = codes "scan"
 command_name (Deliver file id) = codes "deliver"
+command_name (DeliverAll file folder) = codes "deliver"
 command_name (Forget file id) = codes "forget"
 command_name (Export file id) = codes "export"
 command_name (ExportAll file folder) = codes "export"
@@ -90,6 +91,7 @@ module _ (found : List Row) where
   HasValues Audit = Unit {0}
   HasValues (Scan file capacity) = HasText "file" file.now × HasNumber "capacity" capacity
   HasValues (Deliver file id) = HasText "file" file.now × HasText "id" id.now
+  HasValues (DeliverAll file folder) = HasText "file" file.now × HasText "all" folder.now
   HasValues (Forget file id) = HasText "file" file.now × HasText "id" id.now
   HasValues (Export file id) = HasText "file" file.now × HasText "id" id.now
   HasValues (ExportAll file folder) = HasText "file" file.now × HasText "all" folder.now

@@ -65,22 +65,22 @@ pub static EXPLANATIONS: [&str; 45] = [
     is 64 for `scan` and `import`, and 1,024 for others.\n  \
     What to do: give a larger `--capacity`, up to 1,024. Beyond that, while no\n  \
     command runs, move files to another desk's folder that has none of these\n  names.\n",
-    "Absent\n  From: `print`, `give`, `take`, `left`.\n  There is no ledger at this path.\n  \
-    What to do: check `--file`, or make one with `ledger`.\n",
+    "Absent\n  From: `print`, `give`, `take`, `left`, `--all`.\n  There is no ledger, or no desk, at this path.\n  \
+    What to do: check `--file`, or make a ledger with `ledger`.\n",
     "Exists\n  From: `ledger`.\n  A file is at this path already.\n  \
     What to do: a ledger is made only once; use another path.\n",
     "Device\n  From: mostly commands with `--file`.\n  \
     A file can't be used. Another program is using it, it is no plain file, or\n  \
     it or its folder can't be read, locked or synced. A command that locks also\n  \
-    refuses a second name (hard link), and a reserved name for a new file\n  \
-    (LIMITS.md). From `ledger`, or from the move of an old file, it may also\n  mean that the save failed.\n  \
+    refuses a second name (hard link), and a new ledger or desk where none may\n  \
+    be (LIMITS.md). From `ledger`, or from the move of an old file, it may also\n  mean that the save failed.\n  \
     What to do: read the line `relay: PATH: WHY`. Wait for the other program, or\n  \
     correct what the line names. After `ledger`, check with `left`: the ledger\n  may be there.\n",
     "Save\n  From: all that save, except `ledger`.\n  \
     The save failed. Perhaps the disk is full, the folder is missing, the lock\n  \
-    file was removed, or the file of `--to` or `--all` exists or has a reserved\n  \
-    name. Nothing was printed or given. But the ID or the range may be used up,\n  \
-    the ticket taken, the page held, or the document forgotten.\n  \
+    file was removed, or the file of `--to` or `--all` exists, or is where none\n  \
+    may be (LIMITS.md). Nothing was printed or given. But the ID or the range\n  \
+    may be used up, the ticket taken, the page held, or the document forgotten.\n  \
     What to do: read the line `relay: PATH: WHY`, and correct what it names.\n  \
     Then run the command again. Before you repeat a `give`, look with `left`:\n  its IDs may be lost.\n",
     "Write\n  From: all (`read` and `scan` say nothing).\n  \

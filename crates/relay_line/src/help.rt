@@ -2,9 +2,9 @@
 
 use crate::options::Row;
 use crate::options::rows::{
-    ALL, ANY_ID, CAPACITY, COPY_SIDE, COUNT, DESK, FIRST, ID, IMAGES, LABELS, LAST, LEAST_SIDE,
-    LEDGER, LEDGERS, NUMBER, OWN_NUMBER, PAGE, PAGES, PLAIN, REFUSAL, SAVED, SCHEME, SIDE,
-    SOME_FIRST, SOME_LAST, TICKET, TO,
+    ALL, ALL_PAGES, ANY_ID, CAPACITY, COPY_SIDE, COUNT, DESK, FIRST, ID, IMAGES, LABELS, LAST,
+    LEAST_SIDE, LEDGER, LEDGERS, NUMBER, OWN_NUMBER, PAGE, PAGES, PLAIN, REFUSAL, SAVED, SCHEME,
+    SIDE, SOME_FIRST, SOME_LAST, TICKET, TO,
 };
 
 /// A command, its options, and what its help says above and below them.
@@ -256,15 +256,22 @@ Example:
     Page {
         name: "deliver",
         about: "Gives back a document when all its pages are held",
-        usage: "relay deliver --file DESK --id IIII [--to FILE]",
-        rows: &[DESK, ID, SAVED],
+        usage: "relay deliver --file DESK (--id IIII [--to FILE] | --all DIR)",
+        rows: &[DESK, ANY_ID, SAVED, ALL],
         more: "\
 Writes just the document, which stays at the desk. If a page is missing, nothing
 is written but `refused Incomplete`, to standard error. With `--to` the document
 is on the disk once the command exits with 0; FILE must not exist before.
 
-Example:
-  relay deliver --file desk --id 0101 > letter",
+With `--all` the same holds of each complete document, with DIR/IIII as FILE;
+DIR must be there. A file that is there already stays as it was, its document is
+refused `Save`, and the next ones are saved all the same. At the end standard
+error says how many documents are incomplete. If the desk can't be opened,
+nothing is saved. All other refusals go to standard error too.
+
+Examples:
+  relay deliver --file desk --id 0101 > letter
+  relay deliver --file desk --all folder",
     },
     Page {
         name: "forget",
@@ -282,14 +289,16 @@ Example:
         name: "export",
         about: "Writes the pages of a document for another desk",
         usage: "relay export --file DESK (--id IIII [--to FILE] | --all DIR)",
-        rows: &[DESK, ANY_ID, SAVED, ALL],
+        rows: &[DESK, ANY_ID, SAVED, ALL_PAGES],
         more: "\
 The pages stay at the desk. `relay import` takes them in at another. A refusal
 goes to standard error. With `--to` the pages are on the disk once the command
-exits with 0; FILE must not exist before. `--all` does the same for each
-document, with DIR/IIII as FILE; DIR must be there. A refused document doesn't
-stop the others. But if a file of the desk is unusable, `--all` saves nothing,
-and prints the lines of `held` to standard error.
+exits with 0; FILE must not exist before.
+
+With `--all` the same holds of each document, complete or not, with DIR/IIII as
+FILE; DIR must be there. A file that is there already stays as it was, its
+document is refused `Save`, and the next ones are saved all the same. If the
+desk can't be opened, nothing is saved.
 
 Examples:
   relay export --file desk --id 0101 > 0101.export

@@ -5,11 +5,13 @@
 //! an explanation, else 2. Not proved: what the parser finds on a line, and texts; tests show them.
 #![tactic(auto)]
 
+mod check;
 mod explain;
 mod explanations;
 mod fault;
 mod help;
 mod line;
+mod message;
 mod options;
 mod parse;
 

@@ -2,32 +2,31 @@
 
 use crate::help::{self, Page};
 use crate::parse::VERSION;
-use clap::builder::ValueParser;
-use clap::{Arg, ArgAction, ArgGroup, Command};
-use relay_command::SCHEMES;
+use clap::{Arg, ArgAction, Command};
 use std::alloc::{AllocError, Global};
 
-// How an argument stands on a line: `--NAME VALUE`, if nothing says more; only `With` this other one; `Not` with it;
-// with this `Default` if it is left out; as a `Flag`, `--NAME`; as at most one `Word`, or any number of `Words`.
+// How an argument stands on a line: `--NAME VALUE`, if nothing says more; with this `Default` if it is left out; as a
+// `Flag`, `--NAME`; as at most one `Word`, or any number of `Words`.
 #[derive(Clone, Copy)]
 #[rattlefmt::skip]
-pub enum Kind { Optional, With(&'static str), Not(&'static str), Required, Default(&'static str), Flag, Word, Words }
+pub enum Kind { Optional, Required, Default(&'static str), Flag, Word, Words }
 
-// What the value of an argument has to be. The parser's own type has more in it, which would stand in each proof.
+// What the value of an argument has to be: any text; a path, or a path but `-`, of which this is said; a number from
+// here to there; or the name of an encodation. The parser takes any text, and `check` looks at it.
 #[derive(Clone, Copy)]
 #[rattlefmt::skip]
-pub enum Values { Text, NotEmpty, Number(i64, i64), Scheme }
+pub enum Values { Text, Path, NoDash(&'static str), Number(u16, u16), Scheme }
 
 // An argument: its name, what the helps call its value, its kind, what its value has to be, and its help.
 #[derive(Clone, Copy)]
 #[rattlefmt::skip]
-pub struct Row(&'static str, &'static str, Kind, Values, &'static str);
+pub struct Row(pub &'static str, pub &'static str, pub Kind, pub Values, pub &'static str);
 
 // The arguments of the commands.
 #[rattlefmt::skip]
 pub mod rows {
-    use super::{Kind::{Default, Flag, Optional, Required, With, Not, Word, Words}, Row};
-    use super::Values::{self, NotEmpty, Number, Scheme, Text};
+    use super::{Kind::{Default, Flag, Optional, Required, Word, Words}, Row};
+    use super::Values::{self, NoDash, Number, Path, Scheme, Text};
 
     const U16: Values = Number(0, 65_535);
     const SIDE_HELP: &str = "modules per side: 10 to 26 by twos, 32, 36, 40, 44, 48,\n\
@@ -47,62 +46,49 @@ pub mod rows {
     const COUNT_HELP: &str = "the last N consecutive free IDs, in place of --first\n\
         and --last";
     const SAVED_HELP: &str = "save it as this file, in place of the standard output";
+    const SAVED_DASH: &str = "--to takes no `-`: without --to the output is the standard output, and `./-` names a file";
+    const ALL_DASH: &str = "--all takes no `-`: it saves in a folder, and `./-` names one";
+    const LEDGER_DASH: &str = "`audit` takes no `-`: it reads tickets from the standard input, and `./-` names a file";
     pub const SIDE: Row = Row("side", "SIDE", Optional, Number(10, 132), LABEL_SIDE_HELP);
     pub const LEAST_SIDE: Row = Row("side", "SIDE", Default("10"), Number(10, 132), SIDE_HELP);
     pub const COPY_SIDE: Row = Row("side", "SIDE", Required, Number(10, 132), LABEL_SIDE_HELP);
     pub const LABELS: Row = Row("labels", "K", Optional, Number(2, 16), LABELS_HELP);
     pub const SCHEME: Row = Row("scheme", "SCHEME", Default("ascii"), Scheme, SCHEME_HELP);
     pub const PLAIN: Row = Row("plain", "", Flag, Text, "draws in PBM's plain form, P1, in place of P4");
-    pub const LEDGER: Row = Row("file", "LEDGER", Required, NotEmpty, "the file that holds the ledger");
-    pub const DESK: Row = Row("file", "DESK", Required, NotEmpty, "the desk; its files are in the folder DESK.pages");
+    pub const LEDGER: Row = Row("file", "LEDGER", Required, Path, "the file that holds the ledger");
+    pub const DESK: Row = Row("file", "DESK", Required, Path, "the desk; its files are in the folder DESK.pages");
     pub const TO: Row = Row("to", "N", Required, U16, "the number of the other printer");
     pub const NUMBER: Row = Row("number", "N", Required, U16, "the ledger's number, up to 65535");
     pub const OWN_NUMBER: Row = Row("number", "N", Default("0"), U16, "the printer's number, up to 65535");
     pub const FIRST: Row = Row("first", "N", Required, U16, FIRST_HELP);
     pub const LAST: Row = Row("last", "N", Required, U16, LAST_HELP);
-    pub const SOME_FIRST: Row = Row("first", "N", With("last"), U16, FIRST_HELP);
-    pub const SOME_LAST: Row = Row("last", "N", With("first"), U16, LAST_HELP);
+    pub const SOME_FIRST: Row = Row("first", "N", Optional, U16, FIRST_HELP);
+    pub const SOME_LAST: Row = Row("last", "N", Optional, U16, LAST_HELP);
     pub const COUNT: Row = Row("count", "N", Optional, Number(1, 64_516), COUNT_HELP);
-    pub const LEDGERS: Row = Row("images", "LEDGERS", Words, NotEmpty, "the files that hold the ledgers");
+    pub const LEDGERS: Row = Row("images", "LEDGERS", Words, NoDash(LEDGER_DASH), "the files that hold the ledgers");
     pub const TICKET: Row = Row("ticket", "HEX", Required, Text, HEX_HELP);
     pub const CAPACITY: Row = Row("capacity", "N", Default("64"), U16, "how many documents it may hold, 1 to 1024");
     pub const ID: Row = Row("id", "IIII", Required, Text, ID_HELP);
     pub const ANY_ID: Row = Row("id", "IIII", Optional, Text, ID_HELP);
     pub const PAGE: Row = Row("page", "M", Required, Number(1, 16), "the page, from 1 to 16");
-    pub const SAVED: Row = Row("to", "FILE", Optional, NotEmpty, SAVED_HELP);
-    pub const ALL: Row = Row("all", "DIR", Not("to"), NotEmpty, "save each document's pages in this folder, by ID");
-    pub const IMAGES: Row = Row("images", "IMAGES", Words, Text, IMAGES_HELP);
-    pub const PAGES: Row = Row("images", "FILES", Words, Text, "files of pages, in turn; `-` is the standard input");
+    pub const SAVED: Row = Row("to", "FILE", Optional, NoDash(SAVED_DASH), SAVED_HELP);
+    pub const ALL: Row = Row("all", "DIR", Optional, NoDash(ALL_DASH), "save each complete document in this folder, by ID");
+    pub const ALL_PAGES: Row = Row("all", "DIR", Optional, NoDash(ALL_DASH), "save each document's pages in this folder, by ID");
+    pub const IMAGES: Row = Row("images", "IMAGES", Words, Path, IMAGES_HELP);
+    pub const PAGES: Row = Row("images", "FILES", Words, Path, "files of pages, in turn; `-` is the standard input");
     pub const REFUSAL: Row = Row("name", "NAME", Word, Text, "the name of a refusal; without one, prints all names");
 }
 
-fn parser_of(values: Values) -> ValueParser<'static> {
-    match values {
-        Values::Text => ValueParser::String,
-        Values::NotEmpty => ValueParser::NonEmptyString,
-        Values::Number(least, most) => ValueParser::Signed(least, most),
-        Values::Scheme => ValueParser::Names(&SCHEMES),
-    }
-}
-
-// An argument, as the parser takes it.
-fn argument<'a>(alloc: Global, row: &Row) -> Result<Arg<'a>, AllocError> {
-    let Row(name, value, kind, values, text) = *row;
+// An argument, as the parser takes it: what its value has to be, and whether it has to stand, `check` looks at.
+fn argument<'a>(alloc: Global, row: &Row) -> Arg<'a> {
+    let Row(name, value, kind, _, text) = *row;
     let argument = Arg::new(alloc, name).help(text);
-    if matches!(kind, Kind::Flag) {
-        return Ok(argument.long(name).action(ArgAction::SetTrue));
-    }
-    let argument = argument
-        .value_name(value)
-        .value_parser(parser_of(values))
-        .hide_possible_values(true);
     match kind {
-        Kind::Word => Ok(argument),
-        Kind::Words => Ok(argument.num_args(0..)),
-        Kind::Default(default) => Ok(argument.long(name).default_value(default)),
-        Kind::With(other) => argument.long(name).requires_arg(other),
-        Kind::Not(other) => argument.long(name).conflicts_with(other),
-        _ => Ok(argument.long(name).required(matches!(kind, Kind::Required))),
+        Kind::Flag => argument.long(name).action(ArgAction::SetTrue),
+        Kind::Word => argument.value_name(value),
+        Kind::Words => argument.value_name(value).num_args(0..),
+        Kind::Default(default) => argument.value_name(value).long(name).default_value(default),
+        Kind::Optional | Kind::Required => argument.value_name(value).long(name),
     }
 }
 
@@ -114,24 +100,13 @@ fn command<'a>(alloc: Global, page: &Page) -> Command<'a> {
         .after_help(page.more)
 }
 
-// Two arguments, of which a line needs one.
-fn either<'a>(alloc: Global, one: &'a str, other: &'a str) -> Result<ArgGroup<'a>, AllocError> {
-    let form = ArgGroup::new(alloc, "form").required(true);
-    form.arg(one)?.arg(other)
-}
-
-// A command with its arguments. `print`, `give` and `export` need one of two.
+// A command with its arguments.
 fn subcommand<'a>(alloc: Global, page: &Page) -> Result<Command<'a>, AllocError> {
     let mut command = command(alloc, page);
     for row in page.rows {
-        command = command.arg(argument(alloc, row)?)?;
+        command = command.arg(argument(alloc, row))?;
     }
-    match page.name {
-        "print" => command.group(either(alloc, "side", "labels")?),
-        "give" => command.group(either(alloc, "first", "count")?),
-        "export" => command.group(either(alloc, "id", "all")?),
-        _ => Ok(command),
-    }
+    Ok(command)
 }
 
 /// The whole program.

@@ -7,11 +7,13 @@ ghost use Rattle.relay_command.specs.Schemes.{scheme_name};
 ghost use Rattle.relay_line.specs.Explaining.{explained};
 ghost use Rattle.relay_line.specs.Line.{EndsWithStatus, HasLabels, HasStatus, HasText, HasFiles, HasValues, IsFound, IsFoundIn, IsNamed, command_name, number_at};
 
+use crate::check::faults_of;
 use crate::explain::{explanation_in, names_in};
 use crate::explanations::EXPLANATIONS;
 use crate::fault::LineFault;
-use crate::help;
+use crate::help::Page;
 use crate::line::{CommandLine, saves_output};
+use crate::message::{help_of, message_of, page_of, refusal};
 use crate::options::relay;
 use clap::error::ErrorKind;
 use clap::{ArgMatches, Error};
@@ -25,10 +27,7 @@ pub const VERSION: &str = "0.9\nrattle-kit-13f logic dac8208d650f15bf";
 
 const NO_REFUSAL: &str = "relay: no refusal has this name; `relay explain` lists them\n";
 
-const UNKNOWN: &str = "relay: this command is unknown\n";
-
-// What the program's help leaves out of the parser's lines.
-const HELP_LINE: &str = "\n  help     Print this message or the help of the given subcommand(s)";
+const NO_COMMAND: &str = "relay: no command stands there; `relay --help` lists them\n";
 
 // What a line that is not taken shows.
 fn shown(text: Result<String, AllocError>, status: u8) -> LineFault
@@ -40,35 +39,8 @@ fn shown(text: Result<String, AllocError>, status: u8) -> LineFault
     }
 }
 
-// The parser's message, which begins with the program's name in place of `error`.
-fn message_of(alloc: Global, text: &str) -> Result<String, AllocError>
-    ensures { (rest : List ℕ) → text.now ≡ codes "error: " ++ rest
-        → IfOk result (λ message. string_bytes message ≡ codes "relay: " ++ rest) }
-{
-    match text.strip_prefix("error: ") {
-        Some(rest) => format!(in alloc; "relay: {rest}"),
-        None => String::from_str(alloc, text),
-    }
-}
-
-// The parser's help, with a heading above each group of commands.
-fn help_of(alloc: Global, text: &str) -> Result<String, AllocError> {
-    let mut text = text.replace(alloc, HELP_LINE, "")?;
-    for group in &help::groups() {
-        let (Some(heading), Some(page)) = (group.heading, group.pages.first()) else {
-            continue;
-        };
-        let line = format!(in alloc; "\n  {} ", page.name)?;
-        let with_heading = format!(in alloc; "\n{heading}:{}", line.as_str())?;
-        text = text
-            .as_str()
-            .replace(alloc, line.as_str(), with_heading.as_str())?;
-    }
-    Ok(text)
-}
-
-// The parser's text and status.
-fn fault_of(alloc: Global, error: &Error) -> LineFault
+// What the parser's refusal shows, or the help or version that it gives, and the status.
+fn fault_of(alloc: Global, error: &Error, page: &Page) -> LineFault
     ensures asked { (kind_of error.now ≡ ErrorKind.DisplayHelp) ⊎ (kind_of error.now ≡ ErrorKind.DisplayVersion)
         → EndsWithStatus 0 result }
     ensures wrong { kind_of error.now ≢ ErrorKind.DisplayHelp → kind_of error.now ≢ ErrorKind.DisplayVersion
@@ -80,7 +52,7 @@ fn fault_of(alloc: Global, error: &Error) -> LineFault
         _ => return LineFault::Memory,
     };
     if error.use_stderr() {
-        shown(message_of(alloc, text.as_str()), 2)
+        shown(message_of(alloc, error.kind(), text.as_str(), page), 2)
     } else {
         shown(help_of(alloc, text.as_str()), 0)
     }
@@ -102,7 +74,7 @@ fn explanation_of(alloc: Global, table: &[&'static str], name: Option<&str>) -> 
     }
 }
 
-// The text of an option. The parser has refused what is missing, and all that is not in range.
+// The text of an option. What is missing, and all that is not in range, is refused before a command is made of a line.
 #[tactic(auto, using(crate::proofs::Found::first_value_of))]
 fn text_of<'a>(options: &ArgMatches<'a>, name: &str) -> Option<&'a str>
     ensures { option_map (λ text. text.now) result ≡ first_of name.now (rows_of (found_of options.now)) }
@@ -176,7 +148,7 @@ fn printer_command_of<'a>(name: &str, options: &ArgMatches<'a>) -> Option<Comman
         ("give", Some(number), Some(first), Some(last)) => {
             Some(Command::Give { file, number, to: number_in(options, "to", 0, u16::MAX)?, first, last })
         }
-        ("give", Some(number), ..) => {
+        ("give", Some(number), None, None) => {
             let (to, count) = (number_in(options, "to", 0, u16::MAX)?, number_in(options, "count", 1, 64_516)?);
             Some(Command::GiveLast { file, number, to, count })
         }
@@ -198,6 +170,7 @@ fn desk_command_of<'a>(name: &str, options: &ArgMatches<'a>) -> Option<Command<'
         ("import", _, Some(capacity)) => Some(Command::Import { file, capacity }),
         ("held", id, _) => Some(Command::Held { file, id }),
         ("deliver", Some(id), _) => Some(Command::Deliver { file, id }),
+        ("deliver", None, _) => Some(Command::DeliverAll { file, folder: text_of(options, "all")? }),
         ("forget", Some(id), _) => Some(Command::Forget { file, id }),
         ("export", Some(id), _) => Some(Command::Export { file, id }),
         ("export", None, _) => Some(Command::ExportAll { file, folder: text_of(options, "all")? }),
@@ -213,7 +186,7 @@ fn desk_command_of<'a>(name: &str, options: &ArgMatches<'a>) -> Option<Command<'
 fn unknown(alloc: Global) -> LineFault
     ensures { EndsWithStatus 2 result }
 {
-    shown(String::from_str(alloc, UNKNOWN), 2)
+    shown(String::from_str(alloc, NO_COMMAND), 2)
 }
 
 // A command with the other files of its line.
@@ -246,6 +219,7 @@ fn line_of<'a>(
 fn answer<'a>(
     alloc: Global,
     name: &str,
+    page: &Page,
     matches: &ArgMatches<'a>,
 ) -> Result<CommandLine<'a>, LineFault>
     ensures named { IfOk result (λ line. name.now ≡ command_name line.command) }
@@ -262,6 +236,10 @@ fn answer<'a>(
             Err(explanation_of(alloc, &EXPLANATIONS, text_of(options, "name")))
         }
         (name, Some((_, options))) => {
+            let faults = faults_of(alloc, page, options)?;
+            if !faults.is_empty() {
+                return Err(shown(refusal(alloc, page, faults.as_str()), 2));
+            }
             let Some(command) = command_of(name, options) else {
                 return Err(unknown(alloc));
             };
@@ -289,12 +267,13 @@ pub fn command_line<'a, S: AsStr>(
     let Ok(program) = relay(alloc) else {
         return Err(LineFault::Memory);
     };
+    let page = page_of(words);
     let matches = match program.try_get_matches_from(words) {
         Ok(matches) => matches,
-        Err(error) => return Err(fault_of(alloc, &error)),
+        Err(error) => return Err(fault_of(alloc, &error, &page)),
     };
     match words.get(1) {
-        Some(name) => answer(alloc, name.as_str(), &matches),
+        Some(name) => answer(alloc, name.as_str(), &page, &matches),
         None => Ok(CommandLine {
             command: Command::Words {
                 side: 10,
