@@ -6,14 +6,14 @@ use dm_encodation::Scheme;
 use dm_print_ledger::Range;
 use dm_store::{FileSet, FileStore, Folders, Store, StoreSet};
 use relay_desk_commands::{
-    CopyOptions, EndedAll, Given, copy_command, deliver_command, export_command, forget_command,
-    give_all, held_command, import_command, opening_command, scan_command,
+    CopyOptions, copy_command, deliver_command, export_command, forget_command, held_command,
+    import_command, scan_command,
 };
 use relay_printer_commands::{
     Labels, give_command, give_last_command, ledger_command, left_command, plan_command,
     print_command, take_command, ticket_command,
 };
-use relay_shared::{Streams, refuse, status_after_bytes};
+use relay_shared::Streams;
 use relay_symbol_commands::{Form, draw_command, read_command, words_command};
 use relay_world_command::world_command;
 use std::alloc::{AllocError, Allocator, Global};
@@ -44,10 +44,6 @@ pub enum Call {
     /// An ID.
     Forget(&'static str),
     Export(&'static str),
-    /// What is given of each document, which goes to the output.
-    All(Given),
-    /// The opening before that.
-    Opening,
     /// What it reads.
     Import(&'static [u8]),
     /// Files of two documents, which its line names.
@@ -112,11 +108,11 @@ const SCRIPT: &[u8] =
 
 /// The calls that are made alone, over the file that each asks for.
 #[rattlefmt::skip]
-pub const CALLS: [Call; 24] = [
+pub const CALLS: [Call; 22] = [
     Call::Words, Call::Draw(false), Call::Draw(true), Call::Read, Call::Plan, Call::Ticket,
     Call::GiveLast, Call::World, Call::Ledger, Call::Print, Call::PrintAuto, Call::Give, Call::Take, Call::Left,
     Call::Scan(LABEL), Call::Deliver, Call::Forget(ID), Call::Export(ID), Call::Import(BOTH),
-    Call::All(Given::Document), Call::All(Given::File), Call::Held(None), Call::Held(Some(ID)), Call::Copy,
+    Call::Held(None), Call::Held(Some(ID)), Call::Copy,
 ];
 
 impl Call {
@@ -146,12 +142,9 @@ impl Call {
             Call::Ledger => {}
             _ if self.is_of_printer() => keep(&mut disk, STORE, NEW_LEDGER)?,
             Call::Scan(_) | Call::Import(_) | Call::Held(_) => keep(&mut disk, PAGES, PAGE_2)?,
-            Call::Deliver
-            | Call::Forget(_)
-            | Call::Export(_)
-            | Call::Copy
-            | Call::All(_)
-            | Call::Opening => keep(&mut disk, PAGES, BOTH)?,
+            Call::Deliver | Call::Forget(_) | Call::Export(_) | Call::Copy => {
+                keep(&mut disk, PAGES, BOTH)?;
+            }
             _ => {}
         }
         Ok(disk)
@@ -159,13 +152,8 @@ impl Call {
 
     /// Whether its lines go to the standard error, since its output is not of lines.
     pub fn writes_no_lines(self) -> bool {
-        matches!(
-            self,
-            Call::Draw(_) | Call::Print | Call::PrintAuto | Call::Opening
-        ) || matches!(
-            self,
-            Call::Deliver | Call::Export(_) | Call::All(_) | Call::Copy
-        )
+        matches!(self, Call::Draw(_) | Call::Print | Call::PrintAuto)
+            || matches!(self, Call::Deliver | Call::Export(_) | Call::Copy)
     }
 }
 
@@ -204,23 +192,6 @@ fn of_printer<A: Allocator + Copy, S: Store, R: Read, W: Write, E: Write>(
     print_command(memory, store, streams, 0, labels, Scheme::Ascii).status
 }
 
-// Writes what was given of all documents, one after another, or why nothing was.
-fn put_all<A: Allocator, S: Store, T: StoreSet, R: Read, W: Write, E: Write>(
-    ended: EndedAll<S, T, A>,
-    streams: &mut Streams<R, W, E>,
-) -> u8 {
-    match ended.answer {
-        Ok(all) => {
-            let mut put = Ok(());
-            for document in &all.documents {
-                put = put.and(streams.output.put(&document.bytes));
-            }
-            status_after_bytes(&mut streams.errors, put)
-        }
-        Err(name) => refuse(&mut streams.errors, name),
-    }
-}
-
 // A call on a desk, over any store and set.
 fn of_desk<A: Allocator + Copy, S: Store, T: StoreSet, R: Read, W: Write, E: Write>(
     memory: A,
@@ -234,8 +205,6 @@ fn of_desk<A: Allocator + Copy, S: Store, T: StoreSet, R: Read, W: Write, E: Wri
         Call::Deliver => deliver_command(memory, store, set, streams, ID).status,
         Call::Forget(id) => forget_command(memory, store, set, streams, id).status,
         Call::Export(id) => export_command(memory, store, set, streams, id).status,
-        Call::All(given) => put_all(give_all(memory, store, set, given), streams),
-        Call::Opening => opening_command(memory, store, set, streams).status,
         Call::Import(_) => import_command(memory, store, set, &NO_FILES, streams, CAPACITY).status,
         Call::ImportFiles => import_command(
             memory, store, set, &TWO_FILES, streams, CAPACITY,

@@ -68,14 +68,6 @@ fn commands_are_refused_by_name(rt: HostRuntime) -> Result<(), Fail> {
     Ok(())
 }
 
-#[test]
-fn an_opening_writes_nothing(rt: HostRuntime) -> Result<(), Fail> {
-    let whole = alone_whole(rt.alloc(), Call::Opening)?;
-    assert!(rt; whole.status == 0 && whole.writer.is_empty() && whole.errors.is_empty());
-    assert!(rt; refusals_of(&rt, rt.alloc(), Call::Opening)? > 0);
-    Ok(())
-}
-
 // What an audit writes of these, over this memory; its status is to be 1.
 fn audited(memory: &Refusing<Global>, alloc: Global) -> Option<Vec<u8>> {
     let mut streams = streams_of(alloc, b"".as_slice());

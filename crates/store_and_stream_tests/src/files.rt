@@ -198,25 +198,17 @@ fn replace(rt: &HostRuntime, file: &str, bytes: &[u8], is_new: bool) -> Result<(
     FileStore::new(disk, path).replace(bytes)
 }
 
-// A file that is at the path of a new one stays, and so does what is at the paths of its drafts: the first that is free
-// is taken, and is not left.
+// A file that is at the path of a new one stays, and so does what has the name of its first draft.
 #[test]
 fn a_new_file_takes_the_place_of_nothing(rt: HostRuntime) -> Result<(), Fail> {
     let path = path_of(&rt, "new")?;
-    let [fixed, first, second] = [
-        format!(in rt.alloc(); "{path}.new")?,
-        format!(in rt.alloc(); "{path}.1.new")?,
-        format!(in rt.alloc(); "{path}.2.new")?,
-    ];
-    fs::write(&rt, fixed.as_str(), "on")?;
-    fs::write(&rt, first.as_str(), "o")?;
+    let draft = format!(in rt.alloc(); "{path}.1.new")?;
+    fs::write(&rt, draft.as_str(), "o")?;
     assert!(rt; replace(&rt, path.as_str(), b"one", true) == Ok(()));
     assert!(rt; replace(&rt, path.as_str(), b"three", true) == Err(StoreFault::Device));
-    assert!(rt; held(&rt, path.as_str()) == "one" && held(&rt, second.as_str()) == "nothing");
-    assert!(rt; held(&rt, fixed.as_str()) == "on" && held(&rt, first.as_str()) == "o");
-    for made in [path.as_str(), fixed.as_str(), first.as_str()] {
-        fs::remove_file(&rt, made)?;
-    }
+    assert!(rt; held(&rt, path.as_str()) == "one" && held(&rt, draft.as_str()) == "o");
+    fs::remove_file(&rt, path.as_str())?;
+    fs::remove_file(&rt, draft.as_str())?;
     Ok(())
 }
 
