@@ -14,6 +14,9 @@ use std::{fs, io};
 /// How many drafts may be beside a new file: those that programs write, and those that stops have left.
 pub const MOST_DRAFTS: u8 = 99;
 
+// Why what was saved does not count.
+const REPLACED: &str = "was replaced while it was saved";
+
 /// The name of a draft of the new file at `path`, by its number, 1 to 99.
 ///
 /// # Errors
@@ -46,24 +49,34 @@ pub(crate) fn create_draft<R: Files>(runtime: &R, path: &str) -> io::Result<(R::
 }
 
 // Whether this file is what has the name, which is no link.
-fn has_name<R: Files>(runtime: &R, file: &R::File, path: &str) -> bool {
-    match (file.metadata(), fs::symlink_metadata(runtime, path)) {
-        (Ok(own), Ok(found)) => (own.dev(), own.ino()) == (found.dev(), found.ino()),
-        _ => false,
-    }
+fn has_name<R: Files>(runtime: &R, file: &R::File, path: &str) -> io::Result<bool> {
+    let found = match fs::symlink_metadata(runtime, path) {
+        Err(error) if error.kind() == ErrorKind::NotFound => return Ok(false),
+        found => found?,
+    };
+    let own = file.metadata()?;
+    Ok((own.dev(), own.ino()) == (found.dev(), found.ino()))
 }
 
 /// Removes what is at `path`, if it is still this file.
 pub(crate) fn remove_own<R: Files>(runtime: &R, file: &R::File, path: &str) {
-    if has_name(runtime, file, path) {
+    if matches!(has_name(runtime, file, path), Ok(true)) {
         let _ = fs::remove_file(runtime, path);
     }
+}
+
+// Whether a file system that has no second names refuses one in this way.
+fn is_want_of_links(kind: ErrorKind) -> bool {
+    matches!(kind, ErrorKind::PermissionDenied | ErrorKind::Unsupported)
 }
 
 // Renames a draft where the file system has no second names. An empty file that is made at `path` before keeps others
 // from the name; a stop may leave it there.
 fn rename_draft<R: Files>(runtime: &R, draft: &str, path: &str) -> io::Result<()> {
     let kept = create(runtime, path)?;
+    if !has_name(runtime, &kept, path)? {
+        return Err(io::Error::other(REPLACED));
+    }
     let renamed = fs::rename(runtime, draft, path);
     if renamed.is_err() {
         remove_own(runtime, &kept, path);
@@ -78,16 +91,15 @@ pub(crate) fn name_draft<R: Files>(
     draft: &str,
     path: &str,
 ) -> io::Result<()> {
-    if !has_name(runtime, file, draft) {
+    if !has_name(runtime, file, draft)? {
         return Err(io::Error::other("its draft was removed or replaced"));
     }
     match runtime.hard_link(draft, path) {
-        Ok(()) => {}
-        Err(error) if error.kind() == ErrorKind::AlreadyExists => return Err(error),
-        Err(_) => rename_draft(runtime, draft, path)?,
+        Err(error) if is_want_of_links(error.kind()) => rename_draft(runtime, draft, path)?,
+        linked => linked?,
     }
-    if !has_name(runtime, file, path) {
-        return Err(io::Error::other("was replaced while it was saved"));
+    if !has_name(runtime, file, path)? {
+        return Err(io::Error::other(REPLACED));
     }
     remove_own(runtime, file, draft);
     Ok(())
