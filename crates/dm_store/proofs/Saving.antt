@@ -1,6 +1,6 @@
 -- What each step of a save leaves under the store's name, and what the save has done where it ends at that step.
-use Rattle.std.proofs.Common.{◌≡◌, ◌⊎◌, ◌≢◌, inl, inr, ⊎_elim, ℕ, List, Some, None, Result, Ok, Err, refl, ◌∙◌}
-use Rattle.std.specs.Prelude.{IsOk, IsErr}
+use Rattle.std.proofs.Common.{◌≡◌, ◌⊎◌, ◌≢◌, inl, inr, ⊎_elim, ℕ, List, Some, None, Result, Ok, Err, refl, sym, subst, ◌∙◌}
+use Rattle.std.specs.Prelude.{IsOk, IsErr, IsSome}
 use Rattle.dm_store.specs.Disk.{DiskState, Content, KeepsFile, KeepsAll, PutsFile, Renames, Removes, SyncsEntry, SavesFile}
 use Rattle.dm_store.specs.declared.store.StoreFault.{StoreFault}
 
@@ -27,6 +27,19 @@ keeps_on k l = record {
 
 pub keeps_same : {old : DiskState} {name : List ℕ} → KeepsFile old name old
 keeps_same = record { seen = refl; named = λ keeps. keeps; synced = λ on. on; left = λ content leaves. leaves }
+
+-- a call that keeps a name, with what is answered of it then, comes after others that change nothing there
+pub keeps_name_on : {a b c : DiskState} {name : List ℕ} {P : Type 0} → KeepsFile a name b
+    → (b.keeps_name name → IsSome (b.seen name) → P × KeepsFile b name c)
+    → a.keeps_name name → IsSome (a.seen name) → P × KeepsFile a name c
+keeps_name_on k keeps = λ named has. let kept = keeps (k.named named) (subst IsSome (sym k.seen) has) in
+    (kept.0, keeps_on k kept.1)
+
+-- or before them, and something else is answered
+pub keeps_name_then : {a b c : DiskState} {name : List ℕ} {P Q : Type 0} → Q
+    → (a.keeps_name name → IsSome (a.seen name) → P × KeepsFile a name b) → KeepsFile b name c
+    → a.keeps_name name → IsSome (a.seen name) → Q × KeepsFile a name c
+keeps_name_then other keeps k = λ named has. (other, keeps_on (keeps named has).1 k)
 
 -- no name but the draft's is touched
 abbrev KeepsBut : DiskState → List ℕ → DiskState → Type 0

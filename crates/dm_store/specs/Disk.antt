@@ -1,6 +1,6 @@
 -- What contracts see of a disk: what a reader finds under each name, and what a stop of the machine may leave there.
 -- A stop may come at any moment: a call that it cuts short is a call that fails, and so is each later one.
-use Rattle.std.specs.Prelude.{◌≡◌, ◌≢◌, ◌+◌, ◌⊎◌, ◌++◌, ℕ, Bool, List, take, codes, Option, None, Some, option_map, Result, IsOk, IsErr, IfOk, ◌<◌, ◌/◌, ◌%◌, ◌^◌, zero, suc, false, true, [], ◌∷◌, if◌then◌else◌, ⊤}
+use Rattle.std.specs.Prelude.{◌≡◌, ◌≢◌, ◌+◌, ◌⊎◌, ◌++◌, ℕ, Bool, List, take, codes, Option, None, Some, option_map, Result, IsOk, IsErr, IsSome, IfOk, ◌<◌, ◌/◌, ◌%◌, ◌^◌, zero, suc, false, true, [], ◌∷◌, if◌then◌else◌, ⊤}
 use Rattle.std.specs.Fmt.{digit_glyph}
 use Rattle.std.specs.FinMap as map
 use Rattle.dm_store.specs.declared.store.StoreFault.{StoreFault}
@@ -51,6 +51,10 @@ pub record Syncs (old : DiskState) (name : List ℕ) (answer : Result (Unit {0})
   pub kept : IsOk answer ⊎ old.is_synced name → KeepsFile old name new
   pub done : IsOk answer → new.is_synced name
 
+-- where the disk keeps the name and a file has it, the call fails, and nothing changes there
+abbrev pub KeepsName : DiskState → List ℕ → Result (Unit {0}) StoreFault → DiskState → Type 0
+KeepsName old name answer new = old.keeps_name name → IsSome (old.seen name) → IsErr answer × KeepsFile old name new
+
 -- The file gets another name, in place of the file that had it, unless the disk keeps that name. If its bytes are on the
 -- disk, a stop leaves under the new name what it left before, or these bytes; if they are not, nothing is said. Nothing is
 -- said of the old name.
@@ -59,7 +63,7 @@ pub record Renames (old : DiskState) (from to : List ℕ) (answer : Result (Unit
   pub others : (other : List ℕ) → other ≢ from → other ≢ to → KeepsFile old other new
   pub done : IsOk answer → new.seen to ≡ old.seen from
   pub failed : IsErr answer → (new.seen to ≡ old.seen to) ⊎ (new.seen to ≡ old.seen from)
-  pub none : IsOk answer → old.keeps_name to → old.seen to ≡ None
+  pub keeps : KeepsName old to answer new
   pub synced : old.is_synced from → IsOk answer ⊎ old.is_synced to → new.is_synced to
   pub left : old.is_synced from
       → (content : Content) → new.may_leave to content → old.may_leave to content ⊎ (content ≡ old.seen from)

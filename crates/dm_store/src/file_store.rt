@@ -1,7 +1,7 @@
 //! A store in a file of a disk.
 
 ghost use Rattle.std.specs.Prelude.{◌≡◌, ◌≢◌, ℕ, List, None, Some, Err, IfOk, IsOk, IsErrOf, IsSome, IsTrue};
-ghost use Rattle.dm_store.specs.Disk.{KeepsFile, KeepsAll, SavesFile, IsSettled, draft_of, Content, saved_under};
+ghost use Rattle.dm_store.specs.Disk.{KeepsFile, KeepsAll, KeepsName, SavesFile, IsSettled, draft_of, Content, saved_under};
 ghost use Rattle.dm_store.specs.Saved.{Loads, Replaces, MayLackMemory, SavesOpen, HeldAfterFault};
 
 use crate::disk::Disk;
@@ -17,8 +17,8 @@ fn put_in_place<D: Disk>(disk: &mut D, path: &str, draft: &str) -> Result<(), St
     ensures saves { IsTrue (D.state disk.old).is_honest
         → (bytes : List ℕ) → (D.state disk.old).seen draft.now ≡ Some bytes
         → SavesFile (D.state disk.old) path.now draft.now (Some bytes) result (D.state disk.new) }
-    ensures none { IsTrue (D.state disk.old).is_honest → IsOk result → (D.state disk.old).keeps_name path.now
-        → (D.state disk.old).seen path.now ≡ None }
+    ensures keeps { IsTrue (D.state disk.old).is_honest
+        → KeepsName (D.state disk.old) path.now result (D.state disk.new) }
 {
     disk.sync(draft)?;
     disk.rename(draft, path)?;
@@ -48,8 +48,8 @@ pub(crate) fn replace_file<D: Disk>(
     ensures refused { IsErrOf result StoreFault.Memory → KeepsAll (D.state disk.old) (D.state disk.new) }
     ensures saves { IsTrue (D.state disk.old).is_honest
         → SavesFile (D.state disk.old) path.now draft.now (Some bytes.now) result (D.state disk.new) }
-    ensures none { IsTrue (D.state disk.old).is_honest → IsOk result → (D.state disk.old).keeps_name path.now
-        → (D.state disk.old).seen path.now ≡ None }
+    ensures keeps { IsTrue (D.state disk.old).is_honest
+        → KeepsName (D.state disk.old) path.now result (D.state disk.new) }
 {
     match disk.write(draft, bytes) {
         Ok(()) => {}
@@ -120,9 +120,9 @@ impl<D: Disk, A: Allocator> Store for Filed<D, AtFile, A> {
         ensures saves { IsTrue (D.state self.old.disk).is_honest
             → SavesFile (D.state self.old.disk) self.old.path (draft_of self.old.path) (Some bytes.now)
             result (D.state self.new.disk) }
-        // Where the disk keeps the name, no file had it.
-        ensures none { IsTrue (D.state self.old.disk).is_honest → IsOk result
-            → (D.state self.old.disk).keeps_name self.old.path → (D.state self.old.disk).seen self.old.path ≡ None }
+        // Where the disk keeps the name, the save takes the place of no file.
+        ensures keeps { IsTrue (D.state self.old.disk).is_honest
+            → KeepsName (D.state self.old.disk) self.old.path result (D.state self.new.disk) }
         // If no stop would have taken back what a reader found, a stop leaves what a store under an open plan may hold.
         ensures old_or_new { IsTrue (D.state self.old.disk).is_honest → IsSettled (D.state self.old.disk) self.old.path
             → (content : Content) → (D.state self.new.disk).may_leave self.old.path content

@@ -21,7 +21,7 @@
 //! the file of each key; a remove leaves the old bytes or none, and none once it has answered `Ok`. [`Unsettled`] is a
 //! store whose loads a stop may take back, for those who tell nothing of them before their next save.
 //!
-//! Where a disk keeps names, a save is proved to put a new file only where none was.
+//! Where a disk keeps a name that a file has, a save under it is proved to fail, and to leave that file as it is.
 //!
 //! [`RealDisk`] is the system's own files: it claims nothing. That its few lines do what the contract says is trusted,
 //! and tested; so is the sync by which a folder that was made is kept, which no clause speaks of.

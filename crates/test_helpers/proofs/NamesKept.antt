@@ -1,6 +1,6 @@
 -- A disk that keeps all names does what the disk within does, but for renames.
 use Rattle.std.proofs.Common.{◌≡◌, ◌∙◌, ◌+◌, inl, inr, ⊎_elim, ℕ, List, false, Some, None, Option, Result, refl}
-use Rattle.std.specs.Prelude.{IsErr, is_some, option_map, take}
+use Rattle.std.specs.Prelude.{IsErr, IsSome, is_some, option_map, take}
 use Rattle.dm_store.specs.Disk.{Content, DiskState, KeepsAll, KeepsFile, Removes, Renames, Syncs, WritesFile}
 use Rattle.dm_store.specs.declared.store.StoreFault.{StoreFault}
 use Rattle.dm_store.proofs.Saving.{keeps_on, not_both}
@@ -12,6 +12,9 @@ file_kept kept = record { seen = kept.seen; named = λ _. tt; synced = kept.sync
 
 pub all_kept : {old new : DiskState} → KeepsAll old new → KeepsAll (keeping_names old) (keeping_names new)
 all_kept kept = λ name. file_kept (kept name)
+
+is_none : {there : Content} → there ≡ None → IsSome there → ⊥
+is_none none has = cc
 
 module _ (old new : DiskState) (name : List ℕ) (answer : Result (Unit {0}) StoreFault) where
   pub written : (bytes : List ℕ) → WritesFile old name bytes answer new
@@ -41,7 +44,7 @@ module _ (old new : DiskState) (name : List ℕ) (answer : Result (Unit {0}) Sto
     others = λ other _ _. file_kept (kept other);
     done = λ ok. absurd (not ok);
     failed = λ _. inl (kept to).seen;
-    none = λ ok. absurd (not ok);
+    keeps = λ _ _. (err, file_kept (kept to));
     synced = λ _ why. ⊎_elim (λ ok. absurd (not ok)) (kept to).synced why;
     left = λ _ content leaves. inl ((kept to).left content leaves);
   }
@@ -54,7 +57,7 @@ module _ (old new : DiskState) (name : List ℕ) (answer : Result (Unit {0}) Sto
     done = λ ok. renames.done ok ∙ (kept name).seen;
     failed = λ err. ⊎_elim (λ before. inl (before ∙ (kept to).seen)) (λ after. inr (after ∙ (kept name).seen))
         (renames.failed err);
-    none = λ _ _. none;
+    keeps = λ _ has. absurd (is_none none has);
     synced = λ on why. renames.synced ((kept name).synced on)
         (⊎_elim (λ ok. inl ok) (λ on_to. inr ((kept to).synced on_to)) why);
     left = λ on content leaves. ⊎_elim (λ before. inl ((kept to).left content before))

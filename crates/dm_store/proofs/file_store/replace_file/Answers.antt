@@ -1,6 +1,6 @@
 use Rattle.std.proofs.Common.{Result, Err, ap, refl, subst, sym}
 use Rattle.std.specs.Prelude.{IsTrue, is_err}
-use Rattle.dm_store.proofs.Saving.{ends_early, keeps_on, saves_on, saves_then}
+use Rattle.dm_store.proofs.Saving.{ends_early, keeps_name_on, keeps_name_then, keeps_on, saves_on, saves_then}
 use Rattle.dm_store.specs.declared.store.StoreFault.{StoreFault}
 use Rattle.dm_store.proofs.file_store.replace_file.Goals as goal
 
@@ -34,3 +34,24 @@ returns-in-Err-clause-saves g c = λ honest.
     saves_on _ _ _ _ _ _ _ c.requires writes.others
     (saves_then _ _ _ _ _ _ _ _ (ap is_err c.drop_draft-in-Err.ensures.fault) c.requires
     (c.in-Err.ensures.saves honest_written _ (writes.done refl)) drops)
+
+pub returns-in-Err-Device-clause-keeps : goal.returns-in-Err-Device-clause-keeps
+returns-in-Err-Device-clause-keeps g c = λ honest named has.
+    let drops = c.drop_draft.ensures.others (subst IsTrue (sym c.write.ensures.honesty) honest) in
+    (ap is_err c.drop_draft.ensures.fault, keeps_on ((c.write.ensures.writes honest).others _ c.requires) (drops _ c.requires))
+
+pub returns-in-Err-Memory-clause-keeps : goal.returns-in-Err-Memory-clause-keeps
+returns-in-Err-Memory-clause-keeps g c = λ honest named has. (refl, (c.write.ensures.writes honest).others _ c.requires)
+
+pub returns-in-Ok-put_in_place-clause-keeps : goal.returns-in-Ok-put_in_place-clause-keeps
+returns-in-Ok-put_in_place-clause-keeps g c = λ honest.
+    keeps_name_on ((c.in-Ok.ensures.writes honest).others _ c.requires)
+    (c.in-Ok-put_in_place.ensures.keeps (subst IsTrue (sym c.write.ensures.honesty) honest))
+
+pub returns-in-Err-clause-keeps : goal.returns-in-Err-clause-keeps
+returns-in-Err-clause-keeps g c = λ honest.
+    let honest_written = subst IsTrue (sym c.write.ensures.honesty) honest in
+    let drops = c.drop_draft-in-Err.ensures.others (subst IsTrue (sym c.put_in_place.ensures.honesty) honest_written) in
+    keeps_name_on ((c.in-Ok.ensures.writes honest).others _ c.requires)
+    (keeps_name_then (ap is_err c.drop_draft-in-Err.ensures.fault) (c.in-Err.ensures.keeps honest_written)
+    (drops _ c.requires))
