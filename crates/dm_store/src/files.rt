@@ -104,8 +104,9 @@ pub(crate) fn write_draft<R: Files>(runtime: &R, draft: &str, bytes: &[u8]) -> i
     Ok(file)
 }
 
-// The folder that has the entry `path`, with a slash at its end, so that a pipe that has come there is not opened.
-pub(crate) fn folder_of(path: &str) -> &str {
+/// The folder that has the entry `path`, with a slash at its end, so that a pipe that has come there is not opened; or
+/// `.` where the path names no folder.
+pub fn folder_of(path: &str) -> &str {
     match path.trim_end_matches('/').rsplit_once('/') {
         Some((above, _)) => path.get(..above.len() + 1).unwrap_or("."),
         None => ".",

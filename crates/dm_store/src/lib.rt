@@ -45,6 +45,7 @@ mod unsettled;
 
 pub use disk::{Disk, Folders};
 pub use filed::{AtFile, AtFolder, FileSet, FileStore, Filed};
+pub use files::folder_of;
 pub use fuse::{Fuse, FuseSet, FuseStore, Kept};
 pub use key_files::{PathText, key_of, path_of};
 pub use key_map::KeyMap;

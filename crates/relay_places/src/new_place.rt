@@ -4,7 +4,7 @@
 use crate::notes::{line_of, note_of_draft, note_of_error, note_of_reason};
 use crate::place::Place;
 use crate::reason::Reason;
-use dm_store::draft_path;
+use dm_store::{draft_path, folder_of};
 use std::io::ErrorKind;
 use std::rt::Files;
 
@@ -22,15 +22,6 @@ pub(crate) struct Obstacle {
 fn has_own_ending(place: &Place) -> bool {
     let path = place.file.as_str();
     path.contains(".pages/") || OWN_ENDINGS.iter().any(|ending| path.ends_with(*ending))
-}
-
-// The folder that a path lies in.
-fn folder_of(path: &str) -> &str {
-    match path.rsplit_once('/') {
-        Some(("", _)) => "/",
-        Some((folder, _)) => folder,
-        None => ".",
-    }
 }
 
 // That a place lies in a desk's folder, by the folder's own name, links followed; or why that can't be found out.
@@ -86,6 +77,7 @@ fn note_of_taken(rt: &HostRuntime, place: &Place) -> Option<String> {
 pub(crate) fn obstacle_to_output(rt: &HostRuntime, place: &Place) -> Option<Obstacle> {
     let file = place.file.as_str();
     let note = match &place.file_fault {
+        Some(_) if rt.metadata(file).is_ok() => note_of_taken(rt, place),
         Some(error) if error.kind() == ErrorKind::NotFound => {
             note_of_reason(rt.alloc(), place, Reason::LostLink)
         }
