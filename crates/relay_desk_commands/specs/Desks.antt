@@ -1,5 +1,5 @@
 -- What the commands of desks do to files and streams, and the lines that they write, which are this project's own.
-use Rattle.std.specs.Prelude.{ℕ, List, [], ◌∷◌, ◌++◌, codes, zero, suc, take, ◌+◌, ◌^◌, ◌==◌, Bool, if◌then◌else◌, ◌≡◌, ◌<◌, Option, None, IfSome, Result, Ok, Err, MatchResult, true, false, ◌≤◌, ◌⊎◌, ◌||◌, Some, is_err, IsOk, IsTrue, IsSomeAnd, IsSome, IfOk, All, filter, is_some, length, map as each}
+use Rattle.std.specs.Prelude.{ℕ, List, [], ◌∷◌, ◌++◌, codes, zero, suc, take, ◌+◌, ◌^◌, ◌==◌, Bool, if◌then◌else◌, ◌≡◌, ◌<◌, Option, None, IfSome, Result, Ok, Err, MatchResult, true, false, ◌≤◌, ◌⊎◌, ◌||◌, Some, is_err, IsOk, IsTrue, IsSomeAnd, IsSome, IfOk, All, filter, is_some, length, nat_lt, map as each}
 use Rattle.std.specs.{Fmt.decimal, List.list_all}
 use Rattle.dm_assembly_desk.specs.Documents.{names, Documents, DeskView, KeepsPages, DeskIsInOrder, Pages, summaries, summary, count_at, page_at}
 use Rattle.dm_assembly_desk.specs.declared.{reply.Held.Held, limits.TheConstants.MOST_CAPACITY, reply.Accepted.Accepted, reply.Imported.Imported}
@@ -233,9 +233,10 @@ pub record AtDesk : Type 0 where
   pub desk : DeskView
   pub errors : OutputView
 
--- how many documents a full desk has room for, and that it may have more
+-- how many documents a full desk has room for, and that it may have more, unless it has the most
 abbrev pub room_text : ℕ → List ℕ
-room_text count = codes "; the desk has room for " ++ (decimal count ++ codes ", and with --capacity for up to 1024 documents")
+room_text count = codes "; the desk has room for " ++ (decimal count
+    ++ (if nat_lt count MOST_CAPACITY then codes ", and with --capacity for up to 1024 documents" else codes " documents"))
 
 -- the refusal is of the image itself, and not of what its label says, nor of the desk
 abbrev pub is_of_image : ScanFault → Bool

@@ -7,7 +7,7 @@ ghost use Rattle.relay_shared.specs.Command.{PutsText};
 
 use arrayvec::ArrayString;
 use dm_append_label::FileId;
-use dm_assembly_desk::{Desk, Held};
+use dm_assembly_desk::{Desk, Held, MOST_CAPACITY};
 use dm_store::StoreSet;
 use itoa::Buffer;
 use relay_shared::{id_digits, word_digits};
@@ -15,7 +15,8 @@ use relay_streams::{Output, WriteFault};
 use std::alloc::{AllocError, Allocator};
 use std::io::Write;
 
-/// What a note says of a full desk: how many documents it has room for, as it holds as many.
+/// What a note says of a full desk: how many documents it has room for, as it holds as many, and whether it may have
+/// more.
 ///
 /// # Errors
 /// Where the allocator refuses its memory.
@@ -26,6 +27,9 @@ pub(crate) fn room_text<T: StoreSet, A: Allocator + Copy>(
     ensures { IfOk result (λ text. string_bytes text ≡ room_text (length (summaries desk.now.held))) }
 {
     let count = desk.held()?.len();
+    if count >= MOST_CAPACITY as usize {
+        return format!(in alloc; "; the desk has room for {count} documents");
+    }
     format!(in alloc;
         "; the desk has room for {count}, and with --capacity for up to 1024 documents"
     )
