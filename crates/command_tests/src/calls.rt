@@ -6,14 +6,14 @@ use dm_encodation::Scheme;
 use dm_print_ledger::Range;
 use dm_store::{FileSet, FileStore, Folders, Store, StoreSet};
 use relay_desk_commands::{
-    CopyOptions, copy_command, deliver_command, export_command, forget_command, held_command,
-    import_command, scan_command,
+    CopyOptions, EndedAll, Given, copy_command, deliver_command, export_command, forget_command,
+    give_all, held_command, import_command, scan_command,
 };
 use relay_printer_commands::{
     Labels, give_command, give_last_command, ledger_command, left_command, plan_command,
     print_command, take_command, ticket_command,
 };
-use relay_shared::Streams;
+use relay_shared::{Streams, refuse};
 use relay_symbol_commands::{Form, draw_command, read_command, words_command};
 use relay_world_command::world_command;
 use std::alloc::{AllocError, Allocator, Global};
@@ -41,6 +41,7 @@ pub enum Call {
     /// What it reads.
     Scan(&'static [u8]),
     Deliver,
+    DeliverAll,
     /// An ID.
     Forget(&'static str),
     Export(&'static str),
@@ -108,10 +109,10 @@ const SCRIPT: &[u8] =
 
 /// The calls that are made alone, over the file that each asks for.
 #[rattlefmt::skip]
-pub const CALLS: [Call; 22] = [
+pub const CALLS: [Call; 23] = [
     Call::Words, Call::Draw(false), Call::Draw(true), Call::Read, Call::Plan, Call::Ticket,
     Call::GiveLast, Call::World, Call::Ledger, Call::Print, Call::PrintAuto, Call::Give, Call::Take, Call::Left,
-    Call::Scan(LABEL), Call::Deliver, Call::Forget(ID), Call::Export(ID), Call::Import(BOTH),
+    Call::Scan(LABEL), Call::Deliver, Call::DeliverAll, Call::Forget(ID), Call::Export(ID), Call::Import(BOTH),
     Call::Held(None), Call::Held(Some(ID)), Call::Copy,
 ];
 
@@ -142,7 +143,7 @@ impl Call {
             Call::Ledger => {}
             _ if self.is_of_printer() => keep(&mut disk, STORE, NEW_LEDGER)?,
             Call::Scan(_) | Call::Import(_) | Call::Held(_) => keep(&mut disk, PAGES, PAGE_2)?,
-            Call::Deliver | Call::Forget(_) | Call::Export(_) | Call::Copy => {
+            Call::Deliver | Call::DeliverAll | Call::Forget(_) | Call::Export(_) | Call::Copy => {
                 keep(&mut disk, PAGES, BOTH)?;
             }
             _ => {}
@@ -153,7 +154,10 @@ impl Call {
     /// Whether its lines go to the standard error, since its output is not of lines.
     pub fn writes_no_lines(self) -> bool {
         matches!(self, Call::Draw(_) | Call::Print | Call::PrintAuto)
-            || matches!(self, Call::Deliver | Call::Export(_) | Call::Copy)
+            || matches!(
+                self,
+                Call::Deliver | Call::DeliverAll | Call::Export(_) | Call::Copy
+            )
     }
 }
 
@@ -192,6 +196,26 @@ fn of_printer<A: Allocator + Copy, S: Store, R: Read, W: Write, E: Write>(
     print_command(memory, store, streams, 0, labels, Scheme::Ascii).status
 }
 
+// Gives all documents of a desk. What would go to files goes to the output, one after another.
+fn deliver_all<A: Allocator + Copy, S: Store, T: StoreSet, R: Read, W: Write, E: Write>(
+    memory: A,
+    store: S,
+    set: T,
+    streams: &mut Streams<R, W, E>,
+) -> u8 {
+    let EndedAll { answer, .. } = give_all(memory, store, set, Given::Document);
+    let all = match answer {
+        Ok(all) => all,
+        Err(name) => return refuse(&mut streams.errors, name),
+    };
+    for document in &all.documents {
+        if streams.output.put(document.bytes.as_slice()).is_err() {
+            return refuse(&mut streams.errors, "Write");
+        }
+    }
+    0
+}
+
 // A call on a desk, over any store and set.
 fn of_desk<A: Allocator + Copy, S: Store, T: StoreSet, R: Read, W: Write, E: Write>(
     memory: A,
@@ -203,6 +227,7 @@ fn of_desk<A: Allocator + Copy, S: Store, T: StoreSet, R: Read, W: Write, E: Wri
     match call {
         Call::Scan(_) => scan_command(memory, store, set, &NO_FILES, streams, CAPACITY).status,
         Call::Deliver => deliver_command(memory, store, set, streams, ID).status,
+        Call::DeliverAll => deliver_all(memory, store, set, streams),
         Call::Forget(id) => forget_command(memory, store, set, streams, id).status,
         Call::Export(id) => export_command(memory, store, set, streams, id).status,
         Call::Import(_) => import_command(memory, store, set, &NO_FILES, streams, CAPACITY).status,
