@@ -4,7 +4,8 @@ use Rattle.std.proofs.lemmas.{List.drop_more, List.length-map, List.Elements.All
 use Rattle.std.specs.{Borrow.Bor, Io.KnownBytes.Keeps, Prelude.All, Prelude.IfSome, Prelude.MatchOption, Prelude.string_bytes}
 use Rattle.std.proofs.KnownBytes.{Keeps-refl}
 use Rattle.dm_assembly_desk.specs.{Documents.DeskView, declared.limits.TheConstants.MOST_CAPACITY}
-use Rattle.relay_desk_commands.specs.Desks.{DeskFiles, EndsAtDesk.no_desk, EndsAtDesk.opened, EndsGiving, EndsOnId.of_id, EndsOpening, HasNoDesk, IsTextOfId, OnDesk, OpensDesk, Yields}
+use Rattle.relay_shared.specs.Files.{DeskFiles}
+use Rattle.relay_desk_commands.specs.Desks.{EndsAtDesk.no_desk, EndsAtDesk.opened, EndsGiving, EndsOnId.of_id, EndsOpening, HasNoDesk, IsTextOfId, OnDesk, OpensDesk, Yields}
 use Rattle.relay_desk_commands.specs.declared.documents.Given.{Given, TheVariants.Document, TheVariants.File}
 use Rattle.dm_store.specs.{Saved.SavedSet, declared.store.StoreFault.StoreFault}
 use Rattle.relay_desk_commands.proofs.Reopened.{reopens}

@@ -8,7 +8,8 @@ use Rattle.relay_command.specs.declared.command.Command.TheVariants.{Words, Draw
 use Rattle.relay_streams.specs.{Streams.TakesPart, Streams.AppendsPart, Streams.OutputView, Streams.write_fault_name, declared.fault.WriteFault.TheVariants.Write}
 use Rattle.relay_shared.specs.{Command.FileView, Command.StreamsView, Command.TellsRefusal, Lines.id_text, declared.command.TheConstants.DOCUMENT_BYTES}
 use Rattle.dm_assembly_desk.specs.{Documents.DeskView, Documents.Documents, declared.limits.TheConstants.MOST_CAPACITY}
-use Rattle.relay_desk_commands.specs.{declared.import.TheConstants.IMPORT_BYTES, Desks.OnDesk, Desks.EndsDeliver, Desks.EndsExport, Desks.EndsForget, Desks.EndsImport, Desks.EndsOpening, Desks.EndsScan, Desks.EndsCopy, Desks.EndsHeld, Desks.DeskFiles, Desks.OpensDesk, Desks.ids_given}
+use Rattle.relay_shared.specs.Files.{DeskFiles}
+use Rattle.relay_desk_commands.specs.{declared.import.TheConstants.IMPORT_BYTES, Desks.OnDesk, Desks.EndsDeliver, Desks.EndsExport, Desks.EndsForget, Desks.EndsImport, Desks.EndsOpening, Desks.EndsScan, Desks.EndsCopy, Desks.EndsHeld, Desks.OpensDesk, Desks.ids_given}
 use Rattle.relay_desk_commands.specs.declared.documents.Given.{Given, TheVariants.Document, TheVariants.File}
 use Rattle.relay_printer_commands.specs.{declared.audit.TheConstants.TICKETS_BYTES, Printers.EndsLeft, Printers.OnLedger, Printers.EndsLedger, Printers.EndsAudit, Printers.EndsGive, Printers.EndsGiveLast, Printers.EndsTake, Printers.ledger_at, Printers.EndsPlan, Printers.EndsPrint, Printers.EndsTicket}
 use Rattle.relay_world_command.specs.{declared.world.TheConstants.INPUT_BYTES, World.EndsWorld}

@@ -5,7 +5,8 @@ use Rattle.dm_store.specs.Saved.{Saved, SavedSet}
 use Rattle.dm_assembly_desk.specs.Desk.{Moves, HoldsJointFile, early, at_key, at_last}
 use Rattle.dm_assembly_desk.specs.Documents.{DeskView}
 use Rattle.dm_assembly_desk.proofs.JointContents.{holds_none}
-use Rattle.relay_desk_commands.specs.Desks.{DeskFiles, OpensDesk}
+use Rattle.relay_shared.specs.Files.{DeskFiles}
+use Rattle.relay_desk_commands.specs.Desks.{OpensDesk}
 
 -- after a move the joint file holds no document
 none_left : (old : Saved) (set : SavedSet) (written : ℕ) (old_after : Saved) (set_after : SavedSet) →

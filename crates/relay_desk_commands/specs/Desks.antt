@@ -3,6 +3,7 @@ use Rattle.std.specs.Prelude.{ℕ, List, [], ◌∷◌, ◌++◌, codes, zero, s
 use Rattle.std.specs.{Fmt.decimal, List.list_all}
 use Rattle.dm_assembly_desk.specs.Documents.{names, Documents, DeskView, KeepsPages, DeskIsInOrder, Pages, summaries, summary, count_at, page_at}
 use Rattle.dm_assembly_desk.specs.declared.{reply.Held.Held, limits.TheConstants.MOST_CAPACITY, reply.Accepted.Accepted, reply.Imported.Imported}
+use Rattle.relay_shared.specs.Files.{DeskFiles}
 use Rattle.relay_shared.specs.Lines.{id_text, word_text, accepted_line, imported_line}
 use Rattle.hex.specs.Hex.{decode_sized}
 use Rattle.dm_store.specs.Saved.{Saved, SavedSet, ListsKeys, LoadsOpen, Settles}
@@ -70,11 +71,6 @@ unsound_joint_line name = codes "file joint " ++ (name ++ 10 ∷ [])
 -- after 65,536 images. After a failed save it prints nothing.
 
 -- ---- a desk's files
-
--- the store of the joint file, in which version 1 kept all documents, and the set with a file for each document
-pub record DeskFiles : Type 0 where
-  pub joint : Saved
-  pub set : SavedSet
 
 -- what a command of a desk works on
 pub record OnDesk : Type 0 where

@@ -7,7 +7,8 @@ use Rattle.dm_assembly_desk.specs.declared.limits.TheConstants.{MOST_CAPACITY}
 use Rattle.dm_assembly_desk.proofs.Reopening.{one_held}
 use Rattle.dm_event_history.specs.{Relay.Label, Headline.HaveLeft}
 use Rattle.relay_shared.specs.Command.{FileView, StreamsView}
-use Rattle.relay_desk_commands.specs.Desks.{EndsCopy, EndsCopyOf, EndsHeld, DeskFiles, EndsAtDesk, EndsImport, EndsOnId, HasNoDesk, OnDesk, OpensDesk, EndsCopyOf.no_side, EndsCopyOf.of_side, EndsOnId.no_id, EndsOnId.of_id, EndsImport.not_read, EndsImport.read, EndsImport.read_files, EndsAtDesk.no_desk, EndsAtDesk.opened, HasNoDesk.not_moved, HasNoDesk.not_opened}
+use Rattle.relay_shared.specs.Files.{DeskFiles}
+use Rattle.relay_desk_commands.specs.Desks.{EndsCopy, EndsCopyOf, EndsHeld, EndsAtDesk, EndsImport, EndsOnId, HasNoDesk, OnDesk, OpensDesk, EndsCopyOf.no_side, EndsCopyOf.of_side, EndsOnId.no_id, EndsOnId.of_id, EndsImport.not_read, EndsImport.read, EndsImport.read_files, EndsAtDesk.no_desk, EndsAtDesk.opened, HasNoDesk.not_moved, HasNoDesk.not_opened}
 use Rattle.relay_desk_commands.specs.declared.copy.CopyOptions.{CopyOptions}
 use Rattle.relay_desk_runs.specs.Answered.{HasNoDocuments, HoldsPrinted, HasPrinted}
 use Rattle.relay_desk_runs.proofs.Saving.{ShowsPrinted}

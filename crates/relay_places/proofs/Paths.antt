@@ -3,7 +3,7 @@ use Rattle.std.proofs.Common.{◌≡◌, ◌≢◌, ◌∙◌, List, ℕ, Bool, 
 use Rattle.std.specs.Str.{bytes_eq}
 use Rattle.std.proofs.lemmas.Slice.Eq.{bytes_eq-Decides}
 use Rattle.dm_store.specs.{Saved.Replaces, Saved.Saved, Saved.SavedSet, declared.store.StoreFault.StoreFault}
-use Rattle.relay_desk_commands.specs.Desks.{DeskFiles}
+use Rattle.relay_shared.specs.Files.{DeskFiles}
 use Rattle.relay_places.specs.Places.{HoldNothing, KeepsOthers, PlacesView, SavesNew, files_of}
 
 not_true : (b : Bool) → b ≢ true → b ≡ false

@@ -1,7 +1,7 @@
 -- What is at the paths of a line, and where the files of a command are.
 use Rattle.std.specs.Prelude.{◌≡◌, ℕ, ◌++◌, List, [], ◌∷◌, Bool, true, false, None, not, if◌then◌else◌, IsTrue, IsFalse, codes, string_bytes, ◌≢◌, ◌⊎◌, Result, Err}
 use Rattle.std.specs.{Str.bytes_eq, FinMap.empty}
-use Rattle.relay_desk_commands.specs.Desks.{DeskFiles}
+use Rattle.relay_shared.specs.Files.{DeskFiles}
 use Rattle.dm_store.specs.{Disk.draft_of, Disk.saved_under, Disk.set_in, Disk.unclaimed, Saved.Replaces, Saved.Saved, Saved.SavedSet, Saved.in_memory, declared.store.StoreFault.StoreFault, declared.mem_store.NextSave.TheVariants.Fine}
 use Rattle.relay_places.specs.declared.{place.Access.Access, place.Place.Place, locked.Found.Found, mem_places.MemPlace.MemPlace, place.Access.TheVariants.Creates, place.Access.TheVariants.Makes, place.Access.TheVariants.Saves, place.Access.TheVariants.Looks}
 

@@ -16,7 +16,8 @@ use Rattle.dm_event_history.proofs.{Gotten.get_more, Gotten.set_at, Headline.eac
 use Rattle.dm_event_history.proofs.Stays.{have_more, more_left, more_pages}
 use Rattle.relay_command.specs.declared.command.Command.{Command}
 use Rattle.relay_command.specs.declared.command.Command.TheVariants.{Words, Draw, Read, Plan, Ticket, Ledger, Print, Give, GiveLast, Take, Left, Audit, Scan, Deliver, DeliverAll, Forget, Export, ExportAll, Import, Held, Copy, World}
-use Rattle.relay_desk_commands.specs.Desks.{DeskFiles, EndsOpening, OnDesk}
+use Rattle.relay_shared.specs.Files.{DeskFiles}
+use Rattle.relay_desk_commands.specs.Desks.{EndsOpening, OnDesk}
 use Rattle.relay_desk_runs.specs.Answered.{GivesPrinted, HoldsPrinted, HasPrinted, IsNearPrinted, IsOfLabel, IsPrintedFile}
 use Rattle.relay_desk_runs.specs.Answered.GivesPrinted.{nothing as gives_nothing, document as gives_document}
 use Rattle.relay_desk_runs.proofs.{Scanning.each_scan_keeps, Importing.each_forget_keeps, Importing.each_import_keeps}

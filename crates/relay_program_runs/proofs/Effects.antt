@@ -12,7 +12,8 @@ use Rattle.relay_command.specs.declared.command.Command.{Command}
 use Rattle.relay_command.specs.declared.command.Command.TheVariants.{Words, Draw, Read, Plan, Ticket, Ledger, Print, Give, GiveLast, Take, Left, Audit, Scan, Deliver, DeliverAll, Forget, Export, ExportAll, Import, Held, Copy, World}
 use Rattle.relay_printer_commands.specs.Printers.{images_of, ledger_at}
 use Rattle.relay_streams.specs.Streams.{AppendsPart}
-use Rattle.relay_desk_commands.specs.Desks.{DeskFiles, OnDesk}
+use Rattle.relay_shared.specs.Files.{DeskFiles}
+use Rattle.relay_desk_commands.specs.Desks.{OnDesk}
 use Rattle.relay_runs.specs.Runs.{FollowsRun, KeepsLedger}
 use Rattle.relay_runs.proofs.{EachGive.give_follows, EachGive.give_last_follows, EachPrint.print_follows}
 use Rattle.relay_runs.proofs.{EachTake.take_follows, PrintTold.print_out}

@@ -4,7 +4,8 @@ use Rattle.std.specs.{Prelude.Decides, Prelude.map, Prelude.unwrap_or, List.AllB
 use Rattle.std.proofs.lemmas.Slice.Eq.{bytes_eq-Decides}
 use Rattle.relay_command.specs.declared.command.Command.{Command}
 use Rattle.relay_command.specs.declared.command.Command.TheVariants.{Deliver, Export}
-use Rattle.relay_desk_commands.specs.{Desks.DeskFiles, declared.documents.Given.Given}
+use Rattle.relay_shared.specs.Files.{DeskFiles}
+use Rattle.relay_desk_commands.specs.{declared.documents.Given.Given}
 use Rattle.relay_desk_commands.specs.declared.documents.Given.TheVariants.{Document, File}
 use Rattle.relay.specs.Places.{PlacesView}
 use Rattle.relay.specs.Program.{named_path, path_of, DoesAll, DoesAndSaves, DoesAt, GivesEach, IsAt, SystemView, all_command, does, does_all, does_and_saves, does_here, gives_each, has_none, lacks_memory, next_id, no_id, one_command, opens_desk, opens_none, shows}

@@ -6,7 +6,7 @@ use Rattle.relay_command.specs.declared.command.Command.TheVariants.{Deliver, Gi
 use Rattle.relay_command.specs.declared.command.Labels.TheVariants.{OfSide}
 use Rattle.relay_streams.specs.Streams.{OutputView}
 use Rattle.relay_printer_commands.specs.Printers.{IsTextOf}
-use Rattle.relay_desk_commands.specs.Desks.{DeskFiles}
+use Rattle.relay_shared.specs.Files.{DeskFiles}
 use Rattle.relay_runs.proofs.TicketTexts.{ten_ticket}
 use Rattle.relay_program_runs.specs.Law.{AreApart, PrintsUnder, Ran, SomeRan, WritesPrinted, passed, writes, writes_nothing}
 use Rattle.relay_program_runs.specs.Worked.{IsDone, NeedsExports, NeedsFiles, NeedsLabels, NeedsNumbers, NeedsRanges, NeedsTickets, no_files}

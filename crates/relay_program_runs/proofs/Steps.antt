@@ -6,7 +6,7 @@ use Rattle.std.proofs.lemmas.Option.{slice_get-get_or}
 use Rattle.dm_store.specs.Saved.{with_open_plans, Saved, SavedSet}
 use Rattle.dm_print_ledger.specs.Ledger.{JobView, TicketView}
 use Rattle.relay_command.specs.declared.command.Command.{Command}
-use Rattle.relay_desk_commands.specs.Desks.{DeskFiles}
+use Rattle.relay_shared.specs.Files.{DeskFiles}
 use Rattle.relay.specs.Program.{path_of}
 use Rattle.relay_program_runs.specs.Passed.{Made}
 use Rattle.relay_program_runs.specs.Law.{At, Each, IsBlank, IsFirstOfItsId, IsNew, Ran, RunInTurn, SomeRan, TakesGiven, all_made, cut_short, exited, passed}

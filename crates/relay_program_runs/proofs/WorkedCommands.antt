@@ -11,7 +11,7 @@ use Rattle.dm_print_ledger.specs.Ledger.{JobView}
 use Rattle.relay_command.specs.declared.command.Command.TheVariants.{Copy, Deliver, Export, Give, Import, Ledger, Print, Scan, Take}
 use Rattle.relay_command.specs.declared.command.Labels.TheVariants.{OfSide}
 use Rattle.relay_printer_commands.specs.Printers.{IsTextOf, images_of}
-use Rattle.relay_desk_commands.specs.Desks.{DeskFiles}
+use Rattle.relay_shared.specs.Files.{DeskFiles}
 use Rattle.relay_runs.proofs.TicketTexts.{ten_ticket}
 use Rattle.relay_desk_runs.specs.Answered.{grids_scanned}
 use Rattle.relay.specs.Program.{path_of}

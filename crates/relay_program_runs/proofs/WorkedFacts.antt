@@ -28,7 +28,8 @@ use Rattle.relay_printer_commands.specs.Printers.PrintsDocument.{opened as print
 use Rattle.relay_printer_commands.specs.Printers.EndsGive.{opened as give_opened, not_opened as give_not_opened}
 use Rattle.relay_printer_commands.specs.Printers.EndsLedger.{created, refused as not_created}
 use Rattle.relay_printer_commands.specs.Printers.EndsTake.{no_ticket, not_opened as take_not_opened, opened as take_opened}
-use Rattle.relay_desk_commands.specs.Desks.{DeskFiles, EndsExport, EndsImport, OnDesk, EndsCopy, EndsAtDesk.no_desk, EndsAtDesk.opened, EndsOnId.no_id, EndsOnId.of_id, EndsImport.not_read, EndsImport.read}
+use Rattle.relay_shared.specs.Files.{DeskFiles}
+use Rattle.relay_desk_commands.specs.Desks.{EndsExport, EndsImport, OnDesk, EndsCopy, EndsAtDesk.no_desk, EndsAtDesk.opened, EndsOnId.no_id, EndsOnId.of_id, EndsImport.not_read, EndsImport.read}
 use Rattle.relay_desk_commands.specs.Desks.EndsCopyOf.{no_side as no_size, of_side as of_size}
 use Rattle.relay_runs.proofs.{Files.opened as open_as, Ledgers.first_saved, TicketTexts.text_once}
 use Rattle.relay_runs.specs.Runs.{job_ended, ticket_given, ticket_taken, KeepsLedger}

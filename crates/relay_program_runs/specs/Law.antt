@@ -18,7 +18,8 @@ use Rattle.relay_command.specs.declared.command.Command.{Command}
 use Rattle.relay_streams.specs.Streams.{AppendsPart, InputView, OutputView}
 use Rattle.relay_shared.specs.Command.{FileView, ReadsDocument}
 use Rattle.relay_printer_commands.specs.Printers.{images_of}
-use Rattle.relay_desk_commands.specs.Desks.{DeskFiles, IsTextOfId, OnDesk}
+use Rattle.relay_shared.specs.Files.{DeskFiles}
+use Rattle.relay_desk_commands.specs.Desks.{IsTextOfId, OnDesk}
 use Rattle.relay.specs.Program.{Does, path_of}
 use Rattle.relay_program_runs.specs.Passed.{Made, Passed, made_by, passed_by, text_of}
 

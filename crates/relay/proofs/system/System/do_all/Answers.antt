@@ -1,6 +1,6 @@
 use Rattle.std.proofs.Common.{Global, arith}
 use Rattle.relay_places.specs.Places.{KeepsOthers, PlacesView, files_of}
-use Rattle.relay_desk_commands.specs.Desks.{DeskFiles}
+use Rattle.relay_shared.specs.Files.{DeskFiles}
 use Rattle.relay.specs.Program.{OpensBetween, SystemView, opens_desk, opens_none, system_at}
 use Rattle.relay.proofs.AllDocuments.{opened_at, opens_again, refused_at}
 use Rattle.relay.proofs.system.System.do_all.Goals.{in-Ok-answer, in-Err}

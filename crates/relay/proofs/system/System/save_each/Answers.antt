@@ -1,6 +1,6 @@
 use Rattle.std.proofs.Common.{Global, refl, sym, subst}
 use Rattle.std.proofs.{lemmas.List.drop_all, Math.Nat.max-zero, Math.Nat.zero-max}
-use Rattle.relay_desk_commands.specs.Desks.{DeskFiles}
+use Rattle.relay_shared.specs.Files.{DeskFiles}
 use Rattle.relay.specs.Program.{OpensBetween, no_id, system_at}
 use Rattle.relay.proofs.AllDocuments.{given_next, max_again}
 use Rattle.relay.proofs.system.System.save_each.Goals as goal
