@@ -12,7 +12,8 @@ use Rattle.relay_desk_commands.proofs.Reopened.{reopens}
 use Rattle.relay_desk_commands.specs.declared.all_documents.GivenDocument.{GivenDocument}
 use Rattle.relay_shared.specs.Lines.{id_text}
 use Rattle.relay_places.specs.Places.{KeepsOthers, PlacesView, SavesNew}
-use Rattle.relay.specs.{Buffers.IsPartOut, Program.Does, Program.DoesAndSaves, Program.DoesAt, Program.GivesEach, Program.IsAt, Program.Notes, Program.NotesIncomplete, Program.OpensBetween, Program.RefusesNoted, Program.SavesOutput, Program.ShowsOnErrors, Program.StandardView, Program.SystemView, Program.all_command, Program.incomplete_note, Program.lets_all_out, Program.named_path, Program.next_id, Program.one_command, Program.streams_over, Program.system_at}
+use Rattle.relay_buffers.specs.Buffers.{IsPartOut}
+use Rattle.relay.specs.{Program.Does, Program.DoesAndSaves, Program.DoesAt, Program.GivesEach, Program.IsAt, Program.Notes, Program.NotesIncomplete, Program.OpensBetween, Program.RefusesNoted, Program.SavesOutput, Program.ShowsOnErrors, Program.StandardView, Program.SystemView, Program.all_command, Program.incomplete_note, Program.lets_all_out, Program.named_path, Program.next_id, Program.one_command, Program.streams_over, Program.system_at}
 
 -- what was written is out
 all_out : (known : Option (List ℕ)) → IsPartOut known known

@@ -17,7 +17,7 @@ use Rattle.relay_symbol_commands.specs.Symbols.{EndsWords, EndsDraw, EndsRead}
 use Rattle.relay_places.specs.Places.{KeepsOthers, PlacesView, SavesNew}
 use Rattle.dm_store.specs.declared.store.StoreFault.{StoreFault}
 use Rattle.relay_line.specs.{Line.HasStatus, Line.named_images, Line.IsFound, Line.IsNamed, Line.saved_path, Line.saves_output, declared.line.CommandLine.CommandLine, declared.fault.LineFault.LineFault, declared.fault.LineFault.TheVariants.Line, declared.fault.LineFault.TheVariants.Memory}
-use Rattle.relay.specs.Buffers.{IsPartOut}
+use Rattle.relay_buffers.specs.Buffers.{IsPartOut}
 use Rattle.dm_store.specs.declared.store.StoreFault.TheVariants as faults
 
 -- ---- commands

@@ -25,7 +25,7 @@ fn path_of(alloc: Global, folder: &str, document: &GivenDocument) -> Result<Stri
     format!(in alloc; "{folder}/{id}")
 }
 
-// That so many documents are incomplete, if any are.
+// What says how many documents are incomplete, if any are.
 fn note_of_incomplete(alloc: Global, count: usize) -> Option<String>
     ensures { IfSome result (λ note. (0 < count) × (string_bytes note ≡ incomplete_note count)) }
 {
@@ -110,7 +110,8 @@ impl<I: Read + Drop, O: Write + Drop, E: Write + Drop, P: Places> System<I, O, E
         (status, System { standard, places })
     }
 
-    /// Gives what is asked for of all documents of a desk, as files in a folder, unless memory is refused for the paths.
+    /// Gives what is asked for of all documents of a desk, as files in a folder, unless memory is refused for the
+    /// paths.
     pub(crate) fn do_all(self, alloc: Global, all: ForAll<'_>) -> (Result<u8, AllocError>, Self)
         ensures { OrNothing (DoesAll Global all.entry.given all.entry.file all.entry.folder) (Unit {0})
             (system_at self.standard (P.state self.places)) result.0

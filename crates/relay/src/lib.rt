@@ -23,7 +23,6 @@ mod all;
 mod closed_streams;
 mod commands;
 mod line;
-mod line_buffer;
 mod named;
 mod program;
 mod standard;

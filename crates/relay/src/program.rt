@@ -1,12 +1,31 @@
 //! The program over its own streams and files.
 
 use crate::closed_streams::HeldPlaces;
-use crate::line_buffer::ErrorWriter;
 use crate::standard::{StandardStreams, tell};
 use crate::system::System;
 use relay_places::{RealPlaces, note};
-use std::io::{BufReader, ErrorKind};
+use std::io::{BufReader, Error, ErrorKind, Write};
 use std::{env, io};
+
+// Writes text to the standard error. What isn't UTF-8 is refused.
+#[derive(Drop)]
+struct ErrorWriter<'a> {
+    to: &'a HostRuntime,
+}
+
+impl Write for ErrorWriter<'_> {
+    fn write(&mut self, buf: &[u8]) -> io::Result<usize> {
+        let Ok(text) = str::from_utf8(buf) else {
+            return Err(Error::from(ErrorKind::InvalidData));
+        };
+        eprint!(self.to; "{text}")?;
+        Ok(buf.len())
+    }
+
+    fn flush(&mut self) -> io::Result<()> {
+        Ok(())
+    }
+}
 
 // Refuses on the standard error, and gives the exit status.
 fn refuse_on_errors(rt: &HostRuntime, name: &str) -> u8 {

@@ -1,15 +1,15 @@
 //! A command between the standard streams: what it writes goes out through buffers.
 
 ghost use Rattle.std.specs.Prelude.{◌≡◌, map, true};
-ghost use Rattle.relay.specs.Buffers.{promised};
+ghost use Rattle.relay_buffers.specs.Buffers.{promised};
 ghost use Rattle.relay.specs.Program.{DoesBetween, PutsOut, ShowsPart, TellsOut, StandardView};
 ghost use Rattle.relay_places.specs.Places.{files_of};
 ghost use Rattle.std.specs.Io.KnownBytes.{Appends};
 
 use crate::commands::do_command;
-use crate::line_buffer::LineBuffer;
 use crate::named::refuses_on_errors;
 use dm_store::{Store, StoreSet};
+use relay_buffers::LineBuffer;
 use relay_command::Command;
 use relay_places::Watched;
 use relay_shared::{EndedDesk, NamedFile, Streams, refuse};

@@ -1,5 +1,5 @@
 use Rattle.std.proofs.Common.{rules, sym}
-use Rattle.relay.proofs.HeldBytes.{begun}
+use Rattle.relay.proofs.EmptyBuffers.{begun}
 use Rattle.relay.proofs.standard.do_between.Goals as goal
 
 pub returns : goal.returns

@@ -1,5 +1,6 @@
 use Rattle.std.proofs.Common.{◌≡◌, Bool, true, false, rules, subst, sym}
-use Rattle.relay.specs.{Buffers.IsPartOut, Program.lets_all_out, Program.says_nothing, Program.says_so}
+use Rattle.relay_buffers.specs.Buffers.{IsPartOut}
+use Rattle.relay.specs.{Program.lets_all_out, Program.says_nothing, Program.says_so}
 use Rattle.relay.proofs.standard.let_out.Goals as goal
 use Rattle.relay.proofs.standard.let_out.Goals.{then-not-is_all+then-says, else-not-is_all, else-not-is_all-via-then-not-is_all+else-says, else-not-is_all-via-else-not-is_all}
 

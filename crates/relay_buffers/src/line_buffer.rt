@@ -3,7 +3,7 @@
 ghost use Rattle.std.specs.Prelude.{◌≡◌, ◌≤◌, length, take, OnErr, OnOk, IsErr, [], is_some, false, true};
 ghost use Rattle.std.specs.Io.{WritesAtMost};
 ghost use Rattle.std.specs.Io.KnownBytes.{Appends, Keeps, WriteAppends, append_known};
-ghost use Rattle.relay.specs.Buffers.{BufferView, held_of, promised, IsPartOut};
+ghost use Rattle.relay_buffers.specs.Buffers.{BufferView, held_of, promised, IsPartOut};
 
 use std::alloc::{Allocator, Global};
 use std::io::{self, Error, ErrorKind, Write};
@@ -13,7 +13,7 @@ use std::marker::Model;
 /// or at a flush: in one write, unless the writer takes less. So lines of programs that write to one file don't mix.
 /// After a failed write nothing more goes out, so what is reported as not written never comes later.
 #[derive(Drop)]
-pub(crate) struct LineBuffer<W: Write, A: Allocator = Global> {
+pub struct LineBuffer<W: Write, A: Allocator = Global> {
     writer: W,
     held: Vec<u8, A>,
     least: usize,
@@ -72,7 +72,7 @@ fn refused() -> Error {
 
 impl<W: Write, A: Allocator> LineBuffer<W, A> {
     /// An empty buffer before a writer. It takes no memory.
-    pub(crate) fn new(alloc: A, writer: W, least: usize) -> LineBuffer<W, A>
+    pub fn new(alloc: A, writer: W, least: usize) -> LineBuffer<W, A>
         ensures { result ≡ record { out = W.contents writer; held = []; has_failed = false } }
     {
         LineBuffer {
@@ -84,14 +84,14 @@ impl<W: Write, A: Allocator> LineBuffer<W, A> {
     }
 
     /// Whether a write has failed.
-    pub(crate) fn has_failed(&self) -> bool
+    pub fn has_failed(&self) -> bool
         ensures { result ≡ self.now.has_failed }
     {
         self.out_at_failure.is_some()
     }
 
     /// The writer, to which all was written that is out.
-    pub(crate) fn into_writer(self) -> W
+    pub fn into_writer(self) -> W
         ensures { W.contents result ≡ self.out }
     {
         let LineBuffer {
@@ -123,7 +123,7 @@ impl<W: Write, A: Allocator> LineBuffer<W, A> {
     }
 
     /// Lets out what is held, and gives the writer, and whether all that was written is out.
-    pub(crate) fn end(mut self) -> (W, bool)
+    pub fn end(mut self) -> (W, bool)
         ensures all { result.1 ≡ true → Keeps (promised self) (W.contents result.0) }
         ensures part { IsPartOut (promised self) (W.contents result.0) }
         ensures failed { self.has_failed ≡ true → result.1 ≡ false × W.contents result.0 ≡ self.out }
@@ -180,25 +180,5 @@ impl<W: Write, A: Allocator> Write for LineBuffer<W, A> {
     fn flush(&mut self) -> io::Result<()> {
         self.let_out()?;
         self.writer.flush()
-    }
-}
-
-/// Writes text to the standard error. What isn't UTF-8 is refused.
-#[derive(Drop)]
-pub(crate) struct ErrorWriter<'a> {
-    pub(crate) to: &'a HostRuntime,
-}
-
-impl Write for ErrorWriter<'_> {
-    fn write(&mut self, buf: &[u8]) -> io::Result<usize> {
-        let Ok(text) = str::from_utf8(buf) else {
-            return Err(Error::from(ErrorKind::InvalidData));
-        };
-        eprint!(self.to; "{text}")?;
-        Ok(buf.len())
-    }
-
-    fn flush(&mut self) -> io::Result<()> {
-        Ok(())
     }
 }

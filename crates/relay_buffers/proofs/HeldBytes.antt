@@ -1,9 +1,8 @@
 -- What a buffer before a writer keeps where the writer has refused a part of it.
-use Rattle.std.proofs.Common.{false, ◌≡◌, ◌≤◌, ℕ, ◌+◌, ◌-◌, List, [], ◌++◌, Option, Some, None, length, take, drop, refl, sym, ap, ◌∙◌, append_assoc, append-nil, add-zero, arith}
+use Rattle.std.proofs.Common.{◌≡◌, ◌≤◌, ℕ, ◌+◌, ◌-◌, List, [], ◌++◌, Option, Some, None, length, take, drop, sym, ap, ◌∙◌, append_assoc, append-nil, add-zero, arith}
 use Rattle.std.proofs.{lemmas.List.drop-take, Math.Seq.take-append-add}
 use Rattle.std.specs.Io.KnownBytes.{Appends, append_known}
-use Rattle.relay_shared.specs.Command.{StreamsView}
-use Rattle.relay.specs.{Buffers.BufferView, Buffers.promised, Program.streams_over}
+use Rattle.relay_buffers.specs.Buffers.{BufferView, promised}
 
 -- nothing comes after the first n of the first n items
 none_behind : (n : ℕ) (xs : List ℕ) → drop n (take n xs) ≡ []
@@ -30,20 +29,3 @@ pub taken_in_part : (old : BufferView) (a b : Option (List ℕ)) (held more all 
     → Appends a b (take n all) → Appends (promised old) (append_known b (drop n cut)) (take (n - before) more)
 taken_in_part old a b held more all cut n before e1 e2 e3 le e4 e5 p =
     rw e1 (rw e2 (rw e5 (rw e4 (rw e3 (part_taken a b held more n (rw e3 at le) (rw e4 at p))))))
-
-nothing_held : (a : Option (List ℕ)) → append_known a [] ≡ a
-nothing_held None = refl
-nothing_held (Some x) = ap Some (append-nil x)
-
--- streams over buffers that hold nothing
-pub begun : (streams : StreamsView) (input output errors : Option (List ℕ))
-    → streams.input ≡ record { remaining = input; has_failed = false }
-    → streams.output ≡ record { contents = append_known output []; has_failed = false }
-    → streams.errors ≡ record { contents = append_known errors []; has_failed = false }
-    → streams ≡ streams_over (record { input = input; output = output; errors = errors })
-begun streams input output errors e1 e2 e3 =
-    let out : streams.output ≡ record { contents = output; has_failed = false }
-    = e2 ∙ ap (λ c. record { contents = c; has_failed = false }) (nothing_held output) in
-    let err : streams.errors ≡ record { contents = errors; has_failed = false }
-    = e3 ∙ ap (λ c. record { contents = c; has_failed = false }) (nothing_held errors) in
-    λ i. record { input = e1 i; output = out i; errors = err i }
