@@ -3,7 +3,5 @@
 #![tactic(auto)]
 
 pub mod laws;
-#[cfg(test)]
-mod lines;
 pub mod needed;
 pub mod worked;

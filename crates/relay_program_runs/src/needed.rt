@@ -90,12 +90,3 @@ pub fn needs_labels_and_exports<A: Allocator + Copy>(alloc: A) -> bool
     let there = done(alloc, (import.store, import.set), &[], Command::Deliver { file: "e", id: "0101" });
     are_documents(&here.output, &there.output)
 }
-
-#[test]
-fn short_lists_go_well(rt: HostRuntime) {
-    let alloc = rt.alloc();
-    assert!(rt;
-        needs_ranges(alloc) && needs_numbers(alloc) && needs_tickets(alloc) && needs_files(alloc)
-    );
-    assert!(rt; needs_labels_and_exports(alloc));
-}

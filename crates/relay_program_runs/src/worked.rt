@@ -157,8 +157,3 @@ pub fn worked_commands<A: Allocator + Copy>(alloc: A) -> Option<Vec<u8, A>>
     let lost = (seven.status, seven.output.as_slice());
     if end_well(&statuses, lost, &ten.output, &nine.output, &fourteen.output) { Some(fourteen.output) } else { None }
 }
-
-#[test]
-fn worked_commands_deliver_what_was_printed(rt: HostRuntime) {
-    assert!(rt; worked_commands(rt.alloc()).is_some());
-}
