@@ -3,7 +3,7 @@
 use dm_encodation::Scheme;
 
 /// Which labels a print has: `--side` or `--labels` says it.
-#[derive(Clone, Copy, Debug, PartialEq, Eq)]
+#[derive(Clone, Copy)]
 pub enum Labels {
     /// Those of this side.
     OfSide(u16),
@@ -13,7 +13,7 @@ pub enum Labels {
 
 /// A command with its options, by name. A side is a number from 10 to 132, which need not be one of the sizes.
 #[rattlefmt::skip]
-#[derive(Clone, Copy, Debug, PartialEq, Eq)]
+#[derive(Clone, Copy)]
 pub enum Command<'a> {
     /// Prints the codewords of a symbol.
     Words { side: u16, scheme: Scheme },

@@ -162,7 +162,7 @@ pub(crate) fn put_took<W: Write>(output: &mut Output<W>, giver: Giver) -> Result
 }
 
 /// A side of which a document has labels.
-#[derive(Clone, Copy, Debug, Default, PartialEq, Eq)]
+#[derive(Clone, Copy, Default)]
 pub struct PlannedSide {
     /// The side, in modules.
     pub side: u16,

@@ -10,15 +10,12 @@ use dm_append_label::FileId;
 use dm_event_history::{Bytes, Flips, Kept, Stop};
 use dm_size::Size;
 use std::alloc::{AllocError, Allocator};
-use thiserror::Error;
 
 /// Why a script is not taken.
-#[derive(Clone, Copy, Debug, PartialEq, Eq, Error)]
+#[derive(Clone, Copy)]
 pub enum ScriptFault {
     /// A line has none of a script's forms, or comes at a wrong place, or there are too many.
-    #[error("a line is not one of a script")]
     Script,
-    #[error("out of memory")]
     Memory,
 }
 

@@ -60,7 +60,7 @@ pub fn read_document<A: Allocator, R: Read>(
 }
 
 /// Why a command was not done, or not all of it.
-#[derive(Clone, Copy, Debug, PartialEq, Eq)]
+#[derive(Clone, Copy)]
 pub enum Refusal {
     /// The side isn't one of the 23 symbol sizes.
     Side,

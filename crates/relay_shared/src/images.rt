@@ -19,7 +19,7 @@ use std::io::{Read, Write};
 pub const MOST_IMAGES: u32 = 65_536;
 
 /// What a command has answered to an image.
-#[derive(Clone, Copy, Debug, PartialEq, Eq)]
+#[derive(Clone, Copy)]
 pub struct Answered {
     /// Whether the line names a refusal.
     pub refused: bool,

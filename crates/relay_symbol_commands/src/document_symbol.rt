@@ -26,7 +26,7 @@ use std::fmt::Write as _;
 use std::io::{Read, Write};
 
 /// Which symbol of a document is asked for.
-#[derive(Clone, Copy, Debug, PartialEq, Eq)]
+#[derive(Clone, Copy)]
 pub struct Form {
     /// The side of the symbol, a number that need not be that of a size.
     pub side: u16,

@@ -11,20 +11,15 @@ use dm_pbm_io::ShapeFault;
 use relay_shared::Refusal;
 use relay_streams::InputFault;
 use std::alloc::AllocError;
-use thiserror::Error;
 
 /// Why no symbol was made of a document.
-#[derive(Clone, Copy, Debug, PartialEq, Eq, Error)]
+#[derive(Clone, Copy)]
 pub enum SymbolRefusal {
     /// The side isn't one of the 23 symbol sizes.
-    #[error("the side is not that of a symbol")]
     Side,
-    #[error("the input could not be read")]
     Read,
     /// The document needs more codewords than the symbol has.
-    #[error("the document does not fit the symbol")]
     TooLong,
-    #[error("out of memory")]
     Memory,
 }
 
@@ -43,19 +38,15 @@ impl SymbolRefusal {
 }
 
 /// Why `read` has refused an image.
-#[derive(Clone, Copy, Debug, PartialEq, Eq, Error)]
+#[derive(Clone, Copy)]
 pub enum ReadRefusal {
     /// The image is no symbol inside a quiet zone one pixel wide.
-    #[error("the image has not the shape of a symbol")]
     Shape,
     /// The symbol can't be read, or its head is invalid, or the text after the head can't be read.
-    #[error("{0}")]
     Label(LabelFault),
     /// The text of a symbol that is no label can't be read.
-    #[error("{0}")]
     Text(DecodeFault),
     /// Memory was refused for the line.
-    #[error("out of memory")]
     Memory,
 }
 

@@ -8,7 +8,7 @@ use std::alloc::{AllocError, Allocator};
 
 /// Why a call refuses: the first of those that it names, in this order, that applies. Memory alone may be refused in
 /// place of any.
-#[derive(Clone, Copy, Debug, PartialEq, Eq)]
+#[derive(Clone, Copy)]
 pub(crate) enum Refusal {
     /// No symbol has this side.
     NoSide = -1,

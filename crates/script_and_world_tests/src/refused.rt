@@ -111,8 +111,8 @@ fn given<A: Allocator + Copy>(
     "memory"
 }
 
-// The script, which is asked for again where memory was refused.
-fn script_of<A: Allocator + Copy>(alloc: A, text: &str) -> Result<Script<A>, Fail> {
+/// The script, which is asked for again where memory was refused.
+pub fn script_of<A: Allocator + Copy>(alloc: A, text: &str) -> Result<Script<A>, Fail> {
     for _time in 0..MOST_TIMES {
         if let Ok(script) = read_script(alloc, text.as_bytes()) {
             return Ok(script);
@@ -159,11 +159,11 @@ fn refused_growths_of_a_script_are_named(rt: HostRuntime) -> Result<(), Fail> {
             assert!(rt; fault.is_none() && growths > 5, "{growths}");
             return Ok(());
         }
-        assert!(rt; fault == Some(ScriptFault::Memory), "{growths}");
+        assert!(rt; matches!(fault, Some(ScriptFault::Memory)), "{growths}");
         let second = Refusing::new(rt.alloc(), growths);
         let memory = Refusing::new(&second, growths);
         let fault = read_script(&memory, NO_SCRIPT).err();
-        assert!(rt; fault == Some(ScriptFault::Script), "{growths}");
+        assert!(rt; matches!(fault, Some(ScriptFault::Script)), "{growths}");
     }
     Err("growths without end".into())
 }

@@ -1,10 +1,9 @@
 //! A world by calls: a run of events, and what has left it; and why no world begins.
 
-use crate::refused::{GATHERED, GATHERING, told, world_of};
+use crate::refused::{GATHERED, GATHERING, script_of, told, world_of};
 use dm_append_label::FileId;
 use dm_event_history::{Event, Reply};
 use dm_event_world::{World, WorldFault, is_honest, run};
-use relay_script::read_script;
 use std::test::Fail;
 
 // Whether the replies to the gathering are these, and the fifth gives the document.
@@ -41,7 +40,7 @@ fn has_left(world: &World, id: FileId) -> bool {
 
 #[test]
 fn a_run_answers_each_event_and_leaves_what_left(rt: HostRuntime) -> Result<(), Fail> {
-    let script = read_script(rt.alloc(), GATHERING.as_bytes())?;
+    let script = script_of(rt.alloc(), GATHERING)?;
     let mut world = world_of(rt.alloc(), &script)?;
     let replies = run(rt.alloc(), &mut world, &script.events)?;
     assert!(rt; are_of_gathering(&replies) && are_honest(&world, &script.events));

@@ -75,7 +75,7 @@ fn moved(alloc: Global, file: &[u8]) -> Result<&'static str, AllocError> {
 }
 
 // What is done with bytes.
-#[derive(Clone, Copy, PartialEq, Eq)]
+#[derive(Clone, Copy)]
 enum How {
     Open,
     Import,
@@ -94,8 +94,8 @@ fn answered(alloc: Global, how: How, file: &[u8]) -> Result<&'static str, AllocE
 // What is to be answered by the tables.
 fn wanted(how: How, file: &[u8]) -> &'static str {
     let is_other = number_of(file) != u32::from(KEY);
-    let name = answer(file, if how == How::Move { 1 } else { 2 });
-    if name == "sound" && how == How::Open && is_other {
+    let name = answer(file, if matches!(how, How::Move) { 1 } else { 2 });
+    if name == "sound" && matches!(how, How::Open) && is_other {
         "Damaged"
     } else {
         name
