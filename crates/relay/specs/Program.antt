@@ -16,7 +16,7 @@ use Rattle.relay_world_command.specs.{declared.world.TheConstants.INPUT_BYTES, W
 use Rattle.relay_symbol_commands.specs.Symbols.{EndsWords, EndsDraw, EndsRead}
 use Rattle.relay_places.specs.Places.{KeepsOthers, PlacesView, SavesNew}
 use Rattle.dm_store.specs.declared.store.StoreFault.{StoreFault}
-use Rattle.relay_line.specs.{Line.HasStatus, Line.named_images, Line.IsFound, Line.IsNamed, Line.saved_path, Line.saves_output, declared.line.CommandLine.CommandLine, declared.fault.LineFault.LineFault, declared.fault.LineFault.TheVariants.Line, declared.fault.LineFault.TheVariants.Memory}
+use Rattle.relay_line.specs.{Line.EndsAmong, Line.named_images, Line.IsLineOf, Rules.endings, Line.saved_path, Line.saves_output, declared.line.CommandLine.CommandLine, declared.fault.LineFault.LineFault, declared.fault.LineFault.TheVariants.Line, declared.fault.LineFault.TheVariants.Memory}
 use Rattle.relay_buffers.specs.Buffers.{IsPartOut}
 use Rattle.dm_store.specs.declared.store.StoreFault.TheVariants as faults
 
@@ -315,11 +315,12 @@ Informs (Line text given) old status new =
     (Helps (string_bytes text) old status new × (given ≡ 0)) ⊎ (ShowsOnErrors (string_bytes text) old new × (status ≡ given))
 Informs Memory old status new = PutsRefusal true (codes "Memory") old status new
 
--- What a line does, if this is its first word after the program's name: what was found on it is done, or it is no
--- command. `inputs` are the files to be read, by their names.
-pub data Runs (A : Type 0) (inputs : List ℕ → FileView) (name : Option (List ℕ)) (old : SystemView) (status : ℕ)
+-- What a line of these words does, the first of which is the program's name: the command that they give, if they give one;
+-- or else it shows what was asked for, or what is wrong, with one of the statuses that such words end with. `inputs` are the
+-- files to be read, by their names.
+pub data Runs (A : Type 0) (inputs : List ℕ → FileView) (words : List (List ℕ)) (old : SystemView) (status : ℕ)
     (new : SystemView) : Type 0 where
-  does : (line : CommandLine) → IsNamed name line.command → IsFound line → DoesFor A inputs line old status new →
-      Runs A inputs name old status new
-  shows : (fault : LineFault) → HasStatus fault → Informs fault old.standard status new.standard → new.places
-      ≡ old.places → Runs A inputs name old status new
+  does : (line : CommandLine) → endings words ≡ [] → IsLineOf words line → DoesFor A inputs line old status new →
+      Runs A inputs words old status new
+  shows : (fault : LineFault) → EndsAmong (endings words) fault → Informs fault old.standard status new.standard → new.places
+      ≡ old.places → Runs A inputs words old status new

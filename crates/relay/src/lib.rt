@@ -3,9 +3,10 @@
 //! streams and the system's files. [`do_command`] does a command over its files and streams; the commands stand in
 //! crates of their own.
 //!
-//! Proved of a line, of [`System::run_line`]: which command it names; that the command is done with the files at the
-//! path that it names, and every other path is as it was; that all of its output is out where the status is 0; where
-//! it is saved; and that `export --all` exports each document of which `held` writes a line.
+//! Proved of a line, of [`System::run_line`]: which command its words give, and that they show something or are refused
+//! exactly where they give none; that the command is done with the files at the path that it names, and every other
+//! path is as it was; that all of its output is out where the status is 0; where it is saved; and that `export --all`
+//! exports each document of which `held` writes a line.
 //!
 //! Proved, of inputs and outputs whose bytes a contract can name (slices and vectors; of the system's own streams none
 //! can): on status 0 a command has written exactly what it is for: `read` and `scan` a line for each image, `world`

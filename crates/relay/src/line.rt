@@ -1,7 +1,7 @@
 //! What the words of a line say, done on a system.
 
 ghost use Rattle.std.specs.Prelude.{◌≡◌, ◌≢◌, [], true, IfOk, IsSome, MatchOption, OnErr, Some};
-ghost use Rattle.std.specs.Prelude.{codes, map, option_map, slice_get, string_bytes};
+ghost use Rattle.std.specs.Prelude.{codes, map, string_bytes};
 ghost use Rattle.relay_places.specs.Places.{KeepsOthers};
 ghost use Rattle.relay.specs.Program.{DoesAndSaves, DoesAt, DoesFor, Helps, NamesFiles, Notes, OrNothing, RefusesNoted};
 ghost use Rattle.relay.specs.Program.{Runs, SavesOutput, ShowsOnErrors, Informs, PutsRefusal, named_path};
@@ -244,7 +244,7 @@ impl<I: Read + Drop, O: Write + Drop, E: Write + Drop, P: Places> System<I, O, E
     /// Does what the words of a line say, the first of which is the program's name, and gives the exit status: that of
     /// the command, or 2 where the line was refused, or 0 where help was asked for.
     pub fn run_line<S: AsStr>(self, alloc: Global, words: &[S]) -> (u8, Self)
-        ensures { Runs Global (P.known self.places) (option_map S.text (slice_get words.now 1))
+        ensures { Runs Global (P.known self.places) (map S.text words.now)
             (system_at self.standard (P.state self.places)) result.0
             (system_at result.1.standard (P.state result.1.places)) }
     {

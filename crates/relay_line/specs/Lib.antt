@@ -1,2 +1,5 @@
 pub mod Line
+pub mod Listed
+pub mod Parsed
+pub mod Rules
 pub mod Explaining

@@ -1,12 +1,17 @@
 -- What a command line gives.
 use Prim.Native.String.{String}
-use Rattle.std.specs.Prelude.{◌≡◌, ℕ, ◌≤◌, ◌⊎◌, List, codes, [], map, Bool, true, false, Option, Some, None, MatchOption, option_map, if◌then◌else◌}
+use Rattle.std.specs.Prelude.{◌≡◌, ℕ, ◌≤◌, ◌⊎◌, List, codes, [], map, Bool, true, false, Option, Some, None, MatchOption, option_map, if◌then◌else◌, ◌==◌}
+use Rattle.std.specs.List.{list_any}
 use Rattle.std.specs.Str.Parse.{digits_value, without_leading_plus}
-use Rattle.clap.specs.Walk.{Row, all_of, first_of, one_of}
+use Rattle.clap.specs.Walk.{Row, all_of, first_of}
 use Rattle.dm_encodation.specs.declared.scheme.Scheme.TheVariants.{Ascii}
 use Rattle.relay_command.specs.{declared.command.Command.Command, declared.command.Labels.Labels, Schemes.scheme_name}
 use Rattle.relay_command.specs.declared.command.Command.TheVariants.{Words, Draw, Read, Plan, Ticket, Ledger, Print, Give, GiveLast, Take, Left, Audit, Scan, Deliver, DeliverAll, Forget, Export, ExportAll, Import, Held, Copy, World}
 use Rattle.relay_command.specs.declared.command.Labels.TheVariants.{OfSide, AtMost}
+use Rattle.std.specs.Borrow.{Bor}
+use Rattle.clap.specs.Words.{found_of, rows_of, subcommand_of}
+use Rattle.clap.specs.declared.parser.matches.ArgMatches.{ArgMatches}
+use Rattle.relay_line.specs.Parsed.{the_app}
 use Rattle.relay_line.specs.declared.{line.CommandLine.CommandLine, fault.LineFault.LineFault}
 use Rattle.relay_line.specs.declared.fault.LineFault.TheVariants.{Line, Memory}
 
@@ -55,10 +60,13 @@ module _ (found : List Row) where
   HasText name text = first_of (codes name) found ≡ Some text
 
   abbrev pub number_at : List ℕ → Option ℕ
-  number_at name = option_map (λ text. digits_value 10 (without_leading_plus text)) (one_of name found)
+  number_at name = option_map (λ text. digits_value 10 (without_leading_plus text)) (first_of name found)
 
   abbrev pub HasNumber : String → ℕ → Type 0
   HasNumber name number = number_at (codes name) ≡ Some number
+
+  abbrev pub HasFlag : String → Bool → Type 0
+  HasFlag name is_there = HasText name (if is_there then codes "true" else codes "false")
 
   -- a side; and the labels of a print: their side, or how many at most
   abbrev pub HasSide : ℕ → Type 0
@@ -72,8 +80,7 @@ module _ (found : List Row) where
   -- refuse those beyond their ranges.
   abbrev pub HasValues : Command → Type 0
   HasValues (Words side scheme) = HasSide side × HasText "scheme" (scheme_name scheme)
-  HasValues (Draw side scheme plain) = HasSide side × HasText "scheme" (scheme_name scheme)
-      × (one_of (codes "plain") found ≡ Some (if plain then codes "true" else codes "false"))
+  HasValues (Draw side scheme plain) = HasSide side × HasText "scheme" (scheme_name scheme) × HasFlag "plain" plain
   HasValues Read = Unit {0}
   HasValues (Plan scheme) = HasText "scheme" (scheme_name scheme)
   HasValues (Ticket ticket) = HasText "ticket" ticket.now
@@ -109,21 +116,28 @@ module _ (found : List Row) where
   abbrev pub IsFoundIn : CommandLine → Type 0
   IsFoundIn line = HasValues line.command × HasFiles line
 
--- `words` with its defaults and no other files, or what some parse found
-abbrev pub IsFound : CommandLine → Type 0
-IsFound line = ((line.command ≡ Words 10 Ascii) × (named_images line ≡ []) × (saved_path line ≡ None))
-    ⊎ ((found : List Row) × IsFoundIn found line)
+-- `words` with its defaults and no other files
+abbrev pub IsDefault : CommandLine → Type 0
+IsDefault line = (line.command ≡ Words 10 Ascii) × (named_images line ≡ []) × (saved_path line ≡ None)
 
--- The command has this name, the word after the program's own; or it is `words` with its defaults if there is no word.
-abbrev pub IsNamed : Option (List ℕ) → Command → Type 0
-IsNamed name command = MatchOption name (command ≡ Words 10 Ascii) (λ given. given ≡ command_name command)
+-- the line of the command that the parser met, with what it found for it; or `words` with its defaults, where it met none
+abbrev pub IsLineMet : Option (List ℕ × List Row) → CommandLine → Type 0
+IsLineMet met line = MatchOption met (IsDefault line) (λ m. (m.0 ≡ command_name line.command) × IsFoundIn m.1 line)
 
--- a line that is no command ends with 0, if help was asked for, or with 2
-abbrev pub HasStatus : LineFault → Type 0
-HasStatus (Line text status) = (status ≡ 0) ⊎ (status ≡ 2)
-HasStatus Memory = Unit {0}
+-- the line of these words, by the table of `Listed`
+abbrev pub IsLineOf : List (List ℕ) → CommandLine → Type 0
+IsLineOf words line = IsLineMet (subcommand_of the_app words) line
+
+-- a command that the parser met, with what it found for it
+abbrev pub met_rows : Option (Bor (List ℕ) × Bor ArgMatches) → Option (List ℕ × List Row)
+met_rows = option_map (λ met. (met.0.now, rows_of (found_of met.1.now)))
 
 -- it ends with this status, unless memory is refused
 abbrev pub EndsWithStatus : ℕ → LineFault → Type 0
 EndsWithStatus ended (Line text status) = status ≡ ended
 EndsWithStatus ended Memory = Unit {0}
+
+-- it ends with one of these, unless memory is refused
+abbrev pub EndsAmong : List ℕ → LineFault → Type 0
+EndsAmong statuses (Line text status) = list_any (λ s. s == status) statuses ≡ true
+EndsAmong statuses Memory = Unit {0}

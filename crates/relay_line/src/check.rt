@@ -1,28 +1,71 @@
 //! What the parser leaves to be looked at: each value, the options that a command must have, and which go together.
 
-use crate::help::Page;
+ghost use Rattle.std.specs.Prelude.{◌≡◌, ◌&&◌, ◌||◌, ◌==◌, IfOk, OnOk, false, map, nat_le, string_len};
+ghost use Rattle.std.specs.List.{list_all};
+ghost use Rattle.clap.specs.Words.{found_of, rows_of};
+ghost use Rattle.relay_line.specs.Parsed.{argument_of, standing_of};
+ghost use Rattle.relay_line.specs.declared.options.Values.TheVariants.{Number, Scheme as TakesScheme};
+ghost use Rattle.relay_line.specs.Rules.{has, has_form, has_one, is_kept, keeps_all, may_lack, takes};
+
+use crate::help::{Page, said_of};
 use crate::options::{Kind, Row, Values};
+use crate::said::Said;
 use clap::ArgMatches;
 use relay_command::{SCHEMES, scheme_of};
 use std::alloc::{AllocError, Global};
 
+const SAVED_DASH: &str =
+    "--to takes no `-`: without --to the output is the standard output, and `./-` names a file";
+
+const ALL_DASH: &str = "--all takes no `-`: it saves in a folder, and `./-` names one";
+
+const LEDGER_DASH: &str =
+    "`audit` takes no `-`: it reads tickets from the standard input, and `./-` names a file";
+
+// Whether a number is one from `least` to `most`.
+fn is_between(least: u16, most: u16, number: u16) -> bool
+    ensures { result ≡ (nat_le least number && nat_le number most) }
+{
+    least <= number && number <= most
+}
+
+// Whether a text is a number of such a size.
+fn is_number(least: u16, most: u16, text: &str) -> bool
+    ensures { result ≡ takes (Number least most) text.now }
+{
+    match text.parse::<u16>() {
+        Ok(number) => is_between(least, most, number),
+        Err(_) => false,
+    }
+}
+
+// Whether a text names an encodation.
+fn is_scheme(text: &str) -> bool
+    ensures { result ≡ takes TakesScheme text.now }
+{
+    match scheme_of(text) {
+        Some(_) => true,
+        None => false,
+    }
+}
+
 // Whether an argument takes a value.
-fn is_taken(values: Values, value: &str) -> bool {
+fn is_taken(values: Values, value: &str) -> bool
+    ensures { result ≡ takes values value.now }
+{
     match values {
         Values::Text => true,
-        Values::Path => !value.is_empty(),
-        Values::NoDash(_) => !value.is_empty() && value != "-",
-        Values::Number(least, most) => match value.parse::<u16>() {
-            Ok(number) => (least..=most).contains(&number),
-            Err(_) => false,
-        },
-        Values::Scheme => scheme_of(value).is_some(),
+        Values::Path => value != "",
+        Values::NoDash => value != "" && value != "-",
+        Values::Number(least, most) => is_number(least, most, value),
+        Values::Scheme => is_scheme(value),
+        Values::Truth => value == "true" || value == "false",
     }
 }
 
 // What an argument takes, in words.
 fn wanted(alloc: Global, command: &str, row: &Row) -> Result<String, AllocError> {
-    let Row(name, _, kind, values, _) = *row;
+    let Row(name, kind, values) = *row;
     match values {
         Values::Number(least, most) => {
             format!(in alloc; "--{name} takes a number from {least} to {most}")
@@ -36,19 +79,52 @@ fn wanted(alloc: Global, command: &str, row: &Row) -> Result<String, AllocError>
     }
 }
 
+// Why an argument takes no `-`.
+fn why_no_dash(name: &str) -> &'static str {
+    match name {
+        "to" => SAVED_DASH,
+        "all" => ALL_DASH,
+        _ => LEDGER_DASH,
+    }
+}
+
 // Why an argument doesn't take a value. What could end the line is escaped in the value.
 fn reason_of(alloc: Global, command: &str, row: &Row, value: &str) -> Result<String, AllocError> {
-    match row.3 {
-        Values::NoDash(why) if value == "-" => String::from_str(alloc, why),
-        _ if value.is_empty() => {
-            let wanted = wanted(alloc, command, row)?;
-            format!(in alloc; "{wanted}, not an empty word")
-        }
-        _ => {
-            let (wanted, shown) = (wanted(alloc, command, row)?, value.escape_debug());
-            format!(in alloc; "{wanted}, not {shown}")
-        }
+    if matches!(row.2, Values::NoDash) && value == "-" {
+        return String::from_str(alloc, why_no_dash(row.0));
     }
+    let wanted = wanted(alloc, command, row)?;
+    if value.is_empty() {
+        return format!(in alloc; "{wanted}, not an empty word");
+    }
+    let shown = value.escape_debug();
+    format!(in alloc; "{wanted}, not {shown}")
+}
+
+// Adds a line that says what is wrong.
+fn add_fault(faults: &mut String, why: &str) -> Result<(), AllocError>
+    ensures { OnOk result ((string_len faults.new == 0) ≡ false) }
+{
+    faults.push_str("relay: ")?;
+    faults.push_str(why)?;
+    faults.push('\n')
+}
+
+// Adds what is wrong with a value of an argument.
+fn add_value(
+    alloc: Global,
+    faults: &mut String,
+    command: &str,
+    row: &Row,
+    value: &str,
+) -> Result<(), AllocError>
+    ensures { OnOk result ((string_len faults.new == 0) ≡ ((string_len faults.old == 0) && takes row.now.2 value.now)) }
+{
+    if is_taken(row.2, value) {
+        return Ok(());
+    }
+    let why = reason_of(alloc, command, row, value)?;
+    add_fault(faults, why.as_str())
 }
 
 // Adds what is wrong with the values that a line has for an argument.
@@ -57,28 +133,46 @@ fn add_values(
     faults: &mut String,
     command: &str,
     row: &Row,
-    options: &ArgMatches<'_>,
-) -> Result<(), AllocError> {
-    let Some(values) = options.get_strs(row.0) else {
-        return Ok(());
-    };
+    values: &[&str],
+) -> Result<(), AllocError>
+    ensures { OnOk result ((string_len faults.new == 0)
+        ≡ ((string_len faults.old == 0) && list_all (takes row.now.2) (map (λ value. value.now) values.now))) }
+{
     for value in values {
-        if !is_taken(row.3, *value) {
-            let why = reason_of(alloc, command, row, *value)?;
-            write!(faults, "relay: {why}\n")?;
-        }
+        add_value(alloc, faults, command, row, *value)?;
     }
     Ok(())
 }
 
+/// Whether a line has a value for an option.
+#[tactic(auto, using(crate::proofs::Found::first_value_of))]
+pub fn has(options: &ArgMatches<'_>, name: &str) -> bool
+    ensures { result ≡ has (rows_of (found_of options.now)) name.now }
+{
+    options.get_str(name).is_some()
+}
+
+// Whether it has just one of two.
+fn has_one(options: &ArgMatches<'_>, one: &str, other: &str) -> bool
+    ensures { result ≡ has_one (rows_of (found_of options.now)) one.now other.now }
+{
+    if has(options, one) {
+        !has(options, other)
+    } else {
+        has(options, other)
+    }
+}
+
 // Whether the options that exclude or need each other are such as the usage of a command has them.
-fn has_form(command: &str, options: &ArgMatches<'_>) -> bool {
-    let (id, all) = (options.contains_id("id"), options.contains_id("all"));
-    let (first, last) = (options.contains_id("first"), options.contains_id("last"));
+fn has_form(command: &str, options: &ArgMatches<'_>) -> bool
+    ensures { result ≡ has_form (rows_of (found_of options.now)) command.now }
+{
     match command {
-        "print" => options.contains_id("side") != options.contains_id("labels"),
-        "give" => first == last && first != options.contains_id("count"),
-        "deliver" | "export" => id != all && !(all && options.contains_id("to")),
+        "print" => has_one(options, "side", "labels"),
+        "give" => !has_one(options, "first", "last") && has_one(options, "first", "count"),
+        "deliver" | "export" => {
+            has_one(options, "id", "all") && !(has(options, "all") && has(options, "to"))
+        }
         _ => true,
     }
 }
@@ -92,27 +186,88 @@ fn form_of(command: &str) -> &'static str {
     }
 }
 
+// Whether an argument may have no value.
+fn may_lack(kind: Kind) -> bool
+    ensures { result ≡ may_lack (standing_of kind) }
+{
+    matches!(kind, Kind::Optional | Kind::Word | Kind::Words)
+}
+
+// Adds that a command lacks an argument which it has to have, and of which the helps say this.
+fn add_lack(
+    alloc: Global,
+    faults: &mut String,
+    command: &str,
+    row: &Row,
+    said: Said,
+    options: &ArgMatches<'_>,
+) -> Result<(), AllocError>
+    ensures { OnOk result ((string_len faults.new == 0) ≡ ((string_len faults.old == 0)
+        && (may_lack (standing_of row.now.1) || has (rows_of (found_of options.now)) row.now.0.now))) }
+{
+    let (Row(name, kind, _), Said(value, _)) = (*row, said);
+    if may_lack(kind) || has(options, name) {
+        return Ok(());
+    }
+    let why = format!(in alloc; "`{command}` needs --{name} {value}")?;
+    add_fault(faults, why.as_str())
+}
+
+// Adds what is wrong with an argument.
+fn add_argument(
+    alloc: Global,
+    faults: &mut String,
+    command: &str,
+    row: &Row,
+    said: Said,
+    options: &ArgMatches<'_>,
+) -> Result<(), AllocError>
+    ensures { OnOk result ((string_len faults.new == 0)
+        ≡ ((string_len faults.old == 0) && is_kept (rows_of (found_of options.now)) (argument_of row.now))) }
+{
+    add_lack(alloc, faults, command, row, said, options)?;
+    match options.get_strs(row.0) {
+        Some(values) => add_values(alloc, faults, command, row, values),
+        None => Ok(()),
+    }
+}
+
+// Adds what is wrong with the options that exclude or need each other.
+fn add_form(
+    alloc: Global,
+    faults: &mut String,
+    command: &str,
+    options: &ArgMatches<'_>,
+) -> Result<(), AllocError>
+    ensures { OnOk result ((string_len faults.new == 0)
+        ≡ ((string_len faults.old == 0) && has_form (rows_of (found_of options.now)) command.now)) }
+{
+    if has_form(command, options) {
+        return Ok(());
+    }
+    let form = form_of(command);
+    let why = format!(in alloc; "`{command}` needs {form}")?;
+    add_fault(faults, why.as_str())
+}
+
 /// What is wrong with a line that the parser takes, a line `relay: WHY` each: nothing where the line is right.
 ///
 /// # Errors
 /// Where the allocator refuses its memory.
 pub fn faults_of(
     alloc: Global,
+    rows: &[Row],
     page: &Page,
+    command: &str,
     options: &ArgMatches<'_>,
-) -> Result<String, AllocError> {
-    let command = page.name;
+) -> Result<String, AllocError>
+    ensures { IfOk result (λ faults. (string_len faults == 0)
+        ≡ keeps_all (rows_of (found_of options.now)) (map argument_of rows.now) command.now) }
+{
     let mut faults = String::new(alloc);
-    for row in page.rows {
-        let Row(name, word, kind, _, _) = *row;
-        if matches!(kind, Kind::Required) && !options.contains_id(name) {
-            write!(faults, "relay: `{command}` needs --{name} {word}\n")?;
-        }
-        add_values(alloc, &mut faults, command, row, options)?;
+    for (at, row) in rows.iter().enumerate() {
+        add_argument(alloc, &mut faults, command, row, said_of(page, at), options)?;
     }
-    if !has_form(command, options) {
-        let form = form_of(command);
-        write!(faults, "relay: `{command}` needs {form}\n")?;
-    }
+    add_form(alloc, &mut faults, command, options)?;
     Ok(faults)
 }

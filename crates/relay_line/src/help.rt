@@ -1,19 +1,18 @@
-//! The commands as a line names them: the options of each, and its help, whose lines have at most 80 columns.
+//! The helps of the commands, whose lines have at most 80 columns.
 
-use crate::options::Row;
-use crate::options::rows::{
-    ALL, ALL_PAGES, ANY_ID, CAPACITY, COPY_SIDE, COUNT, DESK, FIRST, ID, IMAGES, LABELS, LAST,
-    LEAST_SIDE, LEDGER, LEDGERS, NUMBER, OWN_NUMBER, PAGE, PAGES, PLAIN, REFUSAL, SAVED, SCHEME,
-    SIDE, SOME_FIRST, SOME_LAST, TICKET, TO,
+use crate::said::{
+    ALL, ALL_PAGES, CAPACITY, COUNT, DESK, FIRST, ID, IMAGES, LABELS, LAST, LEAST_SIDE, LEDGER,
+    LEDGERS, NUMBER, OWN_NUMBER, PAGE, PAGES, PLAIN, REFUSAL, SAVED, SCHEME, SIDE, Said, TICKET,
+    TO,
 };
 
-/// A command, its options, and what its help says above and below them.
+/// A command, what its help says above and below its arguments, and of each of them, in the order of `COMMANDS`.
 #[derive(Clone, Copy)]
 pub struct Page {
     pub name: &'static str,
     pub about: &'static str,
     pub usage: &'static str,
-    pub rows: &'static [Row],
+    pub said: &'static [Said],
     pub more: &'static str,
 }
 
@@ -22,7 +21,7 @@ pub const PROGRAM: Page = Page {
     name: "relay",
     about: "Prints documents as Data Matrix labels, and puts them back together",
     usage: "relay [COMMAND [ARGUMENT ..] | --help | --version]",
-    rows: &[],
+    said: &[],
     more: "\
 Without a command, relay runs `words` with its defaults. `relay help COMMAND`
 and `relay COMMAND --help` say more about that command.
@@ -38,7 +37,7 @@ static OF_SYMBOLS: [Page; 3] = [
         name: "words",
         about: "Prints the codewords of a document's symbol, in decimal",
         usage: "relay words [--side SIDE] [--scheme SCHEME] < DOCUMENT",
-        rows: &[LEAST_SIDE, SCHEME],
+        said: &[LEAST_SIDE, SCHEME],
         more: "\
 A codeword is one of the numbers from 0 to 255 that a symbol holds. Side 10
 holds 6 digits or, in base256, 1 byte; side 132 holds 2608 digits or 1301 bytes.
@@ -51,7 +50,7 @@ Example:
         name: "draw",
         about: "Draws a document's symbol as a PBM image",
         usage: "relay draw [--side SIDE] [--scheme SCHEME] [--plain] < DOCUMENT > IMAGE",
-        rows: &[LEAST_SIDE, SCHEME, PLAIN],
+        said: &[LEAST_SIDE, SCHEME, PLAIN],
         more: "\
 The image has one pixel per module, and around the symbol a quiet zone one pixel
 wide: leave at least that margin on paper. docs/SYMBOLS.md says how much a side
@@ -64,7 +63,7 @@ Example:
         name: "read",
         about: "Prints what the symbols in PBM images carry",
         usage: "relay read (IMAGES .. | < IMAGES)",
-        rows: &[IMAGES],
+        said: &[IMAGES],
         more: "\
 An image has one pixel per module, and around the symbol a quiet zone of one
 pixel. Packed images (P4) may follow one another; what follows a plain one (P1)
@@ -88,7 +87,7 @@ static OF_PRINTERS: [Page; 4] = [
         name: "ledger",
         about: "Makes the ledger of a printer",
         usage: "relay ledger --file LEDGER --first N --last N [--number N]",
-        rows: &[LEDGER, FIRST, LAST, OWN_NUMBER],
+        said: &[LEDGER, FIRST, LAST, OWN_NUMBER],
         more: "\
 A ledger is what a printer remembers, above all which IDs are free. No two
 ledgers may share a number or an ID. Never restore a ledger from a backup: it
@@ -102,7 +101,7 @@ Example:
         name: "plan",
         about: "Prints for each side how many labels a document takes",
         usage: "relay plan [--scheme SCHEME] < DOCUMENT",
-        rows: &[SCHEME],
+        said: &[SCHEME],
         more: "\
 Prints a line `side N labels K` for each side for which the document can be cut
 into labels, the smallest side first: `print` with that side prints K labels.
@@ -116,7 +115,7 @@ Example:
         about: "Prints a document as labels that carry one ID",
         usage: "relay print --file LEDGER (--side SIDE | --labels K) [--scheme SCHEME]\n         \
             [--number N] < DOCUMENT > IMAGES",
-        rows: &[LEDGER, SIDE, LABELS, SCHEME, OWN_NUMBER],
+        said: &[LEDGER, SIDE, LABELS, SCHEME, OWN_NUMBER],
         more: "\
 The document is cut into 2 to 16 labels, which carry the least free ID. That ID
 is saved as used, then `printed IIII n left N` goes to standard error (the ID,
@@ -135,7 +134,7 @@ Example:
         name: "give",
         about: "Gives free IDs to another printer, by a ticket",
         usage: "relay give --file LEDGER --number N --to N\n         (--first N --last N | --count N)",
-        rows: &[LEDGER, NUMBER, TO, SOME_FIRST, SOME_LAST, COUNT],
+        said: &[LEDGER, NUMBER, TO, FIRST, LAST, COUNT],
         more: "\
 The IDs are saved as given away, then `ticket HEX` is printed. Only the printer
 that it is for can take it, and only once. If a ticket is lost, so are its IDs.
@@ -153,7 +152,7 @@ static MORE_OF_PRINTERS: [Page; 4] = [
         name: "ticket",
         about: "Prints what a ticket gives, and its form to copy by hand",
         usage: "relay ticket --ticket HEX",
-        rows: &[TICKET],
+        said: &[TICKET],
         more: "\
 Prints, a line each:
   from P to Q serial S first A last B
@@ -172,7 +171,7 @@ Example:
         name: "take",
         about: "Takes the IDs of a ticket",
         usage: "relay take --file LEDGER --number N --ticket HEX",
-        rows: &[LEDGER, NUMBER, TICKET],
+        said: &[LEDGER, NUMBER, TICKET],
         more: "\
 Prints `taken left N`, how many IDs are free then. A ticket is taken once. Take
 the tickets of one giver in the order in which they were given: after a later
@@ -185,7 +184,7 @@ Example:
         name: "left",
         about: "Prints what a ledger holds",
         usage: "relay left --file LEDGER",
-        rows: &[LEDGER],
+        said: &[LEDGER],
         more: "\
 Prints, a line each:
   printer P         the printer's number, or `-` for a ledger of version 1
@@ -204,7 +203,7 @@ Example:
         name: "audit",
         about: "Finds what is wrong between ledgers and tickets",
         usage: "relay audit [LEDGERS ..] < TICKETS",
-        rows: &[LEDGERS],
+        said: &[LEDGERS],
         more: "\
 Reads ledgers, and from standard input tickets, one a line, in either form and
 without the word `ticket` (`< /dev/null` for none). A repeated ticket is no
@@ -233,7 +232,7 @@ static OF_DESKS: [Page; 7] = [
         name: "scan",
         about: "Gathers the pages of scanned labels at a desk",
         usage: "relay scan --file DESK [--capacity N] (IMAGES .. | < IMAGES)",
-        rows: &[DESK, CAPACITY, IMAGES],
+        said: &[DESK, CAPACITY, IMAGES],
         more: "\
 Takes images as `relay read` does; `relay-find` makes them from pictures. The
 page of each is saved, and then a line says what it was:
@@ -257,7 +256,7 @@ Example:
         name: "deliver",
         about: "Gives back a document when all its pages are held",
         usage: "relay deliver --file DESK (--id IIII [--to FILE] | --all DIR)",
-        rows: &[DESK, ANY_ID, SAVED, ALL],
+        said: &[DESK, ID, SAVED, ALL],
         more: "\
 Writes just the document, which stays at the desk. If a page is missing, nothing
 is written but `refused Incomplete`, to standard error. With `--to` the document
@@ -277,7 +276,7 @@ Examples:
         name: "forget",
         about: "Forgets a document",
         usage: "relay forget --file DESK --id IIII",
-        rows: &[DESK, ID],
+        said: &[DESK, ID],
         more: "\
 Drops every page of the document that the desk holds; only a scan or an import
 brings them back. Prints `forgotten IIII`. A refusal goes to standard output.
@@ -289,7 +288,7 @@ Example:
         name: "export",
         about: "Writes the pages of a document for another desk",
         usage: "relay export --file DESK (--id IIII [--to FILE] | --all DIR)",
-        rows: &[DESK, ANY_ID, SAVED, ALL_PAGES],
+        said: &[DESK, ID, SAVED, ALL_PAGES],
         more: "\
 The pages stay at the desk. `relay import` takes them in at another. A refusal
 goes to standard error. With `--to` the pages are on the disk once the command
@@ -308,7 +307,7 @@ Examples:
         name: "import",
         about: "Takes in the pages that another desk has exported",
         usage: "relay import --file DESK [--capacity N] (FILES .. | < PAGES)",
-        rows: &[DESK, CAPACITY, PAGES],
+        said: &[DESK, CAPACITY, PAGES],
         more: "\
 Saves all pages of a file at once, and prints a line:
   IIII n added MASK KIND
@@ -325,7 +324,7 @@ Example:
         name: "held",
         about: "Prints which pages a desk holds",
         usage: "relay held --file DESK [--id IIII]",
-        rows: &[DESK, ANY_ID],
+        said: &[DESK, ID],
         more: "\
 Prints a line for each document of which a page is held: `IIII n complete`, or
 `IIII n lacks 3 7 12`: its ID, its number of pages, and which are missing. With
@@ -342,7 +341,7 @@ Example:
         name: "copy",
         about: "Redraws the label of a page that a desk holds",
         usage: "relay copy --file DESK --id IIII --page M --side SIDE [--scheme SCHEME]\n         > IMAGE",
-        rows: &[DESK, ID, PAGE, COPY_SIDE, SCHEME],
+        said: &[DESK, ID, PAGE, SIDE, SCHEME],
         more: "\
 Draws the label of one page that is held, as a packed PBM image. A scan of it
 gives the same page. Its side need not be that of the lost label. A refusal goes
@@ -358,7 +357,7 @@ static OTHERS: [Page; 3] = [
         name: "world",
         about: "Simulates printers and desks in memory, from a script",
         usage: "relay world < SCRIPT",
-        rows: &[],
+        said: &[],
         more: "\
 The script names printers, desks, and events: prints, scans, restarts and so on.
 It may stop an event that saves wherever power could fail, or let its save fail.
@@ -373,7 +372,7 @@ Example:
         name: "explain",
         about: "Prints what a refusal means, and what to do",
         usage: "relay explain [NAME]",
-        rows: &[REFUSAL],
+        said: &[REFUSAL],
         more: "\
 It prints what the tables of docs/REFUSALS.md say.
 
@@ -384,7 +383,7 @@ Example:
         name: "version",
         about: "Prints the version, and the toolchain that proved it",
         usage: "relay version",
-        rows: &[],
+        said: &[],
         more: "",
     },
 ];
@@ -406,4 +405,21 @@ pub fn groups() -> [Group; 5] {
         Group { heading: Some("Desks"), pages: &OF_DESKS },
         Group { heading: Some("Other"), pages: &OTHERS },
     ]
+}
+
+/// The page of the command of a name, or that of the program where no command has it.
+pub fn page_named(name: &str) -> Page {
+    for group in &groups() {
+        for page in group.pages {
+            if page.name == name {
+                return *page;
+            }
+        }
+    }
+    PROGRAM
+}
+
+/// What is said of an argument, by its place among those of its command.
+pub fn said_of(page: &Page, at: usize) -> Said {
+    page.said.get(at).copied().unwrap_or(Said("", ""))
 }

@@ -1,11 +1,13 @@
 //! The command line of `relay`: its words become a `Command`, or a fault with the text to show.
 //!
-//! Proved: the command has the name on the line, and each field is what the parser found under its option's name; a
-//! side is 10 to 132, the most labels of a print are 2 to 16, a page is 1 to 16; the status is 0 at help, a version or
-//! an explanation, else 2. Not proved: what the parser finds on a line, and texts; tests show them.
+//! Proved: `command_line` gives the command of the words by a table of all commands, each field with what the parser
+//! finds for its option there; and it refuses exactly the lines that the parser's rules or those of this crate refuse,
+//! and those that only show something, with status 0 for what was asked for and 2 for what is wrong. Not proved: texts
+//! of helps and refusals, and which names `explain` knows; tests show them. Trusted: what the parser's crate says of it.
 #![tactic(auto)]
 
 mod check;
+mod command;
 mod explain;
 mod explanations;
 mod fault;
@@ -14,6 +16,7 @@ mod line;
 mod message;
 mod options;
 mod parse;
+mod said;
 
 pub use fault::LineFault;
 pub use line::CommandLine;

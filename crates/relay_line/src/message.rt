@@ -2,25 +2,13 @@
 
 ghost use Rattle.std.specs.Prelude.{◌≡◌, ◌++◌, ℕ, List, codes, string_bytes, IfOk};
 
-use crate::help::{self, Page};
+use crate::help::{self, Page, page_named};
 use clap::error::ErrorKind;
 use std::alloc::{AllocError, Global};
 use std::convert::AsStr;
 
 // What the program's help leaves out of the parser's lines.
 const HELP_LINE: &str = "\n  help     Print this message or the help of the given subcommand(s)";
-
-// The page of the command of a name, or that of the program where no command has it.
-fn page_named(name: &str) -> Page {
-    for group in &help::groups() {
-        for page in group.pages {
-            if page.name == name {
-                return *page;
-            }
-        }
-    }
-    help::PROGRAM
-}
 
 /// The page of the command that a line names, or that of the program where it names none.
 pub fn page_of<S: AsStr>(words: &[S]) -> Page {

@@ -1,7 +1,15 @@
 //! The arguments of the commands, and the whole program, as the parser knows them.
 
+ghost use Rattle.std.specs.Prelude.{◌≡◌, IfOk, false, find, map, option_map, []};
+ghost use Rattle.std.specs.Str.{bytes_eq};
+ghost use Rattle.clap.specs.Words.{app_of, rule_of, shape_of};
+ghost use Rattle.clap.specs.declared.Command.TheViews.{out-Command};
+ghost use Rattle.clap.specs.Simple.{new_shape};
+ghost use Rattle.relay_line.specs.Parsed.{app_of_table, argument_of, listing_of, rule_of_argument, shape_of_listing};
+
 use crate::help::{self, Page};
 use crate::parse::VERSION;
+use crate::said::Said;
 use clap::{Arg, ArgAction, Command};
 use std::alloc::{AllocError, Global};
 
@@ -11,78 +19,91 @@ use std::alloc::{AllocError, Global};
 #[rattlefmt::skip]
 pub enum Kind { Optional, Required, Default(&'static str), Flag, Word, Words }
 
-// What the value of an argument has to be: any text; a path, or a path but `-`, of which this is said; a number from
-// here to there; or the name of an encodation. The parser takes any text, and `check` looks at it.
+// What the value of an argument has to be: any text; a path, or a path but `-`; a number from here to there; the name
+// of an encodation; or what the parser writes for a flag. The parser takes any text, and `check` looks at it.
 #[derive(Clone, Copy)]
 #[rattlefmt::skip]
-pub enum Values { Text, Path, NoDash(&'static str), Number(u16, u16), Scheme }
+pub enum Values { Text, Path, NoDash, Number(u16, u16), Scheme, Truth }
 
-// An argument: its name, what the helps call its value, its kind, what its value has to be, and its help.
+// An argument: its name, its kind, and what its value has to be.
 #[derive(Clone, Copy)]
 #[rattlefmt::skip]
-pub struct Row(pub &'static str, pub &'static str, pub Kind, pub Values, pub &'static str);
+pub struct Row(pub &'static str, pub Kind, pub Values);
 
-// The arguments of the commands.
+/// A command with its arguments. What the helps say of them stands apart, in the same order.
+#[derive(Clone, Copy)]
 #[rattlefmt::skip]
-pub mod rows {
-    use super::{Kind::{Default, Flag, Optional, Required, Word, Words}, Row};
-    use super::Values::{self, NoDash, Number, Path, Scheme, Text};
+pub struct Listed { pub name: &'static str, pub rows: &'static [Row] }
 
-    const U16: Values = Number(0, 65_535);
-    const SIDE_HELP: &str = "modules per side: 10 to 26 by twos, 32, 36, 40, 44, 48,\n\
-        52, 64, 72, 80, 88, 96, 104, 120 or 132";
-    const LABEL_SIDE_HELP: &str = "modules per side: 12 to 26 by twos, 32, 36, 40, 44, 48,\n\
-        52, 64, 72, 80, 88, 96, 104, 120 or 132";
-    const LABELS_HELP: &str = "use the smallest side at which no more than K\n\
-        labels, 2 to 16, are needed";
-    const SCHEME_HELP: &str = "the encodation: ascii suits digits, c40 capitals, text\n\
-        small letters, base256 any bytes";
-    const HEX_HELP: &str = "the 20 digits that `give` printed, or the form with\n\
-        check digits that `ticket` printed";
-    const ID_HELP: &str = "the ID: 4 hexadecimal digits";
-    const IMAGES_HELP: &str = "files of images, read in turn; `-` is the standard input";
-    const FIRST_HELP: &str = "the first ID, from 0";
-    const LAST_HELP: &str = "the last ID, up to 64515";
-    const COUNT_HELP: &str = "the last N consecutive free IDs, in place of --first\n\
-        and --last";
-    const SAVED_HELP: &str = "save it as this file, in place of the standard output";
-    const SAVED_DASH: &str = "--to takes no `-`: without --to the output is the standard output, and `./-` names a file";
-    const ALL_DASH: &str = "--all takes no `-`: it saves in a folder, and `./-` names one";
-    const LEDGER_DASH: &str = "`audit` takes no `-`: it reads tickets from the standard input, and `./-` names a file";
-    pub const SIDE: Row = Row("side", "SIDE", Optional, Number(10, 132), LABEL_SIDE_HELP);
-    pub const LEAST_SIDE: Row = Row("side", "SIDE", Default("10"), Number(10, 132), SIDE_HELP);
-    pub const COPY_SIDE: Row = Row("side", "SIDE", Required, Number(10, 132), LABEL_SIDE_HELP);
-    pub const LABELS: Row = Row("labels", "K", Optional, Number(2, 16), LABELS_HELP);
-    pub const SCHEME: Row = Row("scheme", "SCHEME", Default("ascii"), Scheme, SCHEME_HELP);
-    pub const PLAIN: Row = Row("plain", "", Flag, Text, "draws in PBM's plain form, P1, in place of P4");
-    pub const LEDGER: Row = Row("file", "LEDGER", Required, Path, "the file that holds the ledger");
-    pub const DESK: Row = Row("file", "DESK", Required, Path, "the desk; its files are in the folder DESK.pages");
-    pub const TO: Row = Row("to", "N", Required, U16, "the number of the other printer");
-    pub const NUMBER: Row = Row("number", "N", Required, U16, "the ledger's number, up to 65535");
-    pub const OWN_NUMBER: Row = Row("number", "N", Default("0"), U16, "the printer's number, up to 65535");
-    pub const FIRST: Row = Row("first", "N", Required, U16, FIRST_HELP);
-    pub const LAST: Row = Row("last", "N", Required, U16, LAST_HELP);
-    pub const SOME_FIRST: Row = Row("first", "N", Optional, U16, FIRST_HELP);
-    pub const SOME_LAST: Row = Row("last", "N", Optional, U16, LAST_HELP);
-    pub const COUNT: Row = Row("count", "N", Optional, Number(1, 64_516), COUNT_HELP);
-    pub const LEDGERS: Row = Row("images", "LEDGERS", Words, NoDash(LEDGER_DASH), "the files that hold the ledgers");
-    pub const TICKET: Row = Row("ticket", "HEX", Required, Text, HEX_HELP);
-    pub const CAPACITY: Row = Row("capacity", "N", Default("64"), U16, "how many documents it may hold, 1 to 1024");
-    pub const ID: Row = Row("id", "IIII", Required, Text, ID_HELP);
-    pub const ANY_ID: Row = Row("id", "IIII", Optional, Text, ID_HELP);
-    pub const PAGE: Row = Row("page", "M", Required, Number(1, 16), "the page, from 1 to 16");
-    pub const SAVED: Row = Row("to", "FILE", Optional, NoDash(SAVED_DASH), SAVED_HELP);
-    pub const ALL: Row = Row("all", "DIR", Optional, NoDash(ALL_DASH), "save each complete document in this folder, by ID");
-    pub const ALL_PAGES: Row = Row("all", "DIR", Optional, NoDash(ALL_DASH), "save each document's pages in this folder, by ID");
-    pub const IMAGES: Row = Row("images", "IMAGES", Words, Path, IMAGES_HELP);
-    pub const PAGES: Row = Row("images", "FILES", Words, Path, "files of pages, in turn; `-` is the standard input");
-    pub const REFUSAL: Row = Row("name", "NAME", Word, Text, "the name of a refusal; without one, prints all names");
-}
+use self::Kind::{Default, Flag, Optional, Required, Word, Words};
+use self::Values::{NoDash, Number, Path, Scheme, Text, Truth};
+
+const U16: Values = Number(0, 65_535);
+
+const SIDE: Row = Row("side", Default("10"), Number(10, 132));
+
+const SCHEME: Row = Row("scheme", Default("ascii"), Scheme);
+
+const FILE: Row = Row("file", Required, Path);
+
+const NUMBER: Row = Row("number", Required, U16);
+
+const OWN_NUMBER: Row = Row("number", Default("0"), U16);
+
+const CAPACITY: Row = Row("capacity", Default("64"), U16);
+
+const TICKET: Row = Row("ticket", Required, Text);
+
+const ID: Row = Row("id", Required, Text);
+
+const ANY_ID: Row = Row("id", Optional, Text);
+
+const SAVED: Row = Row("to", Optional, NoDash);
+
+const ALL: Row = Row("all", Optional, NoDash);
+
+const IMAGES: Row = Row("images", Words, Path);
+
+/// All commands, in the order in which the program's help lists them.
+#[rattlefmt::skip]
+pub static COMMANDS: [Listed; 21] = [
+    Listed { name: "words", rows: &[SIDE, SCHEME] },
+    Listed { name: "draw", rows: &[SIDE, SCHEME, Row("plain", Flag, Truth)] },
+    Listed { name: "read", rows: &[IMAGES] },
+    Listed { name: "ledger", rows: &[FILE, Row("first", Required, U16), Row("last", Required, U16), OWN_NUMBER] },
+    Listed { name: "plan", rows: &[SCHEME] },
+    Listed { name: "print", rows: &[
+        FILE, Row("side", Optional, Number(10, 132)), Row("labels", Optional, Number(2, 16)), SCHEME, OWN_NUMBER,
+    ] },
+    Listed { name: "give", rows: &[
+        FILE, NUMBER, Row("to", Required, U16), Row("first", Optional, U16), Row("last", Optional, U16),
+        Row("count", Optional, Number(1, 64_516)),
+    ] },
+    Listed { name: "ticket", rows: &[TICKET] },
+    Listed { name: "take", rows: &[FILE, NUMBER, TICKET] },
+    Listed { name: "left", rows: &[FILE] },
+    Listed { name: "audit", rows: &[Row("images", Words, NoDash)] },
+    Listed { name: "scan", rows: &[FILE, CAPACITY, IMAGES] },
+    Listed { name: "deliver", rows: &[FILE, ANY_ID, SAVED, ALL] },
+    Listed { name: "forget", rows: &[FILE, ID] },
+    Listed { name: "export", rows: &[FILE, ANY_ID, SAVED, ALL] },
+    Listed { name: "import", rows: &[FILE, CAPACITY, IMAGES] },
+    Listed { name: "held", rows: &[FILE, ANY_ID] },
+    Listed { name: "copy", rows: &[
+        FILE, ID, Row("page", Required, Number(1, 16)), Row("side", Required, Number(10, 132)), SCHEME,
+    ] },
+    Listed { name: "world", rows: &[] },
+    Listed { name: "explain", rows: &[Row("name", Word, Text)] },
+    Listed { name: "version", rows: &[] },
+];
 
 // An argument, as the parser takes it: what its value has to be, and whether it has to stand, `check` looks at.
-fn argument<'a>(alloc: Global, row: &Row) -> Arg<'a> {
-    let Row(name, value, kind, _, text) = *row;
-    let argument = Arg::new(alloc, name).help(text);
+fn argument<'a>(alloc: Global, row: &Row, said: Said) -> Arg<'a>
+    ensures rule { rule_of result ≡ rule_of_argument (argument_of row.now) }
+    ensures local { result.global ≡ false }
+{
+    let (Row(name, kind, _), Said(value, help)) = (*row, said);
+    let argument = Arg::new(alloc, name).help(help);
     match kind {
         Kind::Flag => argument.long(name).action(ArgAction::SetTrue),
         Kind::Word => argument.value_name(value),
@@ -93,18 +114,25 @@ fn argument<'a>(alloc: Global, row: &Row) -> Arg<'a> {
 }
 
 // A command of no arguments yet, with its help.
-fn command<'a>(alloc: Global, page: &Page) -> Command<'a> {
-    Command::new(alloc, page.name)
+fn command<'a>(alloc: Global, name: &'static str, page: &Page) -> Command<'a>
+    ensures app { app_of result ≡ record { top = shape_of result; subs = [] } }
+    ensures local { (out-Command result).has_globals ≡ false }
+    ensures shape { shape_of result ≡ new_shape name.entry.now }
+{
+    Command::new(alloc, name)
         .about(page.about)
         .override_usage(page.usage)
         .after_help(page.more)
 }
 
 // A command with its arguments.
-fn subcommand<'a>(alloc: Global, page: &Page) -> Result<Command<'a>, AllocError> {
-    let mut command = command(alloc, page);
-    for row in page.rows {
-        command = command.arg(argument(alloc, row))?;
+fn subcommand<'a>(alloc: Global, listed: &Listed, page: &Page) -> Result<Command<'a>, AllocError>
+    ensures shape { IfOk result (λ command. shape_of command ≡ shape_of_listing (listing_of listed.now)) }
+    ensures local { IfOk result (λ command. (out-Command command).has_globals ≡ false) }
+{
+    let mut command = command(alloc, listed.name, page);
+    for (at, row) in listed.rows.iter().enumerate() {
+        command = command.arg(argument(alloc, row, help::said_of(page, at)))?;
     }
     Ok(command)
 }
@@ -113,14 +141,27 @@ fn subcommand<'a>(alloc: Global, page: &Page) -> Result<Command<'a>, AllocError>
 ///
 /// # Errors
 /// Where the allocator refuses its memory.
-pub fn relay<'a>(alloc: Global) -> Result<Command<'a>, AllocError> {
-    let mut program = command(alloc, &help::PROGRAM)
+pub fn program<'a>(alloc: Global, commands: &[Listed]) -> Result<Command<'a>, AllocError>
+    ensures { IfOk result (λ command. app_of command ≡ app_of_table (map listing_of commands.now)) }
+{
+    let mut program = command(alloc, "relay", &help::PROGRAM)
         .bin_name("relay")?
         .version(VERSION);
-    for group in &help::groups() {
-        for page in group.pages {
-            program = program.subcommand(subcommand(alloc, page)?)?;
-        }
+    for listed in commands {
+        let page = help::page_named(listed.name);
+        program = program.subcommand(subcommand(alloc, listed, &page)?)?;
     }
     Ok(program)
+}
+
+/// The arguments of the command of a name, if it is in the table.
+pub fn rows_named(commands: &[Listed], name: &str) -> Option<&'static [Row]>
+    ensures { option_map (λ rows. map argument_of rows.now) result
+        ≡ option_map (λ listing. listing.arguments) (find (λ listing. bytes_eq listing.name name.now) (map listing_of commands.now)) }
+{
+    match commands {
+        [] => None,
+        [listed, ..] if listed.name == name => Some(listed.rows),
+        [_, rest @ ..] => rows_named(rest, name),
+    }
 }

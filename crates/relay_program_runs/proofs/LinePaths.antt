@@ -237,20 +237,20 @@ module _ (A : Type 0) where
         over_opening _ _ _ _ seen 0 at rans (subst (λ (p : PlacesView). RunsOver p rans) same over)
     over_all (opens_none refused at) rans all saved over = over_opening _ _ _ _ _ _ at rans over
 
-    over_line : (inputs : List ℕ → FileView) (name : Option (List ℕ)) (old new : SystemView) (status : ℕ)
-        (line : program.Runs A inputs name old status new) (rans : List (Ran A)) → AllIn paths (commands_in line ++ rans) →
+    over_line : (inputs : List ℕ → FileView) (words : List (List ℕ)) (old new : SystemView) (status : ℕ)
+        (line : program.Runs A inputs words old status new) (rans : List (Ran A)) → AllIn paths (commands_in line ++ rans) →
         AllByRecursion (IsNone paths) (saved_as line) → RunsOver new.places rans →
         RunsOver old.places (commands_in line ++ rans)
-    over_line inputs name old new status (does line named met (does_here none one at)) rans all saved over =
+    over_line inputs words old new status (does line right given (does_here none one at)) rans all saved over =
         over_at (named_path line.command) (ran_at at) old.places new.places refl at.is_at rans over
-    over_line inputs name old new status (does line named met (does_and_saves path is to)) rans all saved over =
+    over_line inputs words old new status (does line right given (does_and_saves path is to)) rans all saved over =
         over_saved line.command path old new status to rans
         (all_later _ (if_named (named_path line.command) (ran_at to.does)) rans all) saved.0 over
-    over_line inputs name old new status (does line named met (does_all what file folder is each)) rans all saved over =
+    over_line inputs words old new status (does line right given (does_all what file folder is each)) rans all saved over =
         over_all each rans all saved over
-    over_line inputs name old new status (does line named met (lacks_memory names same told)) rans all saved over =
+    over_line inputs words old new status (does line right given (lacks_memory names same told)) rans all saved over =
         subst (λ (p : PlacesView). RunsOver p rans) same over
-    over_line inputs name old new status (shows fault ends shown same) rans all saved over =
+    over_line inputs words old new status (shows fault ends shown same) rans all saved over =
         subst (λ (p : PlacesView). RunsOver p rans) same over
 
     over_lines : (lines : List (LineRan A)) (places : PlacesView) → AllIn paths (all_commands lines) →
@@ -260,7 +260,7 @@ module _ (A : Type 0) where
     over_lines (line ∷ later) places all saved (same, follow) =
         let rest = all_later _ (commands_in line.runs) (all_commands later) all in
         subst (λ (p : PlacesView). RunsOver p (all_commands (line ∷ later))) same
-        (over_line line.inputs line.name line.before line.after line.status line.runs (all_commands later)
+        (over_line line.inputs line.words line.before line.after line.status line.runs (all_commands later)
         all saved.0 (over_lines later line.after.places rest saved.1 follow))
 
   asks : (lines : List (LineRan A)) (ask : LinesAsk lines) →

@@ -10,16 +10,16 @@ use Rattle.relay.specs.Program as program
 use Rattle.relay_program_runs.specs.Law.{AreApart, DeliversPrinted, Each, IsBlank, IsFirstOfItsId, Ran, TakesGiven, TakesPrinted, all_made, exited}
 use Rattle.relay_shared.specs.Command.{FileView}
 
--- A line that ran: what is known of the files that it was to read, by their names; its first word; the system before
--- and after it; and its status. If the machine cut it short, nobody saw that, and the line left what it may leave if,
+-- A line that ran: what is known of the files that it was to read, by their names; its words; the system before and after
+-- it; and its status. If the machine cut it short, nobody saw that, and the line left what it may leave if,
 -- from some point on, each call and each write fails.
 pub record LineRan (A : Type 0) : Type 0 where
   pub inputs : List ℕ → FileView
-  pub name : Option (List ℕ)
+  pub words : List (List ℕ)
   pub before : SystemView
   pub status : ℕ
   pub after : SystemView
-  pub runs : program.Runs A inputs name before status after
+  pub runs : program.Runs A inputs words before status after
 
 -- ---- the commands of lines
 
@@ -57,11 +57,11 @@ module _ {A : Type 0} where
   commands_of (opens_desk seen desk at between gives) = ran_at at ∷ givers_of gives
   commands_of (opens_none refused at) = ran_at at ∷ []
 
-  abbrev pub commands_in : {inputs : List ℕ → FileView} {name : Option (List ℕ)} {old new : SystemView} {status : ℕ} →
-      program.Runs A inputs name old status new → List (Ran A)
-  commands_in (does line named met (does_here none one at)) = if_named (named_path line.command) (ran_at at)
-  commands_in (does line named met (does_and_saves path is to)) = if_named (named_path line.command) (ran_at to.does)
-  commands_in (does line named met (does_all what file folder is all)) = commands_of all
+  abbrev pub commands_in : {inputs : List ℕ → FileView} {words : List (List ℕ)} {old new : SystemView} {status : ℕ} →
+      program.Runs A inputs words old status new → List (Ran A)
+  commands_in (does line right is (does_here none one at)) = if_named (named_path line.command) (ran_at at)
+  commands_in (does line right is (does_and_saves path saved to)) = if_named (named_path line.command) (ran_at to.does)
+  commands_in (does line right is (does_all what file folder gives all)) = commands_of all
   commands_in other = []
 
   abbrev pub all_commands : List (LineRan A) → List (Ran A)
@@ -76,10 +76,10 @@ module _ {A : Type 0} where
   paths_of_all (opens_none refused at) = []
 
   -- the paths at which a line was to save its outputs
-  abbrev pub saved_as : {inputs : List ℕ → FileView} {name : Option (List ℕ)} {old new : SystemView} {status : ℕ} →
-      program.Runs A inputs name old status new → List (List ℕ)
-  saved_as (does line named met (does_and_saves path is to)) = path ∷ []
-  saved_as (does line named met (does_all what file folder is all)) = paths_of_all all
+  abbrev pub saved_as : {inputs : List ℕ → FileView} {words : List (List ℕ)} {old new : SystemView} {status : ℕ} →
+      program.Runs A inputs words old status new → List (List ℕ)
+  saved_as (does line right is (does_and_saves path saved to)) = path ∷ []
+  saved_as (does line right is (does_all what file folder gives all)) = paths_of_all all
   saved_as other = []
 
   -- ---- premises
