@@ -42,6 +42,12 @@ fn locks_files(access: Access, found: Found) -> bool
     }
 }
 
+// Whether something is at a path, as far as that can be found out.
+fn may_be_there(rt: &HostRuntime, path: &str) -> bool {
+    let found = rt.symlink_metadata(path);
+    !matches!(found, Err(error) if error.kind() == ErrorKind::NotFound)
+}
+
 // Whether the draft of this number, or for 0 the one without, is a second name of the file, which a stop has left it.
 fn is_own_draft(rt: &HostRuntime, place: &Place, number: u8, file: &Metadata) -> bool {
     let numbered = draft_path(place.file.as_str(), number);
@@ -169,7 +175,7 @@ impl<'a> CommandFiles<'a> {
         let (rt, place) = (self.rt, &self.place);
         let (access, is_desk) = (place.access, place.is_desk);
         let file = self.file()?;
-        let has_folder = is_desk && rt.symlink_metadata(place.folder.as_str()).is_ok();
+        let has_folder = is_desk && may_be_there(rt, place.folder.as_str());
         let found = Found {
             is_any: file.is_some() || has_folder,
             has_documents: matches!(&file, Some(file) if file.len() > EMPTY_JOINT_FILE_BYTES),

@@ -44,22 +44,25 @@ pub(crate) struct Place {
     pub(crate) access: Access,
     /// The ledger, or the joint file of a desk.
     pub(crate) file: String,
-    /// Why a link that is there can't be followed.
+    /// Why it can't be looked at, or a link that is there can't be followed.
     pub(crate) file_fault: Option<io::Error>,
     /// What a save writes first.
     pub(crate) draft: String,
     /// The folder of a desk's files.
     pub(crate) folder: String,
-    /// Why a link that is there can't be followed.
+    /// Why it can't be looked at, or a link that is there can't be followed.
     pub(crate) folder_fault: Option<io::Error>,
     /// The file that is locked.
     pub(crate) lock: String,
 }
 
-// Where the link at a path leads, if one is there, or why it can't be followed.
+// Where the link at a path leads, if one is there, or why it can't be looked at or followed.
 fn follow(rt: &HostRuntime, path: String) -> Result<(String, Option<io::Error>), AllocError> {
-    if !matches!(rt.symlink_metadata(path.as_str()), Ok(found) if found.is_symlink()) {
-        return Ok((path, None));
+    match rt.symlink_metadata(path.as_str()) {
+        Ok(found) if found.is_symlink() => {}
+        Ok(_) => return Ok((path, None)),
+        Err(error) if error.kind() == ErrorKind::NotFound => return Ok((path, None)),
+        Err(error) => return Ok((path, Some(error))),
     }
     match rt.canonicalize(rt.alloc(), path.as_str()) {
         Ok(own) => Ok((own.into_string(), None)),
