@@ -312,7 +312,8 @@ Helps text old status new = (new.input ≡ old.input)
 -- What a line that is no command does, by its fault: a help goes to the output, what is wrong to the standard error.
 abbrev pub Informs : LineFault → StandardView → ℕ → StandardView → Type 0
 Informs (Line text given) old status new =
-    (Helps (string_bytes text) old status new × (given ≡ 0)) ⊎ (ShowsOnErrors (string_bytes text) old new × (status ≡ given))
+    (Helps (string_bytes text) old status new × (given ≡ 0))
+    ⊎ (ShowsOnErrors (string_bytes text) old new × (status ≡ given) × (given ≢ 0))
 Informs Memory old status new = PutsRefusal true (codes "Memory") old status new
 
 -- What a line of these words does, the first of which is the program's name: the command that they give, if they give one;
