@@ -1,5 +1,5 @@
 -- What the parser met on a line, and the line of it.
-use Rattle.std.proofs.Common.{◌≡◌, ◌∙◌, ℕ, List, [], ◌∷◌, Option, Some, None, true, map, zero, suc, refl, sym, ap, ap₂, inl, inr, is_some, option_map, slice_get, unwrap_or, subst}
+use Rattle.std.proofs.Common.{◌≡◌, ◌∙◌, ℕ, List, [], Option, Some, None, true, map, refl, sym, ap, ap₂, is_some, option_map, slice_get, unwrap_or, subst}
 use Rattle.std.proofs.lemmas.Bool.{true≢false, false≢true}
 use Rattle.std.specs.Borrow.{Bor}
 use Rattle.std.specs.Box.{box_value}
@@ -12,13 +12,12 @@ use Rattle.clap.specs.declared.parser.matches.ArgMatches.{ArgMatches}
 use Rattle.clap.specs.declared.parser.matches.ArgMatches.TheViews.{out-SubCommand}
 use Rattle.clap.specs.declared.parser.matches.SubCommand.{SubCommand}
 use Rattle.relay_line.proofs.Endings.{ends_by_kind}
-use Rattle.relay_line.specs.Line.{EndsAmong, EndsWithStatus, IsLineMet, met_rows}
+use Rattle.relay_line.specs.Line.{EndsAmong, EndsWithStatus, met_rows}
 use Rattle.relay_line.specs.Listed.{Listing, the_commands}
 use Rattle.relay_line.specs.Parsed.{app_of_table, the_app}
 use Rattle.relay_line.specs.Rules.{endings, endings_by, endings_met, kind_status}
 use Rattle.relay_line.specs.declared.fault.LineFault.{LineFault}
 use Rattle.relay_line.specs.declared.fault.LineFault.TheVariants.{Memory}
-use Rattle.relay_line.specs.declared.line.CommandLine.{CommandLine}
 
 -- the program is one of those whose parse clap's contract gives
 pub app_is_simple : is_simple the_app ≡ true
