@@ -1,5 +1,5 @@
 -- Lists of texts that are read one after another, and the last line end of a text.
-use Rattle.std.proofs.Common.{◌≡◌, ◌≢◌, ℕ, zero, suc, ◌+◌, ◌-◌, ◌<◌, ◌≤◌, List, [], ◌∷◌, ◌++◌, length, take, get_or, Option, Some, None, Bor, cond, nat_lt, true, false, refl, arith}
+use Rattle.std.proofs.Common.{◌≡◌, ◌≢◌, ℕ, zero, suc, ◌-◌, ◌<◌, ◌≤◌, List, [], ◌∷◌, ◌++◌, length, take, get_or, Option, Some, None, Bor, cond, nat_lt, true, false, refl, arith}
 use Rattle.std.proofs.lemmas.{Grind.common_steps, List.map-append, Slice.Zip.all_zipped_more}
 use Rattle.std.specs.{List.AllZip, Option.MatchOption, Option.unwrap_or}
 use Rattle.std.specs.Io.BufRead.{strip_last, ends_with_byte}

@@ -6,7 +6,7 @@ ghost use Rattle.relay_script.specs.Words.{cut_at, IsRead, IsReadBy};
 ghost use Rattle.relay_script.specs.Scripts.{AreDesks, IsScript, AreLinesOf, desks_place, SpellsRange};
 
 use crate::spelled::{Spelled, read_all, words};
-use crate::words::{ScriptFault, number};
+use crate::words::{ScriptFault, number, range};
 use dm_event_history::Event;
 use dm_print_ledger::Range;
 use std::alloc::{Allocator, Global};
@@ -120,10 +120,7 @@ impl<A: Allocator + Copy> Spelled<A> for Range {
         let ["range", first, last] = *words.as_slice() else {
             return Err(ScriptFault::Script);
         };
-        let (Some(first), Some(last)) = (number(first), number(last)) else {
-            return Err(ScriptFault::Script);
-        };
-        Ok(Range { first, last })
+        range(first, last).ok_or(ScriptFault::Script)
     }
 }
 

@@ -1,6 +1,6 @@
 //! What each kind of word of a script stands for, and why a script is not taken.
 
-ghost use Rattle.std.specs.Prelude.{◌≡◌, ◌↔◌, ◌<◌, length, ℕ, List, Ok, IsTrue, MatchOption};
+ghost use Rattle.std.specs.Prelude.{◌≡◌, ◌⊎◌, ◌↔◌, ◌<◌, length, ℕ, List, Ok, IsTrue, MatchOption};
 ghost use Rattle.hex.specs.Hex.{decode_of};
 ghost use Rattle.relay_script.specs.Words.{AreBytesOf, AreFlipsOf, IsFlipOf, FitsWhereFound, IsIdOf, IsScriptNumber, IsNumberOf, IsRead, IsSideOf, IsStopOf, script_fault_name};
 ghost use Rattle.relay_script.specs.declared.words.ScriptFault.TheVariants.{Memory};
@@ -8,6 +8,7 @@ ghost use Rattle.relay_script.specs.declared.words.ScriptFault.TheVariants.{Memo
 use crate::spelled::{Spelled, read_all};
 use dm_append_label::FileId;
 use dm_event_history::{Bytes, Flips, Kept, Stop};
+use dm_print_ledger::Range;
 use dm_size::Size;
 use std::alloc::{AllocError, Allocator};
 
@@ -46,6 +47,17 @@ pub(crate) fn number(word: &str) -> Option<u16>
         return None;
     }
     word.parse().ok()
+}
+
+// The range of two words, its first number and its last.
+pub(crate) fn range(first: &str, last: &str) -> Option<Range>
+    ensures { MatchOption result ((¬ IsScriptNumber first.now) ⊎ (¬ IsScriptNumber last.now))
+        (λ range. IsNumberOf first.now range.first × IsNumberOf last.now range.last) }
+{
+    match (number(first), number(last)) {
+        (Some(first), Some(last)) => Some(Range { first, last }),
+        _ => None,
+    }
 }
 
 #[tactic(auto, unfolding(crate::specs::Words::IsSideOf))]
