@@ -26,4 +26,4 @@ pub use fault::{LabelFault, SealFault};
 pub use file_id::FileId;
 pub use opening::{FoundPage, MOST_PAGE_BYTES, Opened, find_page, open_label, open_page};
 pub use page::Page;
-pub use sealing::{seal, seal_with};
+pub use sealing::seal;

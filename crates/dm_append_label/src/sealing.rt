@@ -10,7 +10,6 @@ use crate::head::{HEAD_WORDS, Head, words_of_head};
 use crate::page::Page;
 use dm_encodation::{EncodeFault, Scheme, encode};
 use dm_finder_frame::Grid;
-use dm_placement::Layout;
 use dm_size::Size;
 use dm_symbol::draw_symbol;
 use std::alloc::Allocator;
@@ -56,24 +55,5 @@ pub fn seal<A: Allocator + Copy>(
     ensures too_long { IsErrOf result TooLong ↔ IsTooLong size scheme page.now.bytes }
 {
     let data = data_words(alloc, page, size, scheme)?;
-    let layout = Layout::of_size(alloc, size)?;
-    Ok(draw_symbol(alloc, &layout, &data)?)
-}
-
-/// `seal`, by a layout made before: that of the size, for many labels of one size.
-///
-/// # Errors
-/// As `seal`.
-pub fn seal_with<A: Allocator + Copy>(
-    alloc: A,
-    page: &Page<A>,
-    layout: &Layout<A>,
-    scheme: Scheme,
-) -> Result<Grid<A>, SealFault>
-    ensures sealed { IfOk result (Seals layout.now scheme page.now) }
-    ensures carries { IfOk result (Carries page.now) }
-    ensures too_long { IsErrOf result TooLong ↔ IsTooLong layout.now scheme page.now.bytes }
-{
-    let data = data_words(alloc, page, layout.size(), scheme)?;
-    Ok(draw_symbol(alloc, layout, &data)?)
+    Ok(draw_symbol(alloc, size, &data)?)
 }

@@ -14,3 +14,4 @@ pub mod PlacedMatrix
 pub mod BinaryDigits
 pub mod LiftedWords
 pub mod FlippedBits
+pub mod TakenPlaces

@@ -1,14 +1,8 @@
 -- Places of modules, row by row.
-use Rattle.std.proofs.Common.{◌≡◌, All, ℕ, ◌+◌, ◌-◌, ◌*◌, ◌^◌, ◌<◌, ◌≤◌, List, [], ◌∷◌, ◌/◌, ◌%◌, zero, suc, map, get_or, length, arith, refl}
-use Rattle.std.proofs.lemmas.List.{length-map, Elements.All-from_get_or}
-use Rattle.std.proofs.lemmas.Nat.{mul-add-lt, div-mul-add, mod-mul-add}
+use Rattle.std.proofs.Common.{◌≡◌, ℕ, ◌+◌, ◌-◌, ◌*◌, ◌<◌, ◌≤◌, List, [], ◌∷◌, ◌/◌, ◌%◌, zero, suc, map, get_or, arith, refl}
+use Rattle.std.proofs.lemmas.Nat.{div-mul-add, mod-mul-add}
 use Rattle.dm_placement.specs.declared.shape.{Cell.Cell, Shape.TheVariants.Plain}
 use Rattle.dm_placement.specs.Placement.{cell_at, cell_from_anchor, shape_cells, place_of}
-use Rattle.dm_placement.proofs.CellLists.{all_in_at, AllIn}
-
--- a place fits sixteen bits
-pub place_fits : (n r c : ℕ) → n ≤ 120 → r < n → c < n → r * n + c < 2 ^ 16
-place_fits n r c h hr hc = grind arith
 
 -- no cell of a codeword wraps whose anchor is two rows and two columns or more inside
 unwrapped : (n r c up left : ℕ) → 2 ≤ r → r < n → 2 ≤ c → c < n → up ≤ 2 → left ≤ 2
@@ -41,15 +35,3 @@ row_of_place n p h = div-mul-add p.row n p.column h
 
 pub column_of_place : (n : ℕ) (p : Cell) → p.column < n → place_of n p % n ≡ p.column
 column_of_place n p h = mod-mul-add p.row n p.column h
-
--- the places of cells in the square are in the square
-pub places_in : (n : ℕ) (cells : List Cell) (i : ℕ) → AllIn n cells → i < length cells
-    → get_or (map (place_of n) cells) i 0 < n * n
-places_in n cells i a h = grind (arith, place_at, all_in_at, mul-add-lt)
-
--- each of the places of cells in the square is in the square
-pub all_places_in : (n : ℕ) (cells : List Cell) → AllIn n cells → All (λ place. place < n * n) (map (place_of n) cells)
-all_places_in n cells a =
-    let m = length-map cells (place_of n) in
-    All-from_get_or (λ place. place < n * n) (map (place_of n) cells) 0
-    (λ i h. places_in n cells i a (omega (arith, m)))

@@ -1,13 +1,12 @@
 //! The cells of all bits of a size, kept for several symbols.
 
-ghost use Rattle.std.specs.Prelude.{◌≡◌, ◌<◌, ◌++◌, ℕ, List, IfOk, false, map};
+ghost use Rattle.std.specs.Prelude.{◌≡◌, ◌<◌, ◌≤◌, IfOk, vec_capacity};
 ghost use Rattle.dm_size.specs.declared.size.Size.{Size};
-ghost use Rattle.dm_size.specs.Sizes.{mapping};
-ghost use Rattle.dm_placement.specs.Placement.{bit_cells, cell, IsBit, place_of};
-ghost use Rattle.dm_placement.specs.inner.Places.{HasWalked, is_over, places_found, steps_left};
+ghost use Rattle.dm_size.specs.Sizes.{all_words, mapping};
+ghost use Rattle.dm_placement.specs.Placement.{cell, IsBit};
+ghost use Rattle.dm_placement.specs.inner.Places.{HasKept};
 
-use crate::shape::places_of;
-use crate::walk::Walk;
+use crate::walk::{Taker, walk};
 use dm_size::Size;
 use std::alloc::{AllocError, Allocator, Global};
 use std::marker::Model;
@@ -17,7 +16,8 @@ use std::marker::Model;
 #[derive(Drop)]
 pub struct Layout<A: Allocator = Global> {
     size: Size,
-    places: Vec<u16, A>,
+    // those of the eight bits of each codeword
+    places: Vec<[usize; 8], A>,
 }
 
 impl<A: Allocator> Model for Layout<A> {
@@ -25,21 +25,16 @@ impl<A: Allocator> Model for Layout<A> {
 
     ghost view = { λ l. l.size };
 
-    ghost invariant = { λ l. l.places.items ≡ map (place_of (mapping l.size)) (bit_cells (mapping l.size)) };
+    ghost invariant = { λ l. HasKept l.size (all_words l.size) l.places.items };
 }
 
-/// Goes one step on, and gives the places of the codeword that comes there, if any.
-#[inline(always)]
-pub(crate) fn places_of_step(size: Size, walk: &mut Walk) -> Option<[u16; 8]>
-    requires walked { (places : List ℕ) × HasWalked size walk.old places }
-    requires goes_on { is_over walk.old ≡ false }
-    ensures walked { (places : List ℕ) → HasWalked size walk.old places
-        → HasWalked size walk.new (places ++ places_found result) }
-    ensures nearer { steps_left walk.new < steps_left walk.old }
-{
-    match walk.step() {
-        Some(shape) => Some(places_of(size.mapping(), shape)),
-        None => None,
+// Keeps the places of the codewords of a size.
+impl<A: Allocator> Taker for Vec<[usize; 8], A> {
+    ghost has_taken = { λ _ v s k. HasKept s k v.items × (all_words s ≤ vec_capacity v) };
+
+    #[inline(always)]
+    fn take(&mut self, places: [usize; 8]) {
+        self.push_reserved(places);
     }
 }
 
@@ -51,13 +46,8 @@ impl<A: Allocator> Layout<A> {
     pub fn of_size(alloc: A, size: Size) -> Result<Layout<A>, AllocError>
         ensures { IfOk result (λ l. l ≡ size) }
     {
-        let mut places = Vec::with_capacity(alloc, 8 * size.all_words())?;
-        let mut walk = Walk::of_size(size);
-        while !walk.is_over() {
-            if let Some(eight) = places_of_step(size, &mut walk) {
-                places.extend_from_slice(&eight)?;
-            }
-        }
+        let mut places = Vec::with_capacity(alloc, size.all_words())?;
+        walk(size, &mut places);
         Ok(Layout { size, places })
     }
 
@@ -77,15 +67,19 @@ impl<A: Allocator> Layout<A> {
         ensures in_rows { result.0 < mapping self.now }
         ensures in_columns { result.1 < mapping self.now }
     {
-        let place = self.places[8 * word + bit as usize - 1];
-        let side = self.size.mapping();
-        (place / side, place % side)
+        let place = self.places[word][bit as usize - 1];
+        let side = self.size.mapping() as usize;
+        ((place / side) as u16, (place % side) as u16)
     }
 
-    /// The places of all bits' modules, in order.
-    pub(crate) fn places(&self) -> &[u16]
-        ensures { result.now ≡ map (place_of (mapping self.now)) (bit_cells (mapping self.now)) }
+    /// Hands over the places of all codewords of its size, in order.
+    #[inline(always)]
+    pub(crate) fn hand_over<T: Taker>(&self, taker: &mut T)
+        requires { T.has_taken taker.old taker.old self.now 0 }
+        ensures { T.has_taken taker.old taker.new self.now (all_words self.now) }
     {
-        self.places.as_slice()
+        for places in &self.places {
+            taker.take(*places);
+        }
     }
 }

@@ -7,8 +7,8 @@ ghost use Rattle.dm_placement.specs.inner.Places.{MayBeAnchor, IsPlaceable, IsSi
 /// A module of the mapping matrix, by its row and its column, both from 0.
 #[derive(Clone, Copy, Debug, PartialEq, Eq)]
 pub struct Cell {
-    pub row: u16,
-    pub column: u16,
+    pub row: usize,
+    pub column: usize,
 }
 
 /// The shape of a codeword: the plain one at its anchor, or one of the two that span two corners. The third and the
@@ -22,8 +22,7 @@ pub enum Shape {
 
 // Where the module of a row and a column stands, row by row.
 #[inline(always)]
-#[tactic(auto, using(crate::proofs::Places::place_fits))]
-fn place_at(side: u16, row: u16, column: u16) -> u16
+fn place_at(side: usize, row: usize, column: usize) -> usize
     requires side { IsSideSound side }
     requires in_rows { row < side }
     requires in_columns { column < side }
@@ -36,7 +35,7 @@ fn place_at(side: u16, row: u16, column: u16) -> u16
 // again at the bottom, and what leaves it at the left comes in again at the right.
 #[inline(always)]
 #[tactic(auto, unfolding(crate::specs::Placement::cell_from_anchor))]
-fn cell_from_anchor(side: u16, anchor: Cell, up: u16, left: u16) -> Cell
+fn cell_from_anchor(side: usize, anchor: Cell, up: usize, left: usize) -> Cell
     requires side { IsSideSound side }
     requires anchor { MayBeAnchor side anchor }
     requires up_two { up ≤ 2 }
@@ -64,7 +63,7 @@ fn cell_from_anchor(side: u16, anchor: Cell, up: u16, left: u16) -> Cell
 
 // Where the module that stands `up` rows above and `left` columns left of an anchor stands, row by row.
 #[inline(always)]
-fn place_from_anchor(side: u16, anchor: Cell, up: u16, left: u16) -> u16
+fn place_from_anchor(side: usize, anchor: Cell, up: usize, left: usize) -> usize
     requires side { IsSideSound side }
     requires anchor { MayBeAnchor side anchor }
     requires up_two { up ≤ 2 }
@@ -75,10 +74,10 @@ fn place_from_anchor(side: u16, anchor: Cell, up: u16, left: u16) -> u16
     place_at(side, cell.row, cell.column)
 }
 
-// Where the bits of a codeword of the plain shape stand whose anchor is two rows and two columns or more inside of the
-// matrix, so that none of them wraps.
+/// Where the bits of a codeword of the plain shape stand whose anchor is two rows and two columns or more inside of the
+/// matrix, so that none of them wraps.
 #[inline(always)]
-fn places_inside(side: u16, anchor: Cell) -> [u16; 8]
+pub(crate) fn places_inside(side: usize, anchor: Cell) -> [usize; 8]
     requires side { IsSideSound side }
     requires rows { (2 ≤ anchor.row) × (anchor.row < side) }
     requires columns { (2 ≤ anchor.column) × (anchor.column < side) }
@@ -97,16 +96,15 @@ fn places_inside(side: u16, anchor: Cell) -> [u16; 8]
     ]
 }
 
-/// Where bits 1 to 8 of a codeword stand, row by row.
-#[inline(always)]
+/// Where bits 1 to 8 of a codeword stand, row by row. Few codewords ask it, so it stays out of the walk's loops.
+#[inline(never)]
 #[tactic(auto, unfolding(crate::specs::Placement::shape_cells))]
-pub(crate) fn places_of(side: u16, shape: Shape) -> [u16; 8]
+pub(crate) fn places_of(side: usize, shape: Shape) -> [usize; 8]
     requires side { IsSideSound side }
     requires fits { IsPlaceable side shape }
     ensures { result ≡ map (place_of side) (shape_cells side shape) }
 {
     match shape {
-        Shape::Plain(p) if p.row >= 2 && p.column >= 2 => places_inside(side, p),
         Shape::Plain(p) => [
             place_from_anchor(side, p, 2, 2),
             place_from_anchor(side, p, 2, 1),

@@ -1,41 +1,37 @@
-//! The walk over the mapping matrix, one step at a time (ISO/IEC 16022:2006, Annex F). It needs no table of taken
+//! The walk over the mapping matrix, by the three loops of ISO/IEC 16022:2006, Annex F. It needs no table of taken
 //! cells: the only cells that are taken before it comes to them are the two that are left out for the second corner
 //! shape.
 
-ghost use Rattle.std.specs.Prelude.{◌≡◌, false};
+ghost use Rattle.std.specs.Prelude.{◌≡◌, ◌+◌, ℕ, length};
 ghost use Rattle.std.specs.Option.{option_to_list};
-ghost use Rattle.dm_size.specs.Sizes.{mapping};
-ghost use Rattle.dm_placement.specs.Placement.{is_left_out, shapes};
-ghost use Rattle.dm_placement.specs.inner.Places.{IsSideSound, IsAhead, IsNearby, WalkSteps, corner_at, is_over, word_at};
+ghost use Rattle.dm_size.specs.declared.size.Size.{Size};
+ghost use Rattle.dm_size.specs.Sizes.{all_words, mapping};
+ghost use Rattle.dm_placement.specs.Placement.{is_left_out};
+ghost use Rattle.dm_placement.specs.inner.Places.{AreOfWord, ComesTo, IsSideSound, corner_at, word_at};
 
-use crate::shape::{Cell, Shape};
+use crate::shape::{Cell, Shape, places_inside, places_of};
 use dm_size::Size;
 
 // Rows and columns of the walk count from this many above and left of the matrix: it never goes further out on those
 // sides.
 const MARGIN: usize = 2;
 
-/// What the walk does next: it begins an upward sweep, or goes on with one up or one down.
-#[derive(Clone, Copy)]
-pub(crate) enum Sweep {
-    Start,
-    Up,
-    Down,
-}
+/// What takes the places of the codewords of a size, one codeword after another.
+pub(crate) trait Taker {
+    // since it was the first of these two it has taken this many codewords of a size
+    ghost has_taken: { Self → Self → Size → ℕ → Type 0 };
 
-/// A position of the walk over a mapping matrix of this side.
-#[derive(Clone, Copy)]
-pub(crate) struct Walk {
-    side: usize,
-    sweep: Sweep,
-    row: usize,
-    column: usize,
+    /// Takes the places of the bits of the next codeword.
+    fn take(&mut self, places: [usize; 8])
+        requires { (first : Self) × (s : Size) × (k : ℕ) × has_taken first self.old s k × AreOfWord s k places }
+        ensures { (first : Self) (s : Size) (k : ℕ) → has_taken first self.old s k → AreOfWord s k places
+            → has_taken first self.new s (k + 1) };
 }
 
 // Whether a cell is one of the two that no codeword has as its anchor, since the second corner shape stands there.
 #[inline(always)]
 #[tactic(auto, unfolding(crate::specs::Placement::is_left_out))]
-fn is_left_out(side: u16, cell: Cell) -> bool
+fn is_left_out(side: usize, cell: Cell) -> bool
     requires { IsSideSound side }
     ensures { result ≡ is_left_out side cell }
 {
@@ -70,79 +66,74 @@ fn word_at(side: usize, row: usize, column: usize) -> Option<Shape>
         return None;
     }
     let anchor = Cell {
-        row: (row - MARGIN) as u16,
-        column: (column - MARGIN) as u16,
+        row: row - MARGIN,
+        column: column - MARGIN,
     };
-    if is_left_out(side as u16, anchor) {
+    if is_left_out(side, anchor) {
         return None;
     }
     Some(Shape::Plain(anchor))
 }
 
-impl Walk {
-    /// The walk over the mapping matrix of a size, at its start: row 4 and column 0 of the matrix.
-    pub(crate) fn of_size(size: Size) -> Walk
-        ensures same_side { result.side ≡ mapping size }
-        ensures nearby { IsNearby result }
-        ensures ahead { IsAhead result (shapes (mapping size)) }
-    {
-        Walk {
-            side: size.mapping() as usize,
-            sweep: Sweep::Start,
-            row: 4 + MARGIN,
-            column: MARGIN,
-        }
+// Hands over the places of a shape, if there is one.
+#[inline(always)]
+fn take_shape<T: Taker>(side: usize, shape: Option<Shape>, taker: &mut T)
+    requires side { IsSideSound side }
+    requires comes { (first : T) × (s : Size) × (k : ℕ) × (side ≡ mapping s) × T.has_taken first taker.old s k
+        × ComesTo side k (option_to_list shape) }
+    ensures { (first : T) (s : Size) (k : ℕ) → side ≡ mapping s → T.has_taken first taker.old s k
+        → ComesTo side k (option_to_list shape) → T.has_taken first taker.new s (k + length (option_to_list shape)) }
+{
+    if let Some(shape) = shape {
+        taker.take(places_of(side, shape));
     }
+}
 
-    /// Whether the walk has ended.
-    #[inline(always)]
-    pub(crate) fn is_over(&self) -> bool
-        requires { IsSideSound self.now.side }
-        ensures { result ≡ is_over self.now }
-    {
-        match self.sweep {
-            Sweep::Start => self.row >= self.side + MARGIN && self.column >= self.side + MARGIN,
-            Sweep::Up | Sweep::Down => false,
-        }
+// Hands over the places of the codeword at a position, if there is one. Most stand inside, where no bit wraps.
+#[inline(always)]
+fn take_word<T: Taker>(side: usize, row: usize, column: usize, taker: &mut T)
+    requires side { IsSideSound side }
+    requires comes { (first : T) × (s : Size) × (k : ℕ) × (side ≡ mapping s) × T.has_taken first taker.old s k
+        × ComesTo side k (word_at side row column) }
+    ensures { (first : T) (s : Size) (k : ℕ) → side ≡ mapping s → T.has_taken first taker.old s k
+        → ComesTo side k (word_at side row column)
+        → T.has_taken first taker.new s (k + length (word_at side row column)) }
+{
+    if row >= 2 * MARGIN && row < side + MARGIN && column >= 2 * MARGIN && column < side + MARGIN {
+        let anchor = Cell {
+            row: row - MARGIN,
+            column: column - MARGIN,
+        };
+        taker.take(places_inside(side, anchor));
+    } else {
+        take_shape(side, word_at(side, row, column), taker);
     }
+}
 
-    /// Goes one step on, and gives the shape of the codeword that it places, if any.
-    #[inline(always)]
-    pub(crate) fn step(&mut self) -> Option<Shape>
-        requires side { IsSideSound self.old.side }
-        requires nearby { IsNearby self.old }
-        requires goes_on { is_over self.old ≡ false }
-        ensures { WalkSteps self.old self.new result }
-    {
-        match self.sweep {
-            Sweep::Start => {
-                self.sweep = Sweep::Up;
-                corner_at(self.side, self.row, self.column)
-            }
-            Sweep::Up if self.row >= MARGIN && self.column < self.side + MARGIN => {
-                let word = word_at(self.side, self.row, self.column);
-                self.row -= 2;
-                self.column += 2;
-                word
-            }
-            Sweep::Up => {
-                self.sweep = Sweep::Down;
-                self.row += 1;
-                self.column += 3;
-                None
-            }
-            Sweep::Down if self.row < self.side + MARGIN && self.column >= MARGIN => {
-                let word = word_at(self.side, self.row, self.column);
-                self.row += 2;
-                self.column -= 2;
-                word
-            }
-            Sweep::Down => {
-                self.sweep = Sweep::Start;
-                self.row += 3;
-                self.column += 1;
-                None
-            }
+/// Hands over the places of all codewords of a size, in order.
+#[inline(always)]
+pub(crate) fn walk<T: Taker>(size: Size, taker: &mut T)
+    requires { T.has_taken taker.old taker.old size 0 }
+    ensures { T.has_taken taker.old taker.new size (all_words size) }
+{
+    let side = size.mapping() as usize;
+    let mut row = 4 + MARGIN;
+    let mut column = MARGIN;
+    'sweeps: while row < side + MARGIN || column < side + MARGIN {
+        take_shape(side, corner_at(side, row, column), taker);
+        'up: while row >= MARGIN && column < side + MARGIN {
+            take_word(side, row, column, taker);
+            row -= 2;
+            column += 2;
         }
+        row += 1;
+        column += 3;
+        'down: while row < side + MARGIN && column >= MARGIN {
+            take_word(side, row, column, taker);
+            row += 2;
+            column -= 2;
+        }
+        row += 3;
+        column += 1;
     }
 }

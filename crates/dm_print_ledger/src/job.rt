@@ -5,10 +5,9 @@ ghost use Rattle.dm_append_label.specs.Labels.{Fits, PartsFit, parts_from};
 ghost use Rattle.dm_print_ledger.specs.Verdicts.{AreLabels, IsJobOf, IsLabelOf};
 ghost use Rattle.dm_print_ledger.specs.Ledger.{JobView};
 
-use dm_append_label::{FileId, Page, SealFault, seal_with};
+use dm_append_label::{FileId, Page, SealFault, seal};
 use dm_encodation::Scheme;
 use dm_finder_frame::Grid;
-use dm_placement::Layout;
 use dm_size::Size;
 use std::alloc::{AllocError, Allocator, Global};
 use std::marker::Model;
@@ -74,41 +73,41 @@ fn make_label<A: Allocator + Copy>(
     alloc: A,
     part: &[u8],
     number: PageNumber,
-    layout: &Layout<A>,
+    size: Size,
     scheme: Scheme,
 ) -> Result<Grid<A>, AllocError>
-    requires fits { Fits layout.now scheme part.now }
+    requires fits { Fits size scheme part.now }
     requires least { 2 ≤ number.n }
     requires most { number.n ≤ 16 }
     requires first { 1 ≤ number.m }
     requires last { number.m ≤ number.n }
-    ensures { IfOk result (IsLabelOf layout.now scheme
+    ensures { IfOk result (IsLabelOf size scheme
         (record { id = number.id; m = number.m; n = number.n; bytes = part.now })) }
 {
     let bytes = part.to_vec(alloc)?;
     let Some(page) = Page::new(number.id, number.m, number.n, bytes) else {
         unreachable!()
     };
-    match seal_with(alloc, &page, layout, scheme) {
+    match seal(alloc, &page, size, scheme) {
         Ok(grid) => Ok(grid),
         Err(SealFault::TooLong) => unreachable!(),
         Err(SealFault::Memory) => Err(AllocError),
     }
 }
 
-// The labels of the parts that end at these places, by one layout.
+// The labels of the parts that end at these places.
 fn labels_by<A: Allocator + Copy>(
     alloc: A,
     document: &[u8],
     ends: &[usize],
     id: FileId,
-    layout: &Layout<A>,
+    size: Size,
     scheme: Scheme,
 ) -> Result<Vec<Grid<A>, A>, AllocError>
-    requires fit { PartsFit layout.now scheme document.now 0 ends.now }
+    requires fit { PartsFit size scheme document.now 0 ends.now }
     requires least { 2 ≤ length ends.now }
     requires most { length ends.now ≤ 16 }
-    ensures { IfOk result (λ labels. AreLabels layout.now scheme id (length ends.now) 1
+    ensures { IfOk result (λ labels. AreLabels size scheme id (length ends.now) 1
         (parts_from document.now 0 ends.now) labels.items) }
 {
     let n = ends.len() as u8;
@@ -118,7 +117,7 @@ fn labels_by<A: Allocator + Copy>(
     for end in ends {
         let part = &document[from..*end];
         let number = PageNumber { id, m, n };
-        labels.push(make_label(alloc, part, number, layout, scheme)?)?;
+        labels.push(make_label(alloc, part, number, size, scheme)?)?;
         from = *end;
         m += 1;
     }
@@ -139,7 +138,6 @@ pub(crate) fn make_job<A: Allocator + Copy>(
     requires most { length ends.now ≤ 16 }
     ensures { IfOk result (IsJobOf size scheme id (parts_from document.now 0 ends.now)) }
 {
-    let layout = Layout::of_size(alloc, size)?;
-    let labels = labels_by(alloc, document, ends, id, &layout, scheme)?;
+    let labels = labels_by(alloc, document, ends, id, size, scheme)?;
     Ok(Job::new(id, ends.len() as u8, labels))
 }

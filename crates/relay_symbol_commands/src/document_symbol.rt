@@ -14,7 +14,6 @@ use crate::refusal::SymbolRefusal;
 use dm_check_blocks::complete;
 use dm_encodation::{EncodeFault, Scheme, encode};
 use dm_pbm_io::{Image, image_of};
-use dm_placement::Layout;
 use dm_size::Size;
 use dm_symbol::draw_words;
 use relay_shared::{
@@ -124,8 +123,7 @@ fn image_of_symbol<A: Allocator + Copy>(
         picture image ≡ image_with_quiet_zone (grid_of_words symbol.now.size symbol.now.words.items) plain) }
     ensures count { IfOk result (λ image. length image.pixels.items ≡ image.width * image.height) }
 {
-    let layout = Layout::of_size(alloc, symbol.size)?;
-    let grid = draw_words(alloc, &layout, &symbol.words)?;
+    let grid = draw_words(alloc, symbol.size, &symbol.words)?;
     image_of(alloc, &grid, plain)
 }
 

@@ -1,6 +1,7 @@
 //! Symbols and labels for programs in C: a static library whose functions take byte slices, each a pointer and then a
-//! length in C. Images are in PBM's packed form (`P4`), one pixel per module inside a quiet zone of one pixel; texts
-//! are in ASCII encodation (ISO/IEC 16022:2006, 5.2). The parameter `alloc` does not appear in the C signature.
+//! length in C. An image is drawn in PBM's packed form (`P4`), one pixel per module inside a quiet zone of one pixel,
+//! and read in its plain form (`P1`) too. A text is drawn in ASCII encodation, and read in C40, Text and Base 256 too
+//! (ISO/IEC 16022:2006, 5.2). The parameter `alloc` does not appear in the C signature.
 //!
 //! Proved: an image is exactly that of the one symbol, or label, that was asked for; a text or a page's bytes are those
 //! of the one symbol within the limit of correction; a call refuses only for the reason that its answer names, and then

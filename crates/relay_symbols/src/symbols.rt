@@ -6,7 +6,6 @@ ghost use Rattle.relay_symbols.specs.Symbols.{AnswersCode, DrawsText, DrawsWords
 use crate::images::{grid_from, grid_image};
 use crate::refusal::{Refusal, answer};
 use dm_encodation::{DecodeFault, EncodeFault, Scheme, decode, encode};
-use dm_placement::Layout;
 use dm_size::Size;
 use dm_symbol::{correct_grid, draw_symbol, draw_words};
 use std::alloc::{Allocator, Global};
@@ -22,8 +21,7 @@ fn text_image<A: Allocator + Copy>(alloc: A, side: u16, text: &[u8]) -> Result<V
         Err(EncodeFault::TooLong) => return Err(Refusal::TooLong),
         Err(EncodeFault::Memory) => return Err(Refusal::NoMemory),
     };
-    let layout = Layout::of_size(alloc, size)?;
-    let grid = draw_symbol(alloc, &layout, &data)?;
+    let grid = draw_symbol(alloc, size, &data)?;
     Ok(grid_image(alloc, &grid)?)
 }
 
@@ -55,8 +53,7 @@ fn words_image<A: Allocator + Copy>(
     if words.len() != size.all_words() {
         return Err(Refusal::WordCount);
     }
-    let layout = Layout::of_size(alloc, size)?;
-    let grid = draw_words(alloc, &layout, words)?;
+    let grid = draw_words(alloc, size, words)?;
     Ok(grid_image(alloc, &grid)?)
 }
 

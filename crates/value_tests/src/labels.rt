@@ -4,7 +4,6 @@ use crate::worked::flip_all;
 use dm_append_label::{FileId, LabelFault, Page, SealFault, cut, open_label, seal};
 use dm_encodation::{DecodeFault, Scheme};
 use dm_finder_frame::Grid;
-use dm_placement::Layout;
 use dm_size::Size;
 use dm_symbol::{correct_grid, draw_symbol};
 use std::alloc::{AllocError, Global};
@@ -106,7 +105,7 @@ fn fault_of(alloc: Global, size: Size, data: &[u8]) -> Result<Option<LabelFault>
     if data.len() != size.data_words() {
         return Ok(None);
     }
-    let grid = draw_symbol(alloc, &Layout::of_size(alloc, size)?, data)?;
+    let grid = draw_symbol(alloc, size, data)?;
     Ok(open_label(alloc, &grid).err())
 }
 

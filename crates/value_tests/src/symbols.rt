@@ -3,7 +3,6 @@
 
 use crate::worked::{WORDS, flip_all, is_worked_example};
 use dm_finder_frame::Grid;
-use dm_placement::Layout;
 use dm_size::Size;
 use dm_symbol::{SymbolFault, correct_grid, draw_symbol, draw_words, still_near};
 use std::test::Fail;
@@ -11,8 +10,7 @@ use std::test::Fail;
 // Two codewords of eight are wrong: modules (2, 2) and (6, 6) stand in two codewords, (0, 1) and (9, 3) on the frame.
 #[test]
 fn symbols_are_drawn_and_read(rt: HostRuntime) -> Result<(), Fail> {
-    let layout = Layout::of_size(rt.alloc(), Size::Side10)?;
-    let mut grid = draw_symbol(rt.alloc(), &layout, &WORDS[..3])?;
+    let mut grid = draw_symbol(rt.alloc(), Size::Side10, &WORDS[..3])?;
     assert!(rt; is_worked_example(&grid));
     flip_all(&mut grid, &[(2, 2), (6, 6), (0, 1), (9, 3)]);
     let symbol = correct_grid(&grid.lend())?;
@@ -25,8 +23,7 @@ fn symbols_are_drawn_and_read(rt: HostRuntime) -> Result<(), Fail> {
 // frame are wrong.
 #[test]
 fn grids_are_near_or_refused(rt: HostRuntime) -> Result<(), Fail> {
-    let layout = Layout::of_size(rt.alloc(), Size::Side10)?;
-    let drawn = draw_words(rt.alloc(), &layout, &WORDS)?;
+    let drawn = draw_words(rt.alloc(), Size::Side10, &WORDS)?;
     assert!(rt; drawn.size() == Size::Side10);
     let two = [(2, 2), (6, 6), (0, 1), (9, 3)];
     assert!(rt; still_near(rt.alloc(), &drawn, &two)?);

@@ -1,16 +1,53 @@
--- Codewords by the places of their bits' modules, the shapes that may stand there, and the walk over the matrix.
-use Rattle.std.specs.Prelude.{ℕ, ◌+◌, false, List, get_or, map, ◌≡◌, ◌≤◌, ◌<◌, ◌-◌, ◌*◌, ◌%◌, [], ◌∷◌, zero, suc, Bool, true, ◌==◌, nat_lt, nat_le, ◌&&◌, ◌||◌, not, if◌then◌else◌, ◌++◌, Option, Some, None}
-use Rattle.std.specs.{List.range_with_len, List.flat_map, Option.option_map, Option.option_to_list}
-use Rattle.dm_placement.specs.Placement.{number_of, place_of, cell_at, is_left_out, shape_cells, shapes}
-use Rattle.dm_placement.specs.declared.{shape.Cell.Cell, shape.Shape.Shape, walk.Sweep.Sweep, walk.Walk.Walk}
+-- What the takers of places have, the shapes that may stand on the matrix, and the codewords that the walk comes to.
+use Rattle.std.specs.Prelude.{ℕ, ◌+◌, false, true, List, get_or, map, ◌≡◌, ◌≤◌, ◌<◌, ◌-◌, ◌*◌, ◌%◌, [], ◌∷◌, Bool, ◌==◌, nat_lt, nat_le, ◌&&◌, not, if◌then◌else◌, ◌++◌, length}
+use Rattle.std.specs.List.{range_with_len}
+use Rattle.dm_placement.specs.Placement.{number_of, place_of, cell_at, is_left_out, shapes, bit_cells, bit_of, dark_cells, light_cells, is_dark, word_from}
+use Rattle.dm_placement.specs.declared.{shape.Cell.Cell, shape.Shape.Shape}
 use Rattle.dm_placement.specs.declared.shape.Shape.TheVariants.{Plain, CornerOne, CornerTwo}
-use Rattle.dm_size.specs.{declared.size.Size.Size, Sizes.mapping}
-use Rattle.dm_placement.specs.declared.walk.Sweep.TheVariants.{Start, Up, Down}
+use Rattle.dm_size.specs.{declared.size.Size.Size, Sizes.mapping, Sizes.all_words, Squares.Square}
 
--- the codeword whose bits stand at eight places of a list, from index `from` on, among these modules
-abbrev pub word_from_places : List Bool → List ℕ → ℕ → ℕ
-word_from_places modules places from =
-    number_of (map (λ i. get_or modules (get_or places (from + i) 0) false) (range_with_len 0 8))
+-- ---- What has the places of the codewords of a size, one after another, in three ways.
+
+-- where bit i of all codewords stands, row by row
+abbrev pub bit_place : Size → ℕ → ℕ
+bit_place s i = place_of (mapping s) (get_or (bit_cells (mapping s)) i (cell_at 0 0))
+
+-- these are the places of the bits of codeword k
+pub record AreOfWord (s : Size) (k : ℕ) (places : List ℕ) : Type 0 where
+  pub is_word : k < all_words s
+  pub stand : (b : ℕ) → b < 8 → get_or places b 0 ≡ bit_place s (8 * k + b)
+
+-- the places of the codewords before k are kept
+pub record HasKept (s : Size) (k : ℕ) (places : List (List ℕ)) : Type 0 where
+  pub count : length places ≡ k
+  pub words : (w : ℕ) → w < k → AreOfWord s w (get_or places w [])
+
+-- the codeword whose bits stand at eight places, among these modules
+abbrev pub word_from_places : List Bool → List ℕ → ℕ
+word_from_places modules places =
+    number_of (map (λ i. get_or modules (get_or places i 0) false) (range_with_len 0 8))
+
+-- the codewords before k are read from these modules
+pub record HasRead (s : Size) (modules : List Bool) (k : ℕ) (words : List ℕ) : Type 0 where
+  pub whole : length modules ≡ mapping s * mapping s
+  pub read : words ≡ map (λ word. word_from (record { side = mapping s; modules = modules }) (bit_cells (mapping s))
+      (8 * word)) (range_with_len 0 k)
+
+-- the bits below i are written, and the free cells
+pub record HasBits (n : ℕ) (words : List ℕ) (m : Square) (i : ℕ) : Type 0 where
+  pub side : m.side ≡ n
+  pub size : length m.modules ≡ n * n
+  pub bits : (j : ℕ) → j < i → is_dark m (get_or (bit_cells n) j (cell_at 0 0)) ≡ bit_of words j
+  pub dark : (j : ℕ) → j < length (dark_cells n) → is_dark m (get_or (dark_cells n) j (cell_at 0 0)) ≡ true
+  pub light : (j : ℕ) → j < length (light_cells n) → is_dark m (get_or (light_cells n) j (cell_at 0 0)) ≡ false
+
+-- the codewords before k are drawn on this matrix
+pub record HasPlaced (s : Size) (words : List ℕ) (k placed : ℕ) (m : Square) : Type 0 where
+  pub count : length words ≡ all_words s
+  pub next : placed ≡ k
+  pub bits : HasBits (mapping s) words m (8 * k)
+
+-- ---- The shapes.
 
 -- what the shapes need of a side
 pub record IsSideSound (n : ℕ) : Type 0 where
@@ -49,78 +86,9 @@ corner_at n r c =
     if (r == n + 2) && (c == 2) then CornerOne ∷ []
     else (if ((r == n) && (c == 2)) && not (n % 4 == 0) then CornerTwo ∷ [] else [])
 
--- the shapes that the walk places from a position on, if it ends within this many steps
-abbrev pub shapes_ahead : ℕ → ℕ → Sweep → ℕ → ℕ → Option (List Shape)
-shapes_ahead zero n sweep r c = None
-shapes_ahead (suc steps) n Start r c =
-    elim (nat_lt r (n + 2) || nat_lt c (n + 2)) [
-      | true ↦ option_map (λ later. corner_at n r c ++ later) (shapes_ahead steps n Up r c)
-      | false ↦ Some []
-    ]
-shapes_ahead (suc steps) n Up r c =
-    elim (nat_le 2 r && nat_lt c (n + 2)) [
-      | true ↦ option_map (λ later. word_at n r c ++ later) (shapes_ahead steps n Up (r - 2) (c + 2))
-      | false ↦ shapes_ahead steps n Down (r + 1) (c + 3)
-    ]
-shapes_ahead (suc steps) n Down r c =
-    elim (nat_lt r (n + 2) && nat_le 2 c) [
-      | true ↦ option_map (λ later. word_at n r c ++ later) (shapes_ahead steps n Down (r + 2) (c - 2))
-      | false ↦ shapes_ahead steps n Start (r + 3) (c + 1)
-    ]
-
--- these shapes are ahead of the walk
-pub record IsAhead (w : Walk) (shapes : List Shape) : Type 0 where
-  pub steps : ℕ
-  pub walked : shapes_ahead steps w.side w.sweep w.row w.column ≡ Some shapes
-
--- whether the walk has ended: it is to begin a sweep, and neither its row nor its column is inside of the matrix
-abbrev pub walk_has_ended : Sweep → Bool → Bool
-walk_has_ended Start inside = not inside
-walk_has_ended Up inside = false
-walk_has_ended Down inside = false
-
-abbrev pub is_over : Walk → Bool
-is_over w = walk_has_ended w.sweep (nat_lt w.row (w.side + 2) || nat_lt w.column (w.side + 2))
-
--- how far outside of the matrix the walk may be
-abbrev pub MayStand : ℕ → Sweep → ℕ → ℕ → Type 0
-MayStand n Start r c = (r < n + 2 → c ≤ 2) × (c < n + 2 → r ≤ n + 6)
-MayStand n Up r c = (r ≤ n + 6) × (c ≤ n + 3)
-MayStand n Down r c = (r ≤ n + 7) × (c ≤ n + 6) × (c < n + 2 → r ≤ n + 3)
-
--- the walk stands near its matrix
-pub record IsNearby (w : Walk) : Type 0 where
-  pub small : w.side ≤ 120
-  pub nearby : MayStand w.side w.sweep w.row w.column
-
--- more than the steps that the walk has left
-abbrev pub left_in : Sweep → ℕ → ℕ → ℕ
-left_in Start r c = 399
-left_in Up r c = r
-left_in Down r c = c
-
-abbrev pub steps_left : Walk → ℕ
-steps_left w = 400 * (300 - (w.row + w.column)) + left_in w.sweep w.row w.column
-
--- one step of the walk, with the shape that it places, if any
-pub record WalkSteps (w w' : Walk) (shape : Option Shape) : Type 0 where
-  pub same_side : w'.side ≡ w.side
-  pub stays : IsNearby w'
-  pub nearer : steps_left w' < steps_left w
-  pub ahead : (shapes : List Shape) → IsAhead w shapes
-      → (later : List Shape) × (shapes ≡ option_to_list shape ++ later) × IsAhead w' later
-
--- the places of a codeword that was found, or none
-abbrev pub places_found : Option (List ℕ) → List ℕ
-places_found (Some places) = places
-places_found None = []
-
--- these are the places of the codewords that the walk has come to, and the others are ahead
-pub record HasWalked (s : Size) (w : Walk) (places : List ℕ) : Type 0 where
-  pub side : w.side ≡ mapping s
-  pub nearby : IsNearby w
+-- the codewords from k on have these shapes, and then others, on the matrix of side n
+pub record ComesTo (n k : ℕ) (new : List Shape) : Type 0 where
   pub done : List Shape
   pub later : List Shape
-  pub ahead : IsAhead w later
-  pub whole : done ++ later ≡ shapes (mapping s)
-  pub found : places ≡ map (place_of (mapping s)) (flat_map (shape_cells (mapping s)) done)
+  pub count : length done ≡ k
+  pub whole : done ++ (new ++ later) ≡ shapes n

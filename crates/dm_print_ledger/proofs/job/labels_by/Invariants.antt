@@ -10,10 +10,10 @@ invariant-loop-end g l = record {
   least : 2 ≤ length l.ends;
   most : length l.ends ≤ 16;
   n_is : l.n ≡ length l.ends;
-  rest : PartsFit l.layout l.scheme l.document l.from (drop l.end-index l.ends);
+  rest : PartsFit l.size l.scheme l.document l.from (drop l.end-index l.ends);
   -- whatever completes the labels of the rest completes all
   so_far : (tail : List GridView) →
-      AreLabels l.layout l.scheme l.id (length l.ends) l.m
+      AreLabels l.size l.scheme l.id (length l.ends) l.m
       (parts_from l.document l.from (drop l.end-index l.ends)) tail →
-      AreLabels l.layout l.scheme l.id (length l.ends) 1 (parts_from l.document 0 l.ends) (l.labels.items ++ tail);
+      AreLabels l.size l.scheme l.id (length l.ends) 1 (parts_from l.document 0 l.ends) (l.labels.items ++ tail);
 }

@@ -23,5 +23,4 @@ makes_job size scheme id document ends labels least most made = grind (arith, le
 pub returns : goal.returns
 returns g c =
     rw c.new.ensures (makes_job c.args.size c.args.scheme c.args.id c.args.document.now c.args.ends.now
-    c.in_ok-labels.labels.items c.requires.least c.requires.most
-    (rw c.in_ok-layout.ensures at c.in_ok-labels.ensures))
+    c.in_ok-labels.labels.items c.requires.least c.requires.most c.in_ok-labels.ensures)
