@@ -11,6 +11,7 @@ use dm_gf256::add_multiple;
 
 // Divides one codeword more of the message: `checks` is the remainder so far, and `generator` the generator
 // polynomial without its leading 1.
+#[tactic(auto, using(crate::proofs::Remainders::step_value))]
 fn step(checks: &mut [u8], generator: &[u8], word: u8)
     requires some { 0 < length checks.old }
     requires same { length checks.old ≡ length generator.now }

@@ -120,6 +120,7 @@ pub(crate) struct Multiples {
 
 impl Multiples {
     /// The multiples of the generator polynomial for that many error correction codewords.
+    #[tactic(auto, using(crate::proofs::DivisionSteps::sixteen_times))]
     pub(crate) fn of_generator(checks: usize) -> Multiples
         requires { checks ≤ MOST_CHECKS }
         ensures { result.checks ≡ checks }

@@ -51,6 +51,7 @@ fn read_blocks(size: Size, words: &[u8], windows: &mut [Window])
 }
 
 // Writes the error correction codewords of one block to their places.
+#[tactic(auto, using(crate::proofs::Interleaving::written_more, crate::proofs::Interleaving::others_more))]
 fn write_checks(size: Size, block: usize, words: &mut [u8], checks: &[u8])
     requires block { block < blocks size }
     requires count { length words.old ≡ all_words size }

@@ -11,7 +11,7 @@ use crate::error_values::take_out;
 use crate::locate::Locate;
 use crate::massey::Massey;
 use crate::roots::roots_of;
-use crate::syndromes::{MOST_WORDS, syndromes_of};
+use crate::syndromes::{MOST_BLOCK_WORDS, syndromes_of};
 use dm_check_blocks::{MOST_CHECKS, checks_of};
 use dm_gf256::add_multiple;
 use thiserror::Error;
@@ -42,7 +42,7 @@ fn is_block_word(block: &[u8], checks: usize) -> bool
     requires some { 1 ≤ checks }
     requires most { checks ≤ MOST_CHECKS }
     requires longer { checks < length block.now }
-    requires fits { length block.now ≤ MOST_WORDS }
+    requires fits { length block.now ≤ MOST_BLOCK_WORDS }
     ensures { IsTrue result ↔ IsSoundBlock checks block.now }
 {
     let (message, last) = block.split_at(block.len() - checks);
@@ -65,14 +65,14 @@ fn correct_wrong<L: Locate>(
     requires some { 1 ≤ checks }
     requires most { checks ≤ MOST_CHECKS }
     requires longer { checks < length block.old }
-    requires fits { length block.old ≤ MOST_WORDS }
+    requires fits { length block.old ≤ MOST_BLOCK_WORDS }
     ensures { EndsCorrection checks block.old result block.new }
 {
     let syndromes = syndromes_of(remainder, checks / 2 * 2);
     let used = syndromes.as_slice();
     let locator = locate.locate(used);
     let roots = roots_of(locator.as_slice(), block.len());
-    let mut copy = [0; MOST_WORDS];
+    let mut copy = [0; MOST_BLOCK_WORDS];
     let corrected = &mut copy[..block.len()];
     corrected.copy_from_slice(block);
     take_out(corrected, used, roots.as_slice());
@@ -115,7 +115,7 @@ pub(crate) fn correct_completed<L: Locate>(
     requires some { 1 ≤ checks }
     requires most { checks ≤ MOST_CHECKS }
     requires longer { checks < length block.old }
-    requires fits { length block.old ≤ MOST_WORDS }
+    requires fits { length block.old ≤ MOST_BLOCK_WORDS }
     requires size { length word.now ≡ length block.old }
     requires data { take (length block.old - checks) word.now ≡ take (length block.old - checks) block.old }
     requires completed { IsSoundBlock checks word.now }
@@ -146,11 +146,11 @@ pub fn correct_with<L: Locate>(
     requires some { 1 ≤ checks }
     requires most { checks ≤ MOST_CHECKS }
     requires longer { checks < length block.old }
-    requires fits { length block.old ≤ MOST_WORDS }
+    requires fits { length block.old ≤ MOST_BLOCK_WORDS }
     ensures { EndsCorrection checks block.old result block.new }
 {
     let data = block.len() - checks;
-    let mut room = [0; MOST_WORDS];
+    let mut room = [0; MOST_BLOCK_WORDS];
     let word = &mut room[..block.len()];
     word.copy_from_slice(block);
     checks_of(&block[..data], &mut word[data..]);
@@ -167,7 +167,7 @@ pub fn correct(block: &mut [u8], checks: usize) -> Result<u8, Uncorrectable>
     requires some { 1 ≤ checks }
     requires most { checks ≤ MOST_CHECKS }
     requires longer { checks < length block.old }
-    requires fits { length block.old ≤ MOST_WORDS }
+    requires fits { length block.old ≤ MOST_BLOCK_WORDS }
     ensures { EndsCorrection checks block.old result block.new }
 {
     correct_with(&Massey, block, checks)

@@ -31,4 +31,4 @@ pub use elimination::Elimination;
 pub use locate::{Locate, MOST_COEFFICIENTS};
 pub use massey::{Massey, shortest_recurrence};
 pub use symbol::{BlockFault, correct_symbol};
-pub use syndromes::{MOST_WORDS, syndromes_of};
+pub use syndromes::{MOST_BLOCK_WORDS, syndromes_of};

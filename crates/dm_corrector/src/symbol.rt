@@ -8,7 +8,7 @@ ghost use Rattle.dm_corrector.specs.Symbols.{Corrects, CorrectsSymbol, IsFirstFa
 
 use crate::block::{Uncorrectable, correct_completed, differing};
 use crate::massey::Massey;
-use crate::syndromes::MOST_WORDS;
+use crate::syndromes::MOST_BLOCK_WORDS;
 use dm_check_blocks::complete_blocks;
 use dm_size::Size;
 use thiserror::Error;
@@ -34,6 +34,7 @@ impl BlockFault {
 }
 
 // Copies a block of a symbol.
+#[tactic(auto, using(crate::proofs::SymbolBlocks::in_symbol))]
 fn gather(size: Size, number: usize, words: &[u8], block: &mut [u8])
     requires count { length words.now ≡ all_words size }
     requires number { number < blocks size }
@@ -82,10 +83,10 @@ fn correct_block(
     ensures others { (b : ℕ) → b < blocks size → b ≢ number
         → block_of size b words.new ≡ block_of size b words.old }
 {
-    let mut copy = [0; MOST_WORDS];
+    let mut copy = [0; MOST_BLOCK_WORDS];
     let block = &mut copy[..size.block_length()];
     gather(size, number, words, block);
-    let mut room = [0; MOST_WORDS];
+    let mut room = [0; MOST_BLOCK_WORDS];
     let word = &mut room[..size.block_length()];
     gather(size, number, completed, word);
     correct_completed(&Massey, block, word, size.block_checks())?;
@@ -99,6 +100,7 @@ fn correct_block(
 ///
 /// # Errors
 /// The first block to which no sound block is near enough; all codewords are then unchanged.
+#[tactic(auto, using(crate::proofs::SymbolBlocks::same_data))]
 pub fn correct_symbol(size: Size, words: &mut [u8]) -> Result<u16, BlockFault>
     requires { length words.old ≡ all_words size }
     ensures near { OnOk result (CorrectsSymbol size words.old words.new) }
@@ -111,9 +113,6 @@ pub fn correct_symbol(size: Size, words: &mut [u8]) -> Result<u16, BlockFault>
     ensures unchanged { OnErr result (words.new ≡ words.old) }
 {
     let blocks = size.blocks();
-    let mut copy = [0; MOST_SYMBOL_WORDS];
-    let corrected = &mut copy[..words.len()];
-    corrected.copy_from_slice(words);
     let mut room = [0; MOST_SYMBOL_WORDS];
     let completed = &mut room[..words.len()];
     completed.copy_from_slice(words);
@@ -121,6 +120,9 @@ pub fn correct_symbol(size: Size, words: &mut [u8]) -> Result<u16, BlockFault>
     if *completed == *words {
         return Ok(0);
     }
+    let mut copy = [0; MOST_SYMBOL_WORDS];
+    let corrected = &mut copy[..words.len()];
+    corrected.copy_from_slice(words);
     for block in 0..blocks {
         if let Err(Uncorrectable) = correct_block(size, corrected, completed, block) {
             return Err(BlockFault { block });

@@ -1,5 +1,5 @@
 -- The field of 256 elements, and polynomials over it (ISO/IEC 16022:2006, 5.7 and Annex E).
-use Rattle.std.specs.Prelude.{ℕ, List, map, zero, suc, ◌+◌, ◌*◌, ◌^◌, ◌%◌, ◌≡◌, ◌≤◌, [], ◌∷◌, length, cond, ◌==◌}
+use Rattle.std.specs.Prelude.{ℕ, List, map, zero, suc, ◌+◌, ◌*◌, ◌^◌, ◌%◌, ◌≡◌, ◌<◌, ◌≤◌, [], ◌∷◌, length, slice_index, cond, ◌==◌}
 use Rattle.std.specs.Int.{bit_at, Bits.bit_xor}
 use Rattle.dm_gf256.specs.declared.element.Gf.{Gf}
 
@@ -29,6 +29,10 @@ product a b = reduced 7 (plain 8 (a % 256) (b % 256))
 unfoldable pub power : ℕ → ℕ → ℕ
 power x zero = 1
 power x (suc k) = product x (power x k)
+
+-- the powers of 2 from 2^first on
+abbrev pub ArePowers : ℕ → List ℕ → Type 0
+ArePowers first powers = (k : ℕ) → k < length powers → slice_index powers k ≡ power 2 (first + k)
 
 -- ---- Polynomials over the field of 256 elements, as lists of their coefficients, and sound blocks: the words of the
 -- Reed-Solomon code of ISO/IEC 16022:2006, Annex E, whose generator polynomial has the roots 2^1 .. 2^c.

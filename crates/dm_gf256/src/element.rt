@@ -1,8 +1,8 @@
 //! The elements of the field, and the value of a polynomial.
 
-ghost use Rattle.std.specs.Prelude.{◌≡◌, ◌<◌};
+ghost use Rattle.std.specs.Prelude.{◌≡◌, ◌<◌, ◌≤◌, ◌+◌, length};
 ghost use Rattle.std.specs.Int.Bits.{bit_xor};
-ghost use Rattle.dm_gf256.specs.Field.{product, power, value, numbers};
+ghost use Rattle.dm_gf256.specs.Field.{product, power, value, numbers, ArePowers};
 
 use crate::powers::{POWERS, exponent_of};
 
@@ -26,6 +26,7 @@ impl Gf {
     }
 
     /// The inverse of an element that isn't zero: 255 less its exponent is that of the inverse.
+    #[tactic(auto, using(crate::proofs::Tables::inverse_table))]
     pub fn inv(self) -> Gf
         requires { 0 < self.0 }
         ensures { product self.0 result.0 ≡ 1 }
@@ -34,10 +35,20 @@ impl Gf {
     }
 
     /// 2, the primitive element, to the power k.
+    #[tactic(auto, using(crate::proofs::Tables::powers_table))]
     pub fn alpha(k: u8) -> Gf
         ensures { result.0 ≡ power 2 k }
     {
         Gf(POWERS[k as usize])
+    }
+
+    /// The powers of 2, the primitive element, from 2^first on. They repeat after 255 of them.
+    pub fn powers(first: usize, count: usize) -> &'static [u8]
+        requires { first + count ≤ 510 }
+        ensures powers { ArePowers first result.now }
+        ensures count { length result.now ≡ count }
+    {
+        &POWERS[first..first + count]
     }
 
     /// The value at x of a polynomial, its first element being the coefficient of the highest power.

@@ -19,6 +19,7 @@ pub fn inverses()
 {}
 
 /// The powers 0 to 254 of 2 are distinct.
+#[tactic(auto, using(crate::proofs::Ring::power_two_distinct))]
 pub fn powers_distinct()
     ensures { (i : ℕ) → (j : ℕ) → i < j → j < 255 → power 2 i ≢ power 2 j }
 {}

@@ -7,7 +7,7 @@ ghost use Rattle.dm_gf256.specs.inner.Exponents.{IsExponent};
 /// exponents is an index as it is. The number 0 is no power of 2: its exponent is set to 510, and from there on stand
 /// zeros, up to the greatest sum of two exponents.
 #[rattlefmt::skip]
-pub(crate) const POWERS: [u8; 1021] = [
+pub(crate) static POWERS: [u8; 1021] = [
     // 2^0 to 2^509
       1,   2,   4,   8,  16,  32,  64, 128,  45,  90, 180,  69, 138,  57, 114, 228,
     229, 231, 227, 235, 251, 219, 155,  27,  54, 108, 216, 157,  23,  46,  92, 184,

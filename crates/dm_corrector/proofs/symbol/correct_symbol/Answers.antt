@@ -5,7 +5,7 @@ use Rattle.dm_check_blocks.specs.Blocks.{block_of}
 use Rattle.dm_corrector.specs.Symbols.{Corrects, CorrectsSymbol}
 use Rattle.dm_gf256.specs.Field.{IsSoundBlock}
 use Rattle.dm_gf256.proofs.OneBlockWord.{differ-self}
-use Rattle.dm_corrector.proofs.SymbolBlocks.{one_symbol, same_data, sound_symbol}
+use Rattle.dm_corrector.proofs.SymbolBlocks.{one_symbol, sound_symbol}
 use Rattle.dm_corrector.proofs.symbol.correct_symbol.Goals as goal
 
 -- words that were completed to themselves are clean
@@ -52,12 +52,3 @@ returns-clause-only c = λ w r.
       each_block = λ b l. c.loop-block.invariant.done b (omega arith);
     }) r
     ∙ sym c.copy_from_slice-3.ensures.after
-
-pub loop-block-init : goal.loop-block-init
-loop-block-init c = grind arith
-
-pub returns-clause-block_words : goal.returns-clause-block_words
-returns-clause-block_words c = grind arith
-
-pub correct_block-requires-clause-data : goal.correct_block-requires-clause-data
-correct_block-requires-clause-data c = grind (arith, same_data)

@@ -1,9 +1,6 @@
 use Rattle.std.proofs.Common.{arith, ◌∙◌}
-use Rattle.dm_corrector.proofs.SymbolBlocks.{in_symbol, is_block}
+use Rattle.dm_corrector.proofs.SymbolBlocks.{is_block}
 use Rattle.dm_corrector.proofs.symbol.gather.Goals as goal
-
-pub bounds-words-k : goal.bounds-words-k
-bounds-words-k c = grind (arith, in_symbol)
 
 pub returns : goal.returns
 returns c = is_block c.args.size c.args.number c.blocks-blocks.result c.args.words.now c.loop-k.block
