@@ -27,6 +27,7 @@ static TOP: [bool; 132] = [
 static BOTTOM: [bool; 132] = [true; 132];
 
 // Adds a row of the grid that is inside of its framed regions.
+#[tactic(auto, using(crate::proofs::RowSteps::inner_fits, crate::proofs::RowSteps::inner_more, std::proofs::Common::append_assoc))]
 fn push_inner_row<A: Allocator>(
     modules: &mut Vec<bool, A>,
     size: Size,
@@ -53,6 +54,7 @@ fn push_inner_row<A: Allocator>(
 }
 
 // Adds a row of the grid.
+#[tactic(auto, using(crate::proofs::RowSteps::if_added, crate::proofs::RowSteps::top_more, crate::proofs::RowSteps::bottom_more))]
 fn push_row<A: Allocator>(
     modules: &mut Vec<bool, A>,
     size: Size,

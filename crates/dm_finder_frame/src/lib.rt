@@ -1,11 +1,13 @@
 //! Finder patterns of ECC 200 symbols: the frame round each data region, and the whole symbol as a grid of modules
 //! (ISO/IEC 16022:2006, 5.5 and 5.8).
 //!
-//! `frame` cuts a mapping matrix into its data regions and puts the finder pattern round each. `unframe` takes the
-//! finder patterns off a grid and counts their wrong modules; it refuses a grid with too many of them.
+//! `frame` cuts a mapping matrix into its data regions and puts the finder pattern round each. `wrong_modules` counts
+//! the wrong modules of a grid's finder patterns, and refuses a grid with too many of them; `modules_of` gives the
+//! mapping matrix inside them. `unframe` does both, and keeps the matrix.
 //!
-//! Proved: `frame` gives the grid of `specs/Frame.antt` exactly; `unframe` answers `Border` exactly where more than an
-//! eighth of the finder patterns' modules are wrong, and else the mapping matrix; `unframe` undoes `frame`.
+//! Proved: `frame` gives the grid of `specs/Frame.antt` exactly; `wrong_modules` and `unframe` refuse a grid exactly
+//! where more than an eighth of the finder patterns' modules are wrong; `modules_of` and `unframe` give the mapping
+//! matrix, and so undo `frame`.
 #![tactic(auto)]
 
 mod fault;

@@ -114,6 +114,7 @@ fn wrong_count(grid: &LentGrid) -> u16
 }
 
 // Adds a row of the mapping matrix, from the grid.
+#[tactic(auto, using(crate::proofs::FramedGrids::place_within, crate::proofs::RowSteps::matrix_fits, crate::proofs::RowSteps::matrix_more))]
 fn push_row(modules: &mut ArrayVec<bool, MOST_MODULES>, grid: &LentGrid, row: u16)
     requires row_in { row < mapping grid.now.size }
     requires above { let n = mapping grid.now.size in
@@ -133,16 +134,15 @@ fn push_row(modules: &mut ArrayVec<bool, MOST_MODULES>, grid: &LentGrid, row: u1
     }
 }
 
-/// The modules of a grid's mapping matrix, row by row, whatever its finder patterns are (ISO/IEC 16022:2006, 5.8). It
-/// takes no memory.
-pub fn modules_of(grid: &LentGrid) -> ArrayVec<bool, MOST_MODULES>
-    ensures { result.items ≡ (matrix_of_grid grid.now).modules }
+/// Fills the caller's room with the modules of a grid's mapping matrix, row by row, whatever its finder patterns are
+/// (ISO/IEC 16022:2006, 5.8). It takes no memory, and copies no room.
+pub fn modules_of(grid: &LentGrid, modules: &mut ArrayVec<bool, MOST_MODULES>)
+    ensures { modules.new.items ≡ (matrix_of_grid grid.now).modules }
 {
-    let mut modules = ArrayVec::new();
+    modules.clear();
     for row in 0..grid.size().mapping() {
-        push_row(&mut modules, grid, row);
+        push_row(modules, grid, row);
     }
-    modules
 }
 
 /// How many modules of a grid's finder patterns are wrong. It takes no memory.
@@ -172,7 +172,9 @@ pub fn unframe<A: Allocator>(alloc: A, grid: &Grid<A>) -> Result<Framed<A>, Fram
 {
     let wrong = wrong_modules(&grid.lend())?;
     let size = grid.size();
-    let modules = modules_of(&grid.lend()).as_slice().to_vec(alloc)?;
+    let mut room = ArrayVec::new();
+    modules_of(&grid.lend(), &mut room);
+    let modules = room.as_slice().to_vec(alloc)?;
     Ok(Framed {
         size,
         matrix: Matrix::from_modules(size, modules),
