@@ -91,7 +91,9 @@ pub fn encode<A: Allocator + Copy>(
         ↔ (data_words size - length head.now < need_of scheme bytes.now) }
 {
     let capacity = size.data_words();
-    if word_count(scheme, bytes) > (capacity - head.len()) as u128 {
+    let room = capacity - head.len();
+    // No codeword stands for more than two bytes, so a far longer text isn't counted.
+    if bytes.len() > 2 * room || word_count(scheme, bytes) > room as u128 {
         return Err(EncodeFault::TooLong);
     }
     Ok(fill(alloc, scheme, bytes, head, capacity)?)

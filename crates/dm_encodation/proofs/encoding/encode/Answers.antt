@@ -1,8 +1,11 @@
 use Rattle.std.proofs.Common.{rules, ◌≡◌, ◌≤◌, arith}
 use Rattle.dm_size.specs.Sizes.{data_words}
 use Rattle.dm_encodation.specs.Written.{filled, need_of}
-use Rattle.dm_encodation.proofs.{Filled.length-filled, Filled.take-filled, Filled.filled_read, Reread.below_256}
+use Rattle.dm_encodation.proofs.{Counters.need_near, Filled.length-filled, Filled.take-filled, Filled.filled_read, Reread.below_256}
 use Rattle.dm_encodation.proofs.encoding.encode.Goals as goal
+
+pub returns-then-bytes-room-clause-too_long : goal.returns-then-bytes-room-clause-too_long
+returns-then-bytes-room-clause-too_long g c = grind (arith, need_near c.args.scheme c.args.bytes.now)
 
 pub returns-clause-whole : goal.returns-clause-whole
 returns-clause-whole g c = grind (arith, length-filled)
