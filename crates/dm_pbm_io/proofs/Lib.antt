@@ -4,6 +4,7 @@ pub mod Stage
 pub mod Rows
 pub mod Sizes
 pub mod Written
+pub mod Eight
 pub mod RoundTrip
 pub mod OneImage
 pub mod NotRefused

@@ -50,8 +50,30 @@ fn is_black(row: &[bool], k: usize) -> bool
     k < row.len() && row[k]
 }
 
-// The byte of the first eight pixels of a row. Past its end they are light.
-fn byte_of(row: &[bool]) -> u8
+// The factor that gathers eight bytes of 0 or 1 in the highest byte of the product. Its bits stand nine apart, so the
+// byte at k goes to bit 63 - k; no two bits of the product meet, so nothing is carried.
+const GATHER: u64 = 0x8040_2010_0804_0201;
+
+// The byte of the first eight pixels of a row that has as many.
+fn byte_of_eight(row: &[bool]) -> u8
+    requires { 8 ≤ length row.now }
+    ensures { result ≡ number_of_first 0 row.now 8 }
+{
+    let pixels = [
+        u8::from(row[0]),
+        u8::from(row[1]),
+        u8::from(row[2]),
+        u8::from(row[3]),
+        u8::from(row[4]),
+        u8::from(row[5]),
+        u8::from(row[6]),
+        u8::from(row[7]),
+    ];
+    (u64::from_le_bytes(pixels).wrapping_mul(GATHER) >> 56) as u8
+}
+
+// The byte of the pixels that are left of a row. Past its end they are light.
+fn byte_of_rest(row: &[bool]) -> u8
     ensures { result ≡ number_of_first 0 row.now 8 }
 {
     let mut byte = 0u16;
@@ -59,6 +81,17 @@ fn byte_of(row: &[bool]) -> u8
         byte = 2 * byte + u16::from(is_black(row, k));
     }
     byte as u8
+}
+
+// The byte of the first eight pixels of a row.
+fn byte_of(row: &[bool]) -> u8
+    ensures { result ≡ number_of_first 0 row.now 8 }
+{
+    if row.len() < 8 {
+        byte_of_rest(row)
+    } else {
+        byte_of_eight(row)
+    }
 }
 
 // Packs a piece of a row into its bytes.
