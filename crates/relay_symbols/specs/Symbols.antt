@@ -72,13 +72,17 @@ DrawsLabel n page (Err _) = ⊥
 
 -- ---- Reading
 
--- the bytes begin with a picture inside whose quiet zone the grid stands
-pub record ShowsGrid (bytes : List ℕ) (grid : GridView) : Type 0 where
+-- the bytes begin with the spelling of a picture
+pub record BeginsWithPicture (bytes : List ℕ) (shown : Picture) : Type 0 where
   pub taken : List ℕ
   pub rest : List ℕ
   pub begins : bytes ≡ taken ++ rest
-  pub shown : Picture
   pub spelled : Spells taken shown
+
+-- the bytes begin with a picture inside whose quiet zone the grid stands
+pub record ShowsGrid (bytes : List ℕ) (grid : GridView) : Type 0 where
+  pub shown : Picture
+  pub picture : BeginsWithPicture bytes shown
   pub shape : HasShape shown
   pub inside : IsGridInside shown grid
 

@@ -5,7 +5,7 @@ ghost use Rattle.dm_append_label.specs.Labels.{IsHead};
 ghost use Rattle.relay_symbols.specs.Symbols.{AnswersCode, DrawsLabel, BeginsWithPage};
 ghost use Rattle.relay_symbols.specs.declared.refusal.Refusal.TheVariants.{NoPage, NoMemory};
 
-use crate::images::{grid_from, grid_image};
+use crate::images::{grid_image, image_from, lent_grid};
 use crate::refusal::{Refusal, answer};
 use dm_append_label::{FileId, LabelFault, MOST_PAGE_BYTES, Page, SealFault, open_page, seal};
 use dm_encodation::Scheme;
@@ -77,9 +77,10 @@ fn page_bytes<A: Allocator + Copy>(alloc: A, image: &[u8]) -> Result<Vec<u8, A>,
     ensures { MatchResult result (λ bytes. BeginsWithPage image.now (Ok bytes.items))
         (λ refusal. BeginsWithPage image.now (Err refusal)) }
 {
-    let grid = grid_from(alloc, image)?;
+    let image = image_from(alloc, image)?;
+    let grid = lent_grid(&image)?;
     let mut room = [0u8; MOST_PAGE_BYTES];
-    match open_page(&grid.lend(), &mut room) {
+    match open_page(&grid, &mut room) {
         Ok(page) => Ok(room[..page.count].to_vec(alloc)?),
         Err(LabelFault::Border { .. } | LabelFault::Block { .. }) => Err(Refusal::TooManyWrong),
         Err(LabelFault::Content(_)) => Err(Refusal::NoText),

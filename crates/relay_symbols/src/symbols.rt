@@ -3,7 +3,7 @@
 ghost use Rattle.std.specs.Prelude.{Ok, Err, MatchResult};
 ghost use Rattle.relay_symbols.specs.Symbols.{AnswersCode, DrawsText, DrawsWords, ReadsText};
 
-use crate::images::{grid_from, grid_image};
+use crate::images::{grid_image, image_from, lent_grid};
 use crate::refusal::{Refusal, answer};
 use dm_encodation::{DecodeFault, EncodeFault, Scheme, decode, encode};
 use dm_size::Size;
@@ -78,8 +78,9 @@ fn text_of<A: Allocator + Copy>(alloc: A, image: &[u8]) -> Result<Vec<u8, A>, Re
     ensures { MatchResult result (λ text. ReadsText image.now (Ok text.items))
         (λ refusal. ReadsText image.now (Err refusal)) }
 {
-    let grid = grid_from(alloc, image)?;
-    let Ok(symbol) = correct_grid(&grid.lend()) else {
+    let image = image_from(alloc, image)?;
+    let grid = lent_grid(&image)?;
+    let Ok(symbol) = correct_grid(&grid) else {
         return Err(Refusal::TooManyWrong);
     };
     match decode(alloc, symbol.data(), 0) {
