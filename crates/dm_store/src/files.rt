@@ -3,7 +3,7 @@
 use crate::store::StoreFault;
 use std::alloc::Allocator;
 use std::fs::{OpenFile, OpenOptions};
-use std::io::{ErrorKind, Read, Write};
+use std::io::{ErrorKind, Read};
 use std::os::unix::fs::{OpenOptionsExt, PermissionsExt};
 use std::rt::Files;
 use std::{fs, io};
@@ -22,14 +22,22 @@ fn not_plain() -> io::Error {
     io::Error::other("not a plain file")
 }
 
+// What was looked for, or `None` where it isn't there.
+pub(crate) fn found<T>(looked: io::Result<T>) -> io::Result<Option<T>> {
+    match looked {
+        Ok(found) => Ok(Some(found)),
+        Err(error) if error.kind() == ErrorKind::NotFound => Ok(None),
+        Err(error) => Err(error),
+    }
+}
+
 // Whether a plain file is at `path`, links followed. What else is there, as a folder or a pipe, is an error: opening it
 // might wait without end.
 fn is_plain_file<R: Files>(runtime: &R, path: &str) -> io::Result<bool> {
-    match fs::metadata(runtime, path) {
-        Ok(metadata) if metadata.is_file() => Ok(true),
-        Ok(_) => Err(not_plain()),
-        Err(error) if error.kind() == ErrorKind::NotFound => Ok(false),
-        Err(error) => Err(error),
+    match found(fs::metadata(runtime, path))? {
+        Some(metadata) if metadata.is_file() => Ok(true),
+        Some(_) => Err(not_plain()),
+        None => Ok(false),
     }
 }
 
@@ -57,9 +65,8 @@ pub(crate) fn load_file<R: Files, A: Allocator>(
     if !is_plain_file(runtime, path)? {
         return Ok(None);
     }
-    let file = match open_at_once(runtime, path) {
-        Err(error) if error.kind() == ErrorKind::NotFound => return Ok(None),
-        opened => opened?,
+    let Some(file) = found(open_at_once(runtime, path))? else {
+        return Ok(None);
     };
     if !matches!(file.metadata(), Ok(metadata) if metadata.is_file()) {
         return Err(not_plain());
@@ -82,25 +89,25 @@ fn create_anew<R: Files>(runtime: &R, how: &OpenOptions, path: &str) -> io::Resu
     }
 }
 
-// Makes a draft of its own of these bytes, with the mode of the file that it is to replace, if that is there. At no
-// moment may more users read it. A folder that can't be opened, and so can't be synced when the draft is in place, is
-// refused before.
-pub(crate) fn write_draft<R: Files>(runtime: &R, draft: &str, bytes: &[u8]) -> io::Result<R::File> {
+// The path of the file whose draft a store names.
+pub(crate) fn file_of(draft: &str) -> &str {
+    draft.strip_suffix(".new").unwrap_or(draft)
+}
+
+// Makes the draft of a file, with the mode of the one that it is to replace, if that is there. At no moment may more
+// users read it. A folder that can't be opened, and so can't be synced when the draft is in place, is refused before.
+pub(crate) fn create_replacement<R: Files>(runtime: &R, draft: &str) -> io::Result<R::File> {
     fs::open(runtime, folder_of(draft))?;
-    let path = draft.strip_suffix(".new").unwrap_or(draft);
+    let replaced = found(fs::metadata(runtime, file_of(draft)))?;
     let mut how = OpenOptions::new();
     how.write(true).create_new(true);
-    let mut file = match fs::metadata(runtime, path) {
-        Ok(replaced) => {
-            how.mode(replaced.permissions().mode());
-            let file = create_anew(runtime, &how, draft)?;
-            file.set_permissions(replaced.permissions())?;
-            file
-        }
-        Err(error) if error.kind() == ErrorKind::NotFound => create_anew(runtime, &how, draft)?,
-        Err(error) => return Err(error),
-    };
-    file.write_all(bytes)?;
+    if let Some(replaced) = &replaced {
+        how.mode(replaced.permissions().mode());
+    }
+    let file = create_anew(runtime, &how, draft)?;
+    if let Some(replaced) = replaced {
+        file.set_permissions(replaced.permissions())?;
+    }
     Ok(file)
 }
 

@@ -68,13 +68,9 @@ pub(crate) fn with_end(path: &str, end: &str) -> Result<PathText, StoreFault>
     ensures whole { IfOk result (λ whole. whole.bytes ≡ path.now ++ end.now) }
     ensures device { IsErr result → result ≡ Err StoreFault.Device }
 {
-    let Ok(mut whole) = PathText::from(path) else {
-        return Err(StoreFault::Device);
-    };
-    match whole.try_push_str(end) {
-        Ok(()) => Ok(whole),
-        Err(_) => Err(StoreFault::Device),
-    }
+    let mut whole = PathText::from(path).or(Err(StoreFault::Device))?;
+    whole.try_push_str(end).or(Err(StoreFault::Device))?;
+    Ok(whole)
 }
 
 /// The path of a key's file in a folder.

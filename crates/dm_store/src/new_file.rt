@@ -1,7 +1,7 @@
 //! Files that take the place of nothing. A draft is made under a name that nothing has, and is known by its open file:
 //! what was not made here is neither removed nor renamed.
 
-use crate::files::folder_of;
+use crate::files::{folder_of, found};
 use crate::key_files::{PathText, with_end};
 use crate::store::StoreFault;
 use std::fmt::Write;
@@ -23,7 +23,7 @@ const REPLACED: &str = "was replaced while it was saved";
 /// `Device` where it is longer than any that the system takes.
 pub fn draft_path(path: &str, number: u8) -> Result<PathText, StoreFault> {
     let mut draft = with_end(path, ".")?;
-    write!(draft, "{number}.new").map_err(|_| StoreFault::Device)?;
+    write!(draft, "{number}.new").or(Err(StoreFault::Device))?;
     Ok(draft)
 }
 
@@ -33,12 +33,12 @@ fn create<R: Files>(runtime: &R, path: &str) -> io::Result<R::File> {
     how.write(true).create_new(true).open(runtime, path)
 }
 
-/// Makes a draft of its own of the new file at `path`, with the first number of which none is there. A folder that can't
-/// be opened, and so can't be synced when the draft is in place, is refused before.
+/// Makes a draft of its own of the new file at `path`, with the first number of which none is there. A folder that
+/// can't be opened, and so can't be synced when the draft is in place, is refused before.
 pub(crate) fn create_draft<R: Files>(runtime: &R, path: &str) -> io::Result<(R::File, u8)> {
     fs::open(runtime, folder_of(path))?;
     for number in 1..=MOST_DRAFTS {
-        let draft = draft_path(path, number).map_err(|_| io::Error::other("is too long"))?;
+        let draft = draft_path(path, number).or(Err(io::Error::other("is too long")))?;
         match create(runtime, draft.as_str()) {
             Ok(file) => return Ok((file, number)),
             Err(error) if error.kind() == ErrorKind::AlreadyExists => {}
@@ -48,19 +48,25 @@ pub(crate) fn create_draft<R: Files>(runtime: &R, path: &str) -> io::Result<(R::
     Err(io::Error::other("has 99 drafts, .1.new to .99.new, already"))
 }
 
-// Whether this file is what has the name, which is no link.
-fn has_name<R: Files>(runtime: &R, file: &R::File, path: &str) -> io::Result<bool> {
-    let found = match fs::symlink_metadata(runtime, path) {
-        Err(error) if error.kind() == ErrorKind::NotFound => return Ok(false),
-        found => found?,
-    };
-    let own = file.metadata()?;
-    Ok((own.dev(), own.ino()) == (found.dev(), found.ino()))
+// Refuses what has the name, for this reason, unless it is this file; also a link to it.
+fn check_name<R: Files>(
+    runtime: &R,
+    file: &R::File,
+    path: &str,
+    why: &'static str,
+) -> io::Result<()> {
+    if let Some(named) = found(fs::symlink_metadata(runtime, path))? {
+        let own = file.metadata()?;
+        if (own.dev(), own.ino()) == (named.dev(), named.ino()) {
+            return Ok(());
+        }
+    }
+    Err(io::Error::other(why))
 }
 
 /// Removes what is at `path`, if it is still this file.
 pub(crate) fn remove_own<R: Files>(runtime: &R, file: &R::File, path: &str) {
-    if matches!(has_name(runtime, file, path), Ok(true)) {
+    if check_name(runtime, file, path, REPLACED).is_ok() {
         let _ = fs::remove_file(runtime, path);
     }
 }
@@ -74,9 +80,7 @@ fn is_want_of_links(kind: ErrorKind) -> bool {
 // from the name; a stop may leave it there.
 fn rename_draft<R: Files>(runtime: &R, draft: &str, path: &str) -> io::Result<()> {
     let kept = create(runtime, path)?;
-    if !has_name(runtime, &kept, path)? {
-        return Err(io::Error::other(REPLACED));
-    }
+    check_name(runtime, &kept, path, REPLACED)?;
     let renamed = fs::rename(runtime, draft, path);
     if renamed.is_err() {
         remove_own(runtime, &kept, path);
@@ -84,23 +88,19 @@ fn rename_draft<R: Files>(runtime: &R, draft: &str, path: &str) -> io::Result<()
     renamed
 }
 
-/// Gives a draft, which is open as `file`, the name `path`, if nothing has it. If something has it, that stays as it is.
+/// Gives a draft, which is open as `file`, the name `path`, if nothing has it. What has it stays as it is.
 pub(crate) fn name_draft<R: Files>(
     runtime: &R,
     file: &R::File,
     draft: &str,
     path: &str,
 ) -> io::Result<()> {
-    if !has_name(runtime, file, draft)? {
-        return Err(io::Error::other("its draft was removed or replaced"));
-    }
+    check_name(runtime, file, draft, "its draft was removed or replaced")?;
     match runtime.hard_link(draft, path) {
         Err(error) if is_want_of_links(error.kind()) => rename_draft(runtime, draft, path)?,
         linked => linked?,
     }
-    if !has_name(runtime, file, path)? {
-        return Err(io::Error::other(REPLACED));
-    }
+    check_name(runtime, file, path, REPLACED)?;
     remove_own(runtime, file, draft);
     Ok(())
 }

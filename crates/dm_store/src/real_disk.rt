@@ -4,7 +4,7 @@
 ghost use Rattle.dm_store.specs.Disk.{unclaimed};
 
 use crate::disk::{Disk, Folders};
-use crate::files::{load_file, sync_folder, sync_folder_of, write_draft};
+use crate::files::{create_replacement, file_of, found, load_file, sync_folder, sync_folder_of};
 use crate::key_files::{key_of, with_end};
 use crate::new_file::{create_draft, draft_path, name_draft, remove_own};
 use crate::store::StoreFault;
@@ -45,8 +45,8 @@ impl<'a, R: Files, A: Allocator + Copy> RealDisk<'a, R, A> {
         }
     }
 
-    /// The same files, of which none takes the place of another: a rename to a name that something has fails. Drafts are
-    /// made under names that nothing has ([`draft_path`]), in place of `PATH.new`; and nothing but they is removed.
+    /// The same files, of which none takes the place of another: a rename to a name that something has fails. Drafts
+    /// are made under names that nothing has ([`draft_path`]), in place of `PATH.new`; and nothing but they is removed.
     pub fn of_new_files(alloc: A, runtime: &'a R) -> RealDisk<'a, R, A> {
         let mut disk = RealDisk::new(alloc, runtime);
         disk.replaces = false;
@@ -71,10 +71,15 @@ impl<'a, R: Files, A: Allocator + Copy> RealDisk<'a, R, A> {
         ended
     }
 
-    // Makes the draft of a new file, and writes the bytes to it.
-    fn write_new(&mut self, path: &str, bytes: &[u8]) -> io::Result<()> {
-        let (file, number) = create_draft(self.runtime, path)?;
-        self.number = number;
+    // Makes a draft, and writes the bytes to it.
+    fn write_draft(&mut self, draft: &str, bytes: &[u8]) -> io::Result<()> {
+        let file = if self.replaces {
+            create_replacement(self.runtime, draft)?
+        } else {
+            let (file, number) = create_draft(self.runtime, file_of(draft))?;
+            self.number = number;
+            file
+        };
         self.written.insert(file).write_all(bytes)
     }
 
@@ -95,20 +100,7 @@ impl<'a, R: Files, A: Allocator + Copy> RealDisk<'a, R, A> {
 
     // What is answered to a call that changes something, or settles it.
     fn done(&mut self, ended: io::Result<()>) -> Result<(), StoreFault> {
-        self.kept(ended).map_err(|_| StoreFault::Device)
-    }
-}
-
-// The path of the file whose draft a store names.
-fn file_of(draft: &str) -> &str {
-    draft.strip_suffix(".new").unwrap_or(draft)
-}
-
-// Makes the folder, if it isn't there.
-fn make_folder<R: Files>(runtime: &R, folder: &str) -> io::Result<()> {
-    match fs::create_dir(runtime, folder) {
-        Err(error) if error.kind() == ErrorKind::AlreadyExists => Ok(()),
-        ended => ended,
+        self.kept(ended).or(Err(StoreFault::Device))
     }
 }
 
@@ -119,18 +111,17 @@ fn keys_of<R: Files + Alloc + Clone + Drop, A: Allocator>(
     folder: &str,
 ) -> io::Result<Vec<u16, A>> {
     let mut keys = Vec::new(alloc);
-    let entries = match read_dir(runtime, folder) {
-        Err(error) if error.kind() == ErrorKind::NotFound => return Ok(keys),
-        entries => entries?,
+    let Some(entries) = found(read_dir(runtime, folder))? else {
+        return Ok(keys);
     };
     let mut names: usize = 0;
     for entry in entries {
-        let entry = entry?;
+        let key = key_of(entry?.file_name().as_bytes());
         if names >= MOST_NAMES {
             return Err(io::Error::other("has too many names"));
         }
         names += 1;
-        if let Some(key) = key_of(entry.file_name().as_bytes()) {
+        if let Some(key) = key {
             keys.push(key)?;
         }
     }
@@ -160,11 +151,10 @@ impl<R: Files, A: Allocator + Copy> Disk for RealDisk<'_, R, A> {
 
     fn write(&mut self, name: &str, bytes: &[u8]) -> Result<(), StoreFault> {
         self.written = None;
-        let ended = if self.replaces {
-            write_draft(self.runtime, name, bytes).map(|file| self.written = Some(file))
-        } else {
-            self.write_new(file_of(name), bytes)
-        };
+        let ended = self.write_draft(name, bytes);
+        if self.replaces && ended.is_err() {
+            self.written = None;
+        }
         self.done(ended)
     }
 
@@ -210,7 +200,10 @@ impl<R: Files, A: Allocator + Copy> Disk for RealDisk<'_, R, A> {
 
 impl<R: Files + Alloc + Clone + Drop, A: Allocator + Copy> Folders for RealDisk<'_, R, A> {
     fn make_folder(&mut self, folder: &str) -> Result<(), StoreFault> {
-        self.done(make_folder(self.runtime, folder))?;
+        match fs::create_dir(self.runtime, folder) {
+            Err(error) if error.kind() == ErrorKind::AlreadyExists => {}
+            made => self.done(made)?,
+        }
         self.done(sync_folder_of(self.runtime, folder))
     }
 

@@ -6,8 +6,8 @@
 //! desk, and holds it until its output is out. It loads PATH, and at a desk the files in the folder PATH.pages. It
 //! saves to NAME.new, or for a new ledger NAME.1.new, looks whether the lock file is still its own, and gives that file
 //! the name NAME. What a command can't have is a device fault to it, and a line `relay: PATH: ..` on the standard error
-//! says why. Proved of the disk behind a lock: it is a disk like the one within, whose calls may fail. That it is locked
-//! is in no clause.
+//! says why. Proved of the disk behind a lock: it is a disk like the one within, whose calls may fail. That it is
+//! locked is in no clause.
 #![tactic(auto)]
 
 mod lock;

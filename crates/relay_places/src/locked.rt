@@ -82,10 +82,10 @@ fn remove_own_drafts(rt: &HostRuntime, place: &Place, file: &Metadata) {
 }
 
 /// The files of one command, which its stores share: they are looked at, and locked if the command may save, at its
-/// first load. The lock is held until this is closed.
+/// first load. The lock is held until this is dropped.
 #[derive(Drop)]
 pub(crate) struct CommandFiles<'a> {
-    rt: &'a HostRuntime,
+    pub(crate) rt: &'a HostRuntime,
     pub(crate) place: Place,
     // What came of the first load: the lock, if the command takes one, or why it can't have its files.
     entered: OnceCell<Result<Option<Lock>, Reason>>,
@@ -115,12 +115,11 @@ impl<'a> CommandFiles<'a> {
         }
     }
 
-    /// Ends the lock. A lock file that this command has made for nothing is taken away first.
-    pub(crate) fn close(mut self) {
-        if self.has_saved.get() {
-            return;
-        }
-        if let Some(Ok(Some(lock))) = self.entered.take() {
+    /// Takes a lock file away that this command has made for nothing, before the lock ends.
+    pub(crate) fn take_lock_away(&self) {
+        if !self.has_saved.get()
+            && let Some(Ok(Some(lock))) = self.entered.get()
+        {
             lock.take_away(self.rt, self.place.lock.as_str());
         }
     }
@@ -291,20 +290,14 @@ impl<'a> CommandFiles<'a> {
 /// at the lock right before each call that makes, renames or removes.
 #[derive(Drop)]
 pub struct Locked<'a, D> {
-    rt: &'a HostRuntime,
     command_files: Rc<CommandFiles<'a>>,
     within: D,
 }
 
 impl<'a, D> Locked<'a, D> {
     /// A disk that asks for the lock of a command's files.
-    pub(crate) fn new(
-        rt: &'a HostRuntime,
-        command_files: Rc<CommandFiles<'a>>,
-        within: D,
-    ) -> Locked<'a, D> {
+    pub(crate) fn new(command_files: Rc<CommandFiles<'a>>, within: D) -> Locked<'a, D> {
         Locked {
-            rt,
             command_files,
             within,
         }
@@ -330,7 +323,7 @@ impl<D: Disk + KeepsError> Disk for Locked<'_, D> {
 
     fn read(&mut self, name: &str, limit: usize) -> Result<Option<Vec<u8, D::Memory>>, StoreFault> {
         self.command_files.may_load(name)?;
-        let kept = String::from_str(self.rt.alloc(), name);
+        let kept = String::from_str(self.command_files.rt.alloc(), name);
         self.command_files.loaded.set(kept.ok());
         let read = self.within.read(name, limit);
         self.told(name, read)

@@ -1,5 +1,5 @@
-//! Where no new file, and no new desk, can be: where something is already, and where a desk or a ledger would stumble over
-//! it.
+//! Where no new file, and no new desk, can be: where something is already, and where a desk or a ledger would stumble
+//! over it.
 
 use crate::notes::{line_of, note_of_draft, note_of_error, note_of_reason};
 use crate::place::Place;
@@ -7,9 +7,6 @@ use crate::reason::Reason;
 use dm_store::{draft_path, folder_of};
 use std::io::ErrorKind;
 use std::rt::Files;
-
-// The endings of what is made beside a ledger or a desk.
-const OWN_ENDINGS: [&str; 3] = [".new", ".lock", ".pages"];
 
 /// Why nothing new can be at a place.
 #[derive(Drop)]
@@ -21,7 +18,10 @@ pub(crate) struct Obstacle {
 // Whether a path is that of a file that is made beside a ledger or a desk, or lies in a desk's folder.
 fn has_own_ending(place: &Place) -> bool {
     let path = place.file.as_str();
-    path.contains(".pages/") || OWN_ENDINGS.iter().any(|ending| path.ends_with(*ending))
+    path.ends_with(".new")
+        || path.ends_with(".lock")
+        || path.ends_with(".pages")
+        || path.contains(".pages/")
 }
 
 // That a place lies in a desk's folder, by the folder's own name, links followed; or why that can't be found out.

@@ -1,12 +1,13 @@
-//! What goes to the standard error beside the line of a refusal, since that line can't say it. A note is a line, or two.
-//! Where there is no memory for it, nothing is said.
+//! What goes to the standard error beside the line of a refusal, since that line can't say it. A note is a line, or
+//! two. Where there is no memory for it, nothing is said.
 
 use crate::place::Place;
 use crate::reason::{IS_DESK, Reason};
+use crate::system_disk::SystemDisk;
 use crate::watched::NO_IMAGE;
 use dm_append_label::FileId;
 use dm_assembly_desk::{JointFile, MOST_CAPACITY, MOST_JOINT_FILE_BYTES, MoveFault, held_at};
-use dm_store::{FileSet, FileStore, Folders, Store, StoreFault, draft_path};
+use dm_store::{FileSet, FileStore, Store, StoreFault, draft_path};
 use std::alloc::{AllocError, Global};
 use std::io::{self, Read};
 use std::rt::Files;
@@ -87,36 +88,31 @@ fn key_at(place: &Place, path: &str) -> Option<u16> {
     u16::from_str_radix(path.rsplit('/').next()?, 16).ok()
 }
 
-// The fault of a file of a desk, if it has one: of the one of a key, or of the joint file.
-fn fault_in<D: Folders>(
-    disk: D,
-    place: &Place,
-    key: Option<u16>,
-) -> Result<Option<&'static str>, AllocError> {
-    if let Some(key) = key {
-        let mut set = FileSet::new(disk, place.folder.clone()?);
-        return Ok(held_at(&mut set, key).err().map(|fault| fault.name()));
-    }
-    let mut joint = FileStore::new(disk, place.file.clone()?);
+// The fault of the file of a key, if it has one.
+fn fault_of_key(rt: &HostRuntime, place: &Place, key: u16) -> Option<&'static str> {
+    let mut set = FileSet::new(SystemDisk::new(rt), place.folder.clone().ok()?);
+    Some(held_at(&mut set, key).err()?.name())
+}
+
+// The fault of the joint file, if it has one.
+fn fault_of_joint_file(rt: &HostRuntime, place: &Place) -> Option<&'static str> {
+    let mut joint = FileStore::new(SystemDisk::new(rt), place.file.clone().ok()?);
     match joint.load(MOST_JOINT_FILE_BYTES) {
-        Ok(Some(bytes)) => Ok(JointFile::read(&bytes).err().map(|fault| fault.name())),
-        Ok(None) => Ok(None),
-        Err(StoreFault::Device) => Ok(Some(MoveFault::Device.name())),
-        Err(StoreFault::Memory) => Err(AllocError),
+        Ok(bytes) => Some(JointFile::read(&bytes?).err()?.name()),
+        Err(StoreFault::Device) => Some(MoveFault::Device.name()),
+        Err(StoreFault::Memory) => None,
     }
 }
 
-/// The fault of the file that a desk's command has loaded last, if it has one: the command has ended there. The file of a
-/// document is told with its ID.
-pub(crate) fn note_of_file<D: Folders>(
-    alloc: Global,
-    disk: D,
-    place: &Place,
-    path: &str,
-) -> Option<String> {
-    let key = key_at(place, path);
-    let name = fault_in(disk, place, key).ok()??;
-    let Some(id) = key.and_then(FileId::of_number) else {
+/// The fault of the file that a desk's command has loaded last, if it has one: the command has ended there. At the file
+/// of a document its ID is named.
+pub(crate) fn note_of_file(rt: &HostRuntime, place: &Place, path: &str) -> Option<String> {
+    let alloc = rt.alloc();
+    let Some(key) = key_at(place, path) else {
+        return line_of(alloc, path, fault_of_joint_file(rt, place)?).ok();
+    };
+    let name = fault_of_key(rt, place, key)?;
+    let Some(id) = FileId::of_number(key) else {
         return line_of(alloc, path, name).ok();
     };
     let (first, second) = id.words();

@@ -1,14 +1,14 @@
 //! The files that a command names, and where they are.
 
-ghost use Rattle.std.specs.Prelude.{IfOk};
+ghost use Rattle.std.specs.Prelude.{◌≡◌, ◌++◌, IfOk, string_bytes};
 ghost use Rattle.relay_places.specs.Places.{IsPlaced};
 
-use std::alloc::AllocError;
+use std::alloc::{AllocError, Global};
 use std::io::{self, ErrorKind};
 use std::rt::Files;
 
 /// What a command does to its files.
-#[derive(Clone, Copy, Debug, PartialEq, Eq)]
+#[derive(Clone, Copy, PartialEq, Eq)]
 pub enum Access {
     /// It makes a ledger where nothing is.
     Creates,
@@ -56,6 +56,13 @@ pub(crate) struct Place {
     pub(crate) lock: String,
 }
 
+// What is beside a path, with this ending.
+fn beside(alloc: Global, path: &str, ending: &str) -> Result<String, AllocError>
+    ensures { IfOk result (λ whole. string_bytes whole ≡ path.now ++ ending.now) }
+{
+    format!(in alloc; "{path}{ending}")
+}
+
 // Where the link at a path leads, if one is there, or why it can't be looked at or followed.
 fn follow(rt: &HostRuntime, path: String) -> Result<(String, Option<io::Error>), AllocError> {
     match rt.symlink_metadata(path.as_str()) {
@@ -81,22 +88,18 @@ impl Place {
     {
         let alloc = rt.alloc();
         let (file, file_fault) = follow(rt, String::from_str(alloc, named.file)?)?;
-        let beside = file.as_str();
-        let draft = format!(in alloc; "{beside}.new")?;
-        let (folder, folder_fault) = follow(rt, format!(in alloc; "{beside}.pages")?)?;
+        let (folder, folder_fault) = follow(rt, beside(alloc, file.as_str(), ".pages")?)?;
         let locked = if named.is_desk { &folder } else { &file };
-        let locked = locked.as_str();
-        let lock = format!(in alloc; "{locked}.lock")?;
         Ok(Place {
             named: String::from_str(alloc, named.file)?,
             is_desk: named.is_desk,
             access: named.access,
+            draft: beside(alloc, file.as_str(), ".new")?,
+            lock: beside(alloc, locked.as_str(), ".lock")?,
             file,
             file_fault,
-            draft,
             folder,
             folder_fault,
-            lock,
         })
     }
 }

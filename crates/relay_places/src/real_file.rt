@@ -53,7 +53,7 @@ impl NamedFile for RealFile<'_> {
                 }
             }
         };
-        let reader = BufReader::new(self.rt.alloc(), source).map_err(|_| InputFault::Memory)?;
+        let reader = BufReader::new(self.rt.alloc(), source).or(Err(InputFault::Memory))?;
         Ok(Watched::new(reader))
     }
 

@@ -34,68 +34,67 @@ impl<'a> RealPlaces<'a> {
 }
 
 // The system's disk, which asks for the lock of a command's files.
-type Gated<'a> = Locked<'a, SystemDisk<'a>>;
+type LockedDisk<'a> = Locked<'a, SystemDisk<'a>>;
 
 // What the line of a refusal can't say of a command's files.
-fn note_of(rt: &HostRuntime, command_files: &CommandFiles<'_>) -> Option<String> {
-    let (alloc, place) = (rt.alloc(), &command_files.place);
-    match command_files.reason.get() {
+fn note_of(files: &CommandFiles<'_>) -> Option<String> {
+    let (rt, place) = (files.rt, &files.place);
+    match files.reason.get() {
         None | Some(Reason::Refused) => {}
-        Some(reason) => return note_of_reason(alloc, place, reason),
+        Some(reason) => return note_of_reason(rt.alloc(), place, reason),
     }
-    if command_files.has_no_list.get() {
-        let odd = note_of_folder(rt, place);
-        return odd.or_else(|| command_files.refused.take());
+    if files.has_no_list.get() {
+        return match note_of_folder(rt, place) {
+            None => files.refused.take(),
+            odd => odd,
+        };
     }
-    if let Some(refused) = command_files.refused.take() {
+    if let Some(refused) = files.refused.take() {
         return Some(refused);
     }
     if !place.is_desk || place.access == Access::Looks {
         return None;
     }
-    let path = command_files.loaded.take()?;
-    note_of_file(alloc, SystemDisk::new(rt), place, path.as_str())
+    let path = files.loaded.take()?;
+    note_of_file(rt, place, path.as_str())
 }
 
-// The gate of the files that a command names.
-fn gate_of<'a>(rt: &'a HostRuntime, named: Named<'_>) -> Result<Rc<CommandFiles<'a>>, AllocError> {
+// The files that a command names, for its stores to share.
+fn shared_files<'a>(
+    rt: &'a HostRuntime,
+    named: Named<'_>,
+) -> Result<Rc<CommandFiles<'a>>, AllocError> {
     let command_files = CommandFiles::new(rt, Place::of(rt, named)?);
-    Rc::new(rt.alloc(), command_files).map_err(|_| AllocError)
+    Rc::new(rt.alloc(), command_files).or(Err(AllocError))
 }
 
-// The ledger or the joint file behind a gate. A new ledger takes the place of nothing.
-fn file_at<'a>(
-    rt: &'a HostRuntime,
-    command_files: &Rc<CommandFiles<'a>>,
-) -> Result<FileStore<Gated<'a>>, AllocError> {
-    let path = command_files.place.file.clone()?;
-    let disk = if command_files.place.access == Access::Creates {
-        SystemDisk::of_new_files(rt)
+// The ledger or the joint file of a command. A new ledger takes the place of nothing.
+fn file_of<'a>(files: &Rc<CommandFiles<'a>>) -> Result<FileStore<LockedDisk<'a>>, AllocError> {
+    let path = files.place.file.clone()?;
+    let disk = if files.place.access == Access::Creates {
+        SystemDisk::of_new_files(files.rt)
     } else {
-        SystemDisk::new(rt)
+        SystemDisk::new(files.rt)
     };
-    Ok(FileStore::new(Locked::new(rt, command_files.clone()?, disk), path))
+    Ok(FileStore::new(Locked::new(files.clone()?, disk), path))
 }
 
-// The folder behind a gate.
-fn folder_at<'a>(
-    rt: &'a HostRuntime,
-    command_files: &Rc<CommandFiles<'a>>,
-) -> Result<FileSet<Gated<'a>>, AllocError> {
-    let path = command_files.place.folder.clone()?;
-    let disk = SystemDisk::new(rt);
-    Ok(FileSet::new(Locked::new(rt, command_files.clone()?, disk), path))
+// The folder of a command.
+fn folder_of<'a>(files: &Rc<CommandFiles<'a>>) -> Result<FileSet<LockedDisk<'a>>, AllocError> {
+    let path = files.place.folder.clone()?;
+    let disk = SystemDisk::new(files.rt);
+    Ok(FileSet::new(Locked::new(files.clone()?, disk), path))
 }
 
-// Ends the lock of files that are let go, and gives what is found out of them.
-fn close_gate(rt: &HostRuntime, command_files: CommandFiles<'_>, status: u8) -> Closed {
-    let reason = command_files.reason.get();
+// Closes the files of a command, and gives what was found out of them.
+fn close_files(files: &CommandFiles<'_>, status: u8) -> Closed {
+    let reason = files.reason.get();
     let note = if status != 0 || reason.is_some() {
-        note_of(rt, &command_files)
+        note_of(files)
     } else {
         None
     };
-    command_files.close();
+    files.take_lock_away();
     Closed {
         note,
         is_absent: matches!(reason, Some(Reason::NoDesk)),
@@ -103,9 +102,9 @@ fn close_gate(rt: &HostRuntime, command_files: CommandFiles<'_>, status: u8) -> 
 }
 
 impl<'a> Places for RealPlaces<'a> {
-    type File = FileStore<Gated<'a>>;
+    type File = FileStore<LockedDisk<'a>>;
 
-    type Folder = FileSet<Gated<'a>>;
+    type Folder = FileSet<LockedDisk<'a>>;
 
     type Input = RealFile<'a>;
 
@@ -116,23 +115,20 @@ impl<'a> Places for RealPlaces<'a> {
     ghost is_open = { λ _ _. Unit {0} };
 
     fn open(&mut self, named: Named<'_>) -> Result<(Self::File, Self::Folder), AllocError> {
-        let command_files = gate_of(self.rt, named)?;
-        let files = (
-            file_at(self.rt, &command_files)?,
-            folder_at(self.rt, &command_files)?,
-        );
+        let command_files = shared_files(self.rt, named)?;
+        let files = (file_of(&command_files)?, folder_of(&command_files)?);
         self.command_files = Some(command_files);
         Ok(files)
     }
 
     #[rattlefmt::skip] // a signature a line
     fn close(&mut self, _named: Named<'_>, file: Self::File, folder: Self::Folder, status: u8) -> Closed {
-        // While these live they share the command's files.
+        // While these live they share the command's files, whose lock ends last.
         drop(file);
         drop(folder);
-        match self.command_files.take().map(Rc::try_unwrap) {
-            Some(Ok(command_files)) => close_gate(self.rt, command_files, status),
-            _ => Closed { note: None, is_absent: false },
+        match self.command_files.take() {
+            Some(command_files) => close_files(&command_files, status),
+            None => Closed { note: None, is_absent: false },
         }
     }
 
