@@ -3,8 +3,9 @@
 use crate::closed_streams::HeldPlaces;
 use crate::standard::{StandardStreams, tell};
 use crate::system::System;
-use relay_places::{RealPlaces, note};
-use std::io::{BufReader, Error, ErrorKind, Write};
+use relay_places::{Places, RealPlaces, note};
+use std::alloc::Global;
+use std::io::{BufReader, Error, ErrorKind, Read, Write};
 use std::{env, io};
 
 // Writes text to the standard error. What isn't UTF-8 is refused.
@@ -48,6 +49,18 @@ fn show_word_fault(rt: &HostRuntime, error: &io::Error) -> u8 {
     2
 }
 
+// Does what words say over these streams and places, and gives the exit status. It takes those of any type, since a
+// body over the real ones takes long to prove.
+fn run_over<I: Read + Drop, O: Write + Drop, E: Write + Drop, P: Places>(
+    alloc: Global,
+    standard: StandardStreams<I, O, E>,
+    places: P,
+    words: &[String],
+) -> u8 {
+    let (status, _) = System { standard, places }.run_line(alloc, words);
+    status
+}
+
 /// Does what the program's own words say over its own streams and the system's files, as [`System::run_line`]
 /// does it, and gives the exit status.
 pub fn run(rt: &HostRuntime) -> u8 {
@@ -66,8 +79,5 @@ pub fn run(rt: &HostRuntime) -> u8 {
     };
     let mut output = io::writer(rt);
     let standard = StandardStreams(&mut input, &mut output, ErrorWriter { to: rt });
-    let places = RealPlaces::new(rt);
-    let system = System { standard, places };
-    let (status, _) = system.run_line(rt.alloc(), words.as_slice());
-    status
+    run_over(rt.alloc(), standard, RealPlaces::new(rt), words.as_slice())
 }
