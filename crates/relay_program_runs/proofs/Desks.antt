@@ -296,10 +296,13 @@ module _ (A : Type 0) (IsAmong : List ℕ → Type 0) where
 
       as_written : (text : List ℕ) → GivesPrinted labels text ran.before (status_at ran.ends) ran.after →
           WritesPrinted earlier text ran
-      as_written text (gives_nothing same one) = writes_nothing same (if_exited ran.ends (λ status. status ≡ 1) one)
+      as_written text (gives_nothing same one) = writes_nothing (same, if_exited ran.ends (λ status. status ≡ 1) one)
       as_written text (gives_document id bytes text_is the part whole) =
-          writes id bytes text_is (printed_before id bytes the) part (if_exited ran.ends (λ status. status ≡ 0 →
-          Appends ran.before.streams.output.contents ran.after.streams.output.contents bytes) whole)
+          writes id bytes text_is (printed_before id bytes the) (
+            part,
+            if_exited ran.ends (λ status. status ≡ 0 →
+                Appends ran.before.streams.output.contents ran.after.streams.output.contents bytes) whole,
+          )
 
       if_among : (o : Option (List ℕ)) (F G : List ℕ → Type 0) → (IsAmong (path_of ran.command) → IfSome o F) →
           ((text : List ℕ) → F text → G text) → IfSome o (λ text. IsAmong (path_of ran.command) → G text)

@@ -4,9 +4,14 @@ pub mod Effects
 pub mod Printers
 pub mod Desks
 pub mod Walk
+pub mod OneDocument
+pub mod GotOut
 pub mod Images
 pub mod Steps
 pub mod WorkedFacts
 pub mod WorkedCommands
 pub mod ShortLists
 pub mod LinePaths
+pub mod DocumentOut
+pub mod DocumentsOut
+pub mod LinesOut

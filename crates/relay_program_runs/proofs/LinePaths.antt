@@ -2,6 +2,8 @@
 use Rattle.std.proofs.Common.{◌≡◌, ◌≢◌, ◌++◌, ◌⊎◌, Bor, inl, inr, ℕ, zero, suc, List, [], ◌∷◌, None, Option, Some, slice_get, slice_set, refl, sym, ap, subst, ◌∙◌, Bool, true, false}
 use Rattle.std.specs.{Prelude.Decides, Prelude.map, Prelude.unwrap_or, List.AllByRecursion, Str.bytes_eq}
 use Rattle.std.proofs.lemmas.Slice.Eq.{bytes_eq-Decides}
+use Rattle.dm_size.specs.declared.size.Size.{Size}
+use Rattle.dm_symbol.specs.Correction.{CarriesItsWords}
 use Rattle.relay_command.specs.declared.command.Command.{Command}
 use Rattle.relay_command.specs.declared.command.Command.TheVariants.{Deliver, Export}
 use Rattle.relay_shared.specs.Files.{DeskFiles}
@@ -11,9 +13,9 @@ use Rattle.relay.specs.Places.{PlacesView}
 use Rattle.relay.specs.Program.{named_path, path_of, DoesAll, DoesAndSaves, DoesAt, GivesEach, IsAt, SystemView, all_command, does, does_all, does_and_saves, does_here, gives_each, has_none, lacks_memory, next_id, no_id, one_command, opens_desk, opens_none, shows}
 use Rattle.relay.proofs.AllDocuments.{others_stay}
 use Rattle.relay.specs.Program as program
-use Rattle.relay_program_runs.specs.Law.{At, MeetsPremises, IsBlank, IsNew, Ran, RunInTurn}
-use Rattle.relay_program_runs.specs.Lines.{Follow, LineRan, LinesAsk, NoLinePrintsAnIdAgain, WhatLinesDeliverWasPrinted, all_commands, commands_in, commands_of, givers_in, if_named, paths_of_all, ran_at, saved_as}
-use Rattle.relay_program_runs.proofs.{Lists.all_so, Walk.no_id_is_printed_twice, Walk.what_is_delivered_was_printed}
+use Rattle.relay_program_runs.specs.Law.{At, MeetsPremises, IsBlank, IsNew, Ran, RunInTurn, SomeRan}
+use Rattle.relay_program_runs.specs.Lines.{EachIdOfLinesHasOneDocument, Follow, IsNamedBy, LineRan, LinesAsk, NoLinePrintsAnIdAgain, WhatLinesDeliverIsTheDocument, WhatLinesDeliverWasPrinted, all_commands, commands_in, commands_of, givers_in, ids_of_all, if_named, in_folder, ran_at, saved_as}
+use Rattle.relay_program_runs.proofs.{Lists.all_so, OneDocument.each_id_has_one_document, OneDocument.what_is_delivered_is_the_document, Walk.no_id_is_printed_twice, Walk.what_is_delivered_was_printed}
 use Rattle.relay_program_runs.proofs.Steps.{Pairs, at_same, found, pairs_so, there}
 use Rattle.relay_shared.specs.Command.{FileView}
 
@@ -32,7 +34,7 @@ IsApart one other = one ≢ other
 later_in : (first : List ℕ) (paths : List (List ℕ)) (path : List ℕ) → IsIn paths path → IsIn (first ∷ paths) path
 later_in first paths path (i, at) = (suc i, at)
 
-decided : (b : Bool) (one other : List ℕ) → Decides b (one ≡ other) → (one ≡ other) ⊎ (one ≢ other)
+pub decided : (b : Bool) (one other : List ℕ) → Decides b (one ≡ other) → (one ≡ other) ⊎ (one ≢ other)
 decided true one other d = inl (d.0 refl)
 decided false one other d = inr (λ same. cc (d.1 same))
 
@@ -87,10 +89,12 @@ set_in_site (first ∷ rest) apart (suc i) path is old new after left keeps =
     (λ same. found (λ (other : List ℕ). first ≢ other) rest apart.0 i path is (sym same)))))
     (set_in_site rest apart.1 i path is old new after left (λ other is. keeps other (later_in first rest other is)))
 
-module _ (places : PlacesView) (blank : (path : List ℕ) → IsBlank (there path (places path))) where
-  all_blank : (paths : List (List ℕ)) → AllByRecursion IsBlank (site_of paths places)
-  all_blank [] = tt
-  all_blank (path ∷ paths) = (blank path, all_blank paths)
+module _ (places : PlacesView) where
+  all_blank : (paths : List (List ℕ)) → ((path : List ℕ) → IsIn paths path → IsBlank (there path (places path))) →
+      AllByRecursion IsBlank (site_of paths places)
+  all_blank [] blank = tt
+  all_blank (path ∷ paths) blank =
+      (blank path (zero, refl), all_blank paths (λ other is. blank other (later_in path paths other is)))
 
   none_there : (paths : List (List ℕ)) (path : List ℕ) → IsNone paths path →
       AllByRecursion (λ (at : At). path ≢ at.path) (site_of paths places)
@@ -102,15 +106,16 @@ module _ (places : PlacesView) (blank : (path : List ℕ) → IsBlank (there pat
   pairs_there [] apart = tt
   pairs_there (path ∷ paths) apart = (none_there paths path apart.0, pairs_there paths apart.1)
 
-  new_site : (paths : List (List ℕ)) → Pairs IsApart paths → IsNew (site_of paths places)
-  new_site paths apart = record {
+  new_site : (paths : List (List ℕ)) → Pairs IsApart paths →
+      ((path : List ℕ) → IsIn paths path → IsBlank (there path (places path))) → IsNew (site_of paths places)
+  new_site paths apart blank = record {
     paths = pairs_so _ (site_of paths places) (pairs_there paths apart);
-    blank = found IsBlank (site_of paths places) (all_blank paths);
+    blank = found IsBlank (site_of paths places) (all_blank paths blank);
   }
 
 -- ---- commands over places
 
-all_later : {X : Type 0} (P : X → Type 0) (xs ys : List X) → AllByRecursion P (xs ++ ys) → AllByRecursion P ys
+pub all_later : {X : Type 0} (P : X → Type 0) (xs ys : List X) → AllByRecursion P (xs ++ ys) → AllByRecursion P ys
 all_later P [] ys all = all
 all_later P (x ∷ xs) ys all = all_later P xs ys all.1
 
@@ -120,6 +125,20 @@ module _ (A : Type 0) where
 
   abbrev IsNoPath : List (Ran A) → List ℕ → Type 0
   IsNoPath rans path = AllByRecursion (λ ran. path ≢ path_of ran.command) rans
+
+  abbrev IsPath : List (Ran A) → List ℕ → Type 0
+  IsPath rans path = SomeRan (λ ran. path_of ran.command ≡ path) rans
+
+  is_or_no_path : (path : List ℕ) (rans : List (Ran A)) → IsPath rans path ⊎ IsNoPath rans path
+  is_or_no_path path [] = inr tt
+  is_or_no_path path (ran ∷ later) = let own = path_of ran.command in
+      elim (decided (bytes_eq path own) path own (bytes_eq-Decides path own)) [
+        | inl same ↦ inl (zero, ran, refl, sym same)
+        | inr other ↦ elim (is_or_no_path path later) [
+          | inl is ↦ inl (suc is.0, is.1, is.2, is.3)
+          | inr none ↦ inr (other, none)
+        ]
+      ]
 
   -- the paths of some commands, and no other
   record Covers (rans : List (Ran A)) : Type 0 where
@@ -146,6 +165,13 @@ module _ (A : Type 0) where
       );
       no_other = λ path no. (no.0, c.no_other path no.1);
     }
+  ]
+
+  -- each of them is the path of such a command
+  is_path : (rans : List (Ran A)) (c : Covers rans) (path : List ℕ) → IsIn c.paths path → IsPath rans path
+  is_path rans c path is = elim (is_or_no_path path rans) [
+    | inl some ↦ some
+    | inr none ↦ absurd (found (λ (other : List ℕ). path ≢ other) c.paths (c.no_other path none) is.0 path is.1 refl)
   ]
 
   module _ (paths : List (List ℕ)) where
@@ -212,7 +238,7 @@ module _ (A : Type 0) where
 
     over_each : {what : Given} {file folder : List ℕ} {ids : List (List ℕ)} {old new : SystemView} {status : ℕ}
         (each : GivesEach A what file folder ids old status new) (rans : List (Ran A)) → AllIn paths (givers_in each ++ rans) →
-        AllByRecursion (IsNone paths) (map (λ id. folder ++ 47 ∷ id) ids) → RunsOver new.places rans →
+        AllByRecursion (IsNone paths) (map (in_folder folder) ids) → RunsOver new.places rans →
         RunsOver old.places (givers_in each ++ rans)
     over_each no_id rans all saved over = over
     over_each (next_id from id at to later) rans all saved over =
@@ -228,7 +254,7 @@ module _ (A : Type 0) where
 
     over_all : {what : Given} {file folder : Bor (List ℕ)} {old new : SystemView} {status : ℕ}
         (all : DoesAll A what file folder old status new) (rans : List (Ran A)) → AllIn paths (commands_of all ++ rans) →
-        AllByRecursion (IsNone paths) (paths_of_all all) → RunsOver new.places rans →
+        AllByRecursion (IsNone paths) (map (in_folder folder.now) (ids_of_all all)) → RunsOver new.places rans →
         RunsOver old.places (commands_of all ++ rans)
     over_all (opens_desk seen desk at between (gives_each done each noted same)) rans all saved over =
         over_opening _ _ _ _ seen 0 at (givers_in each ++ rans)
@@ -253,21 +279,23 @@ module _ (A : Type 0) where
     over_line inputs words old new status (shows fault ends shown same) rans all saved over =
         subst (λ (p : PlacesView). RunsOver p rans) same over
 
-    over_lines : (lines : List (LineRan A)) (places : PlacesView) → AllIn paths (all_commands lines) →
-        AllByRecursion (λ line. AllByRecursion (IsNone paths) (saved_as line.runs)) lines → Follow places lines →
+    over_lines : (IsOurs : List ℕ → Type 0) → ((path : List ℕ) → IsIn paths path → IsOurs path) →
+        (lines : List (LineRan A)) (places : PlacesView) → AllIn paths (all_commands lines) →
+        AllByRecursion (λ line. AllByRecursion (IsNone paths) (saved_as line.runs)) lines → Follow IsOurs places lines →
         RunsOver places (all_commands lines)
-    over_lines [] places all saved follow = tt
-    over_lines (line ∷ later) places all saved (same, follow) =
+    over_lines IsOurs ours [] places all saved follow = tt
+    over_lines IsOurs ours (line ∷ later) places all saved (same, follow) =
         let rest = all_later _ (commands_in line.runs) (all_commands later) all in
-        subst (λ (p : PlacesView). RunsOver p (all_commands (line ∷ later))) same
+        agree places line.before.places (all_commands (line ∷ later)) all (λ path is. same path (ours path is))
         (over_line line.inputs line.words line.before line.after line.status line.runs (all_commands later)
-        all saved.0 (over_lines later line.after.places rest saved.1 follow))
+        all saved.0 (over_lines IsOurs ours later line.after.places rest saved.1 follow))
 
   asks : (lines : List (LineRan A)) (ask : LinesAsk lines) →
       MeetsPremises (site_of (covers (all_commands lines)).paths ask.places) (all_commands lines)
   asks lines ask = let c = covers (all_commands lines) in record {
-    is_new = new_site ask.places ask.is_new c.paths c.apart;
-    runs = runs_there c.paths c.apart ask.places (all_commands lines) c.all (over_lines c.paths lines ask.places c.all
+    is_new = new_site ask.places c.paths c.apart (λ path is. ask.is_new path (is_path (all_commands lines) c path is));
+    runs = runs_there c.paths c.apart ask.places (all_commands lines) c.all (over_lines c.paths (IsNamedBy lines)
+        (is_path (all_commands lines) c) lines ask.places c.all
         (all_so _ _ lines (λ line apart. all_so _ _ (saved_as line.runs) c.no_other apart) ask.saved_apart) ask.follow);
     apart = ask.apart;
     tickets = ask.tickets;
@@ -278,3 +306,11 @@ module _ (A : Type 0) where
 
   pub what_lines_deliver_was_printed : WhatLinesDeliverWasPrinted A
   what_lines_deliver_was_printed among lines ask = what_is_delivered_was_printed A among _ (all_commands lines) (asks lines ask)
+
+  module _ (law : (size : Size) → CarriesItsWords size) where
+    pub each_id_of_lines_has_one_document : EachIdOfLinesHasOneDocument A
+    each_id_of_lines_has_one_document lines ask = each_id_has_one_document A law _ (all_commands lines) (asks lines ask)
+
+    pub what_lines_deliver_is_the_document : WhatLinesDeliverIsTheDocument A
+    what_lines_deliver_is_the_document among lines ask =
+        what_is_delivered_is_the_document A law among _ (all_commands lines) (asks lines ask)

@@ -108,9 +108,9 @@ no_print none (suc number, other, at, prints) = cc (at)
 no_writes : {A : Type 0} {one other : Ran A} {text bytes : List ℕ} → (passed one).printed ≡ None →
     other.before.streams.output.contents ≡ Some [] → other.after.streams.output.contents ≡ Some bytes →
     bytes ≡ codes "1234" → WritesPrinted (one ∷ []) text other → ⊥
-no_writes {bytes = bytes} none before after is (writes_nothing same status) =
-    let all : Some bytes ≡ Some [] = sym after ∙ ap (λ (v : OutputView). v.contents) same ∙ before in cc (all, is)
-no_writes none before after is (writes id document text printed part whole) = no_print none printed
+no_writes {bytes = bytes} none before after is (writes_nothing nothing) =
+    let all : Some bytes ≡ Some [] = sym after ∙ ap (λ (v : OutputView). v.contents) nothing.0 ∙ before in cc (all, is)
+no_writes none before after is (writes id document text printed part) = no_print none printed
 
 -- labels and a file of a print before the list
 module _ {A : Type 0} {f1 f2 f3 f4 i2 i4 : Bor (List ℕ)} {x1 x2 y1 y2 : DeskFiles} {input file o1 o2 o3 o4 : List ℕ}

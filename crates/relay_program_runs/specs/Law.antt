@@ -1,5 +1,5 @@
--- The commands of the program, one after another: what each found and left, and two laws. No ID is printed twice, and
--- what is delivered was printed. Neither law says that any command succeeds.
+-- The commands of the program, one after another: what each found and left, and laws. No ID is printed twice, and
+-- what is delivered is the one document printed under its ID. None says that any command succeeds.
 --
 -- The stores and sets are honest: each holds what was last saved or, after a save that failed, that or what it held
 -- before. Files on a disk that keeps its promise are such stores; that a system's disk keeps it is trusted. Each
@@ -158,24 +158,48 @@ pub record PrintsUnder {A : Type 0} (id : ℕ) (document : List ℕ) (ran : Ran 
       (page : PageView) × Carries page grid × (page.id ≡ id) × IsOnePart parts page
   pub written : AppendsPart ran.before.streams.output.contents ran.after.streams.output.contents (images_of job.labels)
 
--- It wrote nothing, and its status is 1 if it exited; or it wrote a first part of a document that was printed before
--- under the ID that the text spells, and all of it if its status is 0.
+-- it wrote nothing, and its status is 1 if it exited
+abbrev pub WritesNothing : {A : Type 0} → Ran A → Type 0
+WritesNothing ran =
+    (ran.after.streams.output ≡ ran.before.streams.output) × IfSome (status_of ran.ends) (λ status. status ≡ 1)
+
+-- it wrote a first part of these bytes, and all of them if its status is 0
+abbrev pub WritesPart : {A : Type 0} → List ℕ → Ran A → Type 0
+WritesPart bytes ran = let old : OutputView = ran.before.streams.output in let new : OutputView = ran.after.streams.output in
+    AppendsPart old.contents new.contents bytes
+    × IfSome (status_of ran.ends) (λ status. status ≡ 0 → Appends old.contents new.contents bytes)
+
+-- it wrote nothing, or of a document that was printed before under the ID that the text spells
 pub data WritesPrinted {A : Type 0} (earlier : List (Ran A)) (text : List ℕ) (ran : Ran A) : Type 0 where
-  writes_nothing : ran.after.streams.output ≡ ran.before.streams.output
-      → IfSome (status_of ran.ends) (λ status. status ≡ 1) → WritesPrinted earlier text ran
+  writes_nothing : WritesNothing ran → WritesPrinted earlier text ran
   writes : (id : ℕ) (document : List ℕ) → IsTextOfId text id → SomeRan (PrintsUnder id document) earlier
-      → AppendsPart ran.before.streams.output.contents ran.after.streams.output.contents document
-      → IfSome (status_of ran.ends) (λ status. status ≡ 0 → Appends ran.before.streams.output.contents
-      ran.after.streams.output.contents document) → WritesPrinted earlier text ran
+      → WritesPart document ran → WritesPrinted earlier text ran
 
 -- a `deliver` at one of these paths does so
 abbrev pub DeliversPrinted : {A : Type 0} → (List ℕ → Type 0) → List (Ran A) → Ran A → Type 0
 DeliversPrinted IsAmong earlier ran =
     IfSome (text_of ran.command) (λ text. IsAmong (path_of ran.command) → WritesPrinted earlier text ran)
 
+-- What labels prints let out tells which one document it was: nothing need be known of the bytes that they read.
+abbrev pub HaveOneDocument : {A : Type 0} → List (Ran A) → Type 0
+HaveOneDocument rans = (id : ℕ) (one other : List ℕ) → SomeRan (PrintsUnder id one) rans →
+    SomeRan (PrintsUnder id other) rans → one ≡ other
+
+-- the one document of the ID that the text spells: an earlier command printed it, and none prints another under that ID
+pub record IsDocumentOf {A : Type 0} (earlier rans : List (Ran A)) (text document : List ℕ) : Type 0 where
+  pub id : ℕ
+  pub id_is : IsTextOfId text id
+  pub printed : SomeRan (PrintsUnder id document) earlier
+  pub no_other : (other : List ℕ) → SomeRan (PrintsUnder id other) rans → other ≡ document
+
+-- a `deliver` at one of these paths wrote nothing, or of the one document of its ID
+abbrev pub DeliversTheDocument : {A : Type 0} → (List ℕ → Type 0) → List (Ran A) → List (Ran A) → Ran A → Type 0
+DeliversTheDocument IsAmong rans earlier ran = IfSome (text_of ran.command) (λ text. IsAmong (path_of ran.command) →
+    WritesNothing ran ⊎ ((document : List ℕ) × IsDocumentOf earlier rans text document × WritesPart document ran))
+
 -- ---- the laws
 
--- What both laws ask of a list of commands at a site: there is nothing at first, each command finds what the last one
+-- What all laws ask of a list of commands at a site: there is nothing at first, each command finds what the last one
 -- at its path left, ledgers are made apart, and tickets are taken as they were given.
 pub record MeetsPremises {A : Type 0} (site : List At) (rans : List (Ran A)) : Type 0 where
   pub is_new : IsNew site
@@ -193,12 +217,12 @@ abbrev pub WhatIsDeliveredWasPrinted : Type 0 → Type 0
 WhatIsDeliveredWasPrinted A = (among : List ℕ → Bool) (site : List At) (rans : List (Ran A)) → MeetsPremises site rans →
     Each (TakesPrinted (λ path. IsTrue (among path))) [] rans → Each (DeliversPrinted (λ path. IsTrue (among path))) [] rans
 
--- `WritesPrinted` in other words: such a `deliver` wrote nothing, or a first part of a document that was printed, and
--- all of it if its status is 0.
-abbrev pub WhatIsWrittenWasPrinted : Type 0 → Type 0
-WhatIsWrittenWasPrinted A = (earlier : List (Ran A)) (text : List ℕ) (ran : Ran A) → WritesPrinted earlier text ran →
-    let old : OutputView = ran.before.streams.output in let new : OutputView = ran.after.streams.output in
-    ((new ≡ old) × IfSome (status_of ran.ends) (λ status. status ≡ 1))
-    ⊎ ((id : ℕ) × (document : List ℕ) × IsTextOfId text id × SomeRan (PrintsUnder id document) earlier
-    × AppendsPart old.contents new.contents document
-    × IfSome (status_of ran.ends) (λ status. status ≡ 0 → Appends old.contents new.contents document))
+-- each ID has one document
+abbrev pub EachIdHasOneDocument : Type 0 → Type 0
+EachIdHasOneDocument A = (site : List At) (rans : List (Ran A)) → MeetsPremises site rans → HaveOneDocument rans
+
+-- What is delivered at chosen paths is that document. So two that deliver an ID with the status 0 write the same.
+abbrev pub WhatIsDeliveredIsTheDocument : Type 0 → Type 0
+WhatIsDeliveredIsTheDocument A = (among : List ℕ → Bool) (site : List At) (rans : List (Ran A)) → MeetsPremises site rans →
+    Each (TakesPrinted (λ path. IsTrue (among path))) [] rans →
+    Each (DeliversTheDocument (λ path. IsTrue (among path)) rans) [] rans

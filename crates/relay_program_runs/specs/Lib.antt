@@ -1,4 +1,5 @@
 pub mod Passed
 pub mod Law
+pub mod Written
 pub mod Worked
 pub mod Lines

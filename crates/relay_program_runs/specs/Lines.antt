@@ -1,13 +1,15 @@
 -- The laws of commands, said of the program: of lines that ran one after another on the places of one system.
-use Rattle.std.specs.Prelude.{◌≡◌, ◌≢◌, ◌++◌, ◌∷◌, ℕ, AllPairs, Bool, List, [], None, Option, Some, IsTrue, map}
-use Rattle.std.specs.{Borrow.Bor, List.AllByRecursion, Io.KnownBytes.Keeps}
+use Rattle.std.specs.Prelude.{◌≡◌, ◌≢◌, ◌++◌, ◌∷◌, ◌⊎◌, ℕ, AllPairs, Bool, IfSome, List, MatchOption, [], None, Option, Some, IsTrue, map}
+use Rattle.std.specs.{Borrow.Bor, List.AllByRecursion, Io.KnownBytes.Appends, Io.KnownBytes.Keeps, Io.KnownBytes.append_known}
 use Rattle.dm_assembly_desk.specs.Documents.{Documents}
 use Rattle.relay_shared.specs.Lines.{id_text}
 use Rattle.relay_command.specs.declared.command.Command.{Command}
-use Rattle.relay_desk_commands.specs.{Desks.ids_given, declared.documents.Given.Given}
-use Rattle.relay.specs.{Places.PlacesView, Program.named_path, Program.path_of, Program.DoesAll, Program.DoesAt, Program.GivesEach, Program.GivesHeld, Program.SystemView, Program.does, Program.does_all, Program.does_and_saves, Program.does_here, Program.gives_each, Program.has_none, Program.next_id, Program.no_id, Program.opens_desk, Program.opens_none, Program.streams_over}
+use Rattle.relay_desk_commands.specs.{Desks.ids_given, declared.documents.Given.Given, declared.documents.Given.TheVariants.Document, declared.documents.Given.TheVariants.File}
+use Rattle.relay_buffers.specs.Buffers.{IsPartOut}
+use Rattle.relay.specs.{Places.PlacesView, Program.named_path, Program.path_of, Program.DoesAll, Program.DoesAt, Program.GivesEach, Program.GivesHeld, Program.SystemView, Program.does, Program.does_all, Program.does_and_saves, Program.does_here, Program.gives_each, Program.has_none, Program.next_id, Program.no_id, Program.opens_desk, Program.opens_none, Program.shows, Program.streams_over}
 use Rattle.relay.specs.Program as program
-use Rattle.relay_program_runs.specs.Law.{AreApart, DeliversPrinted, Each, IsBlank, IsFirstOfItsId, Ran, TakesGiven, TakesPrinted, all_made, exited}
+use Rattle.relay_program_runs.specs.Law.{AreApart, DeliversPrinted, DeliversTheDocument, Each, IsBlank, HaveOneDocument, IsDocumentOf, IsFirstOfItsId, Ran, SomeRan, TakesGiven, TakesPrinted, all_made, exited}
+use Rattle.relay_program_runs.specs.Passed.{text_of}
 use Rattle.relay_shared.specs.Command.{FileView}
 
 -- A line that ran: what is known of the files that it was to read, by their names; its words; the system before and after
@@ -20,6 +22,10 @@ pub record LineRan (A : Type 0) : Type 0 where
   pub status : ℕ
   pub after : SystemView
   pub runs : program.Runs A inputs words before status after
+
+-- the path of a file in a folder
+abbrev pub in_folder : List ℕ → List ℕ → List ℕ
+in_folder folder name = folder ++ 47 ∷ name
 
 -- ---- the commands of lines
 
@@ -68,37 +74,72 @@ module _ {A : Type 0} where
   all_commands [] = []
   all_commands (line ∷ later) = commands_in line.runs ++ all_commands later
 
-  -- the paths at which the documents of a desk were to be saved
-  abbrev pub paths_of_all : {what : Given} {file folder : Bor (List ℕ)} {old new : SystemView} {status : ℕ} →
+  -- the IDs of the documents of a desk that were to be saved
+  abbrev pub ids_of_all : {what : Given} {file folder : Bor (List ℕ)} {old new : SystemView} {status : ℕ} →
       DoesAll A what file folder old status new → List (List ℕ)
-  paths_of_all {what} {file} {folder} (opens_desk seen desk at between gives) =
-      map (λ id. folder.now ++ 47 ∷ id) (map id_text (ids_given what desk.held))
-  paths_of_all (opens_none refused at) = []
+  ids_of_all {what} (opens_desk seen desk at between gives) = map id_text (ids_given what desk.held)
+  ids_of_all (opens_none refused at) = []
 
   -- the paths at which a line was to save its outputs
   abbrev pub saved_as : {inputs : List ℕ → FileView} {words : List (List ℕ)} {old new : SystemView} {status : ℕ} →
       program.Runs A inputs words old status new → List (List ℕ)
   saved_as (does line right is (does_and_saves path saved to)) = path ∷ []
-  saved_as (does line right is (does_all what file folder gives all)) = paths_of_all all
+  saved_as (does line right is (does_all what file folder gives all)) = map (in_folder folder.now) (ids_of_all all)
   saved_as other = []
 
   -- ---- premises
 
-  -- the lines ran one after another, the oldest first: each found, at every path, what the one before left
-  abbrev pub Follow : PlacesView → List (LineRan A) → Type 0
-  Follow places [] = Unit {0}
-  Follow places (line ∷ later) = (line.before.places ≡ places) × Follow line.after.places later
+  -- a command of these lines names the path
+  abbrev pub IsNamedBy : List (LineRan A) → List ℕ → Type 0
+  IsNamedBy lines path = SomeRan (λ ran. path_of ran.command ≡ path) (all_commands lines)
 
-  -- There is nothing at first, only these lines change what there is, no output is saved at the path of a ledger or a
-  -- desk, ledgers are made apart, and tickets are taken as they were given.
+  -- the lines ran one after another, the oldest first: each found, at each of these paths, what the one before left
+  abbrev pub Follow : (List ℕ → Type 0) → PlacesView → List (LineRan A) → Type 0
+  Follow IsOurs places [] = Unit {0}
+  Follow IsOurs places (line ∷ later) =
+      ((path : List ℕ) → IsOurs path → line.before.places path ≡ places path) × Follow IsOurs line.after.places later
+
+  -- At the paths that their commands name there is nothing at first, and only these lines change what there is;
+  -- elsewhere may be anything. No output is saved at such a path, ledgers are made apart, and tickets are taken as they
+  -- were given.
   pub record LinesAsk (lines : List (LineRan A)) : Type 0 where
     pub places : PlacesView
-    pub is_new : (path : List ℕ) → IsBlank (record { path = path; files = places path })
-    pub follow : Follow places lines
+    pub is_new : (path : List ℕ) → IsNamedBy lines path → IsBlank (record { path = path; files = places path })
+    pub follow : Follow (IsNamedBy lines) places lines
     pub saved_apart : AllByRecursion (λ line. AllByRecursion (λ path.
         AllByRecursion (λ ran. path ≢ path_of ran.command) (all_commands lines)) (saved_as line.runs)) lines
     pub apart : AllPairs AreApart (all_made (all_commands lines))
     pub tickets : Each TakesGiven [] (all_commands lines)
+
+-- ---- conclusions
+
+-- Nothing is added to the output, and the status is 1. Or the output is a first part of what it was with the document
+-- added, and all of that if the status is 0.
+abbrev pub PutsTheDocument : (List ℕ → Type 0) → SystemView → ℕ → SystemView → Type 0
+PutsTheDocument IsIt old status new = ((status ≡ 1) × IsPartOut old.standard.output new.standard.output)
+    ⊎ ((document : List ℕ) × IsIt document × IsPartOut (append_known old.standard.output document) new.standard.output
+    × (status ≡ 0 → Appends old.standard.output new.standard.output document))
+
+-- If the store at the path is honest, the file there is as it was, and the status isn't 0; or the file is the document.
+abbrev pub SavesTheDocument : (List ℕ → Type 0) → List ℕ → SystemView → ℕ → SystemView → Type 0
+SavesTheDocument IsIt path old status new = IsTrue (old.places path).joint.is_honest →
+    ((status ≢ 0) × ((new.places path).joint.content ≡ (old.places path).joint.content))
+    ⊎ ((document : List ℕ) × IsIt document × ((new.places path).joint.content ≡ Some document))
+
+-- A line `deliver` at one of these paths puts out the document of its ID. With `--to` it saves that, and leaves the
+-- output as it was; with `--all` it saves each complete document of the desk, as the file of its ID in the folder.
+abbrev pub LetsOutTheDocument : {A : Type 0} → (List ℕ → Type 0) → (List ℕ → List ℕ → Type 0) →
+    {inputs : List ℕ → FileView} {words : List (List ℕ)} {old new : SystemView} {status : ℕ} →
+    program.Runs A inputs words old status new → Type 0
+LetsOutTheDocument IsAmong IsIt {old} {new} {status}
+    (does line right is (does_all Document file folder gives all)) = IsAmong file.now →
+    AllByRecursion (λ id. SavesTheDocument (IsIt id) (in_folder folder.now id) old status new) (ids_of_all all)
+LetsOutTheDocument IsAmong IsIt (does line right is (does_all File file folder gives all)) = Unit {0}
+LetsOutTheDocument IsAmong IsIt {old} {new} {status} (does line right is done) =
+    IfSome (text_of line.command) (λ text. IsAmong (path_of line.command) →
+    MatchOption line.saved_as (PutsTheDocument (IsIt text) old status new) (λ path.
+    (new.standard.output ≡ old.standard.output) × SavesTheDocument (IsIt text) path.now old status new))
+LetsOutTheDocument IsAmong IsIt (shows fault ends shown same) = Unit {0}
 
 -- ---- the laws
 
@@ -111,6 +152,23 @@ abbrev pub WhatLinesDeliverWasPrinted : Type 0 → Type 0
 WhatLinesDeliverWasPrinted A = (among : List ℕ → Bool) (lines : List (LineRan A)) → LinesAsk lines →
     Each (TakesPrinted (λ path. IsTrue (among path))) [] (all_commands lines) →
     Each (DeliversPrinted (λ path. IsTrue (among path))) [] (all_commands lines)
+
+-- Each ID has one document.
+abbrev pub EachIdOfLinesHasOneDocument : Type 0 → Type 0
+EachIdOfLinesHasOneDocument A = (lines : List (LineRan A)) → LinesAsk lines → HaveOneDocument (all_commands lines)
+
+-- What lines deliver at chosen paths is that document.
+abbrev pub WhatLinesDeliverIsTheDocument : Type 0 → Type 0
+WhatLinesDeliverIsTheDocument A = (among : List ℕ → Bool) (lines : List (LineRan A)) → LinesAsk lines →
+    Each (TakesPrinted (λ path. IsTrue (among path))) [] (all_commands lines) →
+    Each (DeliversTheDocument (λ path. IsTrue (among path)) (all_commands lines)) [] (all_commands lines)
+
+-- What comes out of a line `deliver` at a chosen path is that document: what the system has got, not just the command.
+abbrev pub WhatLinesLetOutIsTheDocument : Type 0 → Type 0
+WhatLinesLetOutIsTheDocument A = (among : List ℕ → Bool) (before after : List (LineRan A)) (line : LineRan A) →
+    let lines : List (LineRan A) = before ++ line ∷ after in LinesAsk lines →
+    Each (TakesPrinted (λ path. IsTrue (among path))) [] (all_commands lines) →
+    LetsOutTheDocument (λ path. IsTrue (among path)) (IsDocumentOf (all_commands before) (all_commands lines)) line.runs
 
 -- If a line whose command is done here exits with 0, so did the command, and all of its output is out.
 abbrev pub AllIsOut : Type 0 → Type 0

@@ -64,7 +64,7 @@ pub record Delivers {A : Type 0} (path written : List ℕ) (ran : Ran A) : Type 
 abbrev pub IsLost : {A : Type 0} → Ran A → Type 0
 IsLost ran = (status_of ran.ends ≡ Some 1) × IsSomeAnd ran.after.streams.output.contents (λ bytes. 0 < length bytes)
 
--- Fourteen commands that meet all premises of the two laws, at all paths. One took a ticket, one was cut short, the
+-- Fourteen commands that meet all premises of the laws, at all paths. One took a ticket, one was cut short, the
 -- output of one was lost, one copied a label, and two desks delivered what was printed.
 pub record IsWorked (A : Type 0) (written : List ℕ) : Type 0 where
   pub site : List At

@@ -51,8 +51,8 @@ was_printed : (A : Type 0) (earlier : List (Ran A)) (text : List ℕ) (ran : Ran
     (ran.after.streams.output ≡ ran.before.streams.output)
     ⊎ ((id : ℕ) × (document : List ℕ) × IsTextOfId text id × SomeRan (PrintsUnder id document) earlier
     × AppendsPart ran.before.streams.output.contents ran.after.streams.output.contents document)
-was_printed A earlier text ran (writes_nothing same status) = inl same
-was_printed A earlier text ran (writes id document is printed part all) = inr (id, document, is, printed, part)
+was_printed A earlier text ran (writes_nothing nothing) = inl nothing.0
+was_printed A earlier text ran (writes id document is printed part) = inr (id, document, is, printed, part.0)
 
 pub returns : goal.returns
 returns g c = record {

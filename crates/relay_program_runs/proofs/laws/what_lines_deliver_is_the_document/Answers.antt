@@ -1,0 +1,5 @@
+use Rattle.relay_program_runs.proofs.LinePaths.{what_lines_deliver_is_the_document}
+use Rattle.relay_program_runs.proofs.laws.what_lines_deliver_is_the_document.Goals as goal
+
+pub returns : goal.returns
+returns g c = what_lines_deliver_is_the_document _ c.each_grid_carries_its_words.ensures
