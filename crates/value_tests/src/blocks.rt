@@ -93,3 +93,46 @@ fn blocks_are_corrected(rt: HostRuntime) {
     assert!(rt; correct_symbol(Size::Side52, &mut words) == Ok(42) && words == [0; 288]);
     assert!(rt; correct_symbol(Size::Side52, &mut more) == Err(BlockFault { block: 1 }));
 }
+
+// The generator polynomial for 42 error correction codewords, which the standard prints.
+#[rattlefmt::skip]
+const GENERATOR: [u8; 43] = [
+    1, 5, 9, 5, 226, 177, 150, 50, 69, 202, 248, 101, 54, 57, 253, 1, 21, 121, 57, 111, 214, 105, 167, 9, 100, 95, 175,
+    8, 242, 133, 245, 2, 122, 105, 247, 153, 22, 38, 19, 31, 137, 193, 77,
+];
+
+// The polynomial with just 41 of its roots: (x + 2^1)(x + 2^2) .. (x + 2^41).
+#[rattlefmt::skip]
+const WITHOUT_A_ROOT: [u8; 42] = [
+    1, 149, 220, 249, 68, 38, 81, 71, 79, 244, 224, 15, 133, 132, 208, 211, 90, 165, 84, 144, 137, 250, 156, 120, 101,
+    136, 172, 193, 216, 99, 53, 48, 194, 222, 6, 142, 2, 43, 106, 123, 21, 35,
+];
+
+// A symbol of side 52 whose codewords are 0, but for those of block 0 from a place on.
+fn with_words(from: usize, words: &[u8]) -> [u8; 288] {
+    let mut symbol = [0; 288];
+    let places = symbol.iter_mut().step_by(2).skip(from);
+    for (place, word) in places.zip(words.iter()) {
+        *place = *word;
+    }
+    symbol
+}
+
+// Of its syndromes only the last is not zero, and no 21 changes give that.
+#[test]
+#[tactic(auto, unfolding(dm_size::specs::Sizes::row))]
+fn a_block_with_one_syndrome_that_is_not_zero(rt: HostRuntime) {
+    let before = with_words(102, &WITHOUT_A_ROOT);
+    let mut words = before;
+    let answer = correct_symbol(Size::Side52, &mut words);
+    assert!(rt; answer == Err(BlockFault { block: 0 }) && words == before);
+}
+
+// The other 21 coefficients are what is missing.
+#[test]
+#[tactic(auto, unfolding(dm_size::specs::Sizes::row))]
+fn a_block_with_half_a_generator_polynomial(rt: HostRuntime) {
+    let mut words = with_words(101, &GENERATOR[..22]);
+    assert!(rt; correct_symbol(Size::Side52, &mut words) == Ok(21));
+    assert!(rt; words == with_words(101, &GENERATOR));
+}

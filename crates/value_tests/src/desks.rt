@@ -4,14 +4,16 @@
 use crate::labels::page_of_bytes;
 use dm_append_label::{FileId, seal};
 use dm_assembly_desk::{
-    Accepted, AskFault, Desk, ForgetFault, ImportFault, Imported, Kind, ScanFault,
+    Accepted, AskFault, Desk, ForgetFault, ImportFault, Imported, Kind, MoveFault, ScanFault,
+    move_pages,
 };
 use dm_encodation::Scheme;
 use dm_finder_frame::Grid;
 use dm_size::Size;
-use dm_store::{MemSet, StoreSet};
-use std::alloc::Global;
+use dm_store::{MemSet, MemStore, NextSave, StoreSet};
+use std::alloc::{AllocError, Global};
 use std::process::Abort;
+use std::test::Fail;
 
 type MemDesk = Desk<MemSet>;
 
@@ -105,10 +107,31 @@ fn documents_are_scanned(rt: HostRuntime) {
 
 // Whether the second page of two is all that a desk holds of a document.
 fn holds_second(desk: &MemDesk, id: FileId) -> bool {
-    match desk.pages(id) {
+    let is_held = match desk.pages(id) {
         Some(pages) => (pages.n(), pages.missing(), pages.get(1), pages.get(2))
             == (2, 1, None, Some(b"34".as_slice())),
         None => false,
+    };
+    is_held && desk.document(id).err() == Some(AskFault::Incomplete { missing: 1 })
+}
+
+// A save that fails, and the answer to its label once the desk is opened again.
+const FAILED_SAVES: [(NextSave, Kind); 2] = [
+    (NextSave::FaultOld, Kind::New),
+    (NextSave::FaultNew, Kind::Again),
+];
+
+#[test]
+fn saves_fail(rt: HostRuntime) {
+    let (id, scan) = (id_of(&rt, 0), (0, 2, 2, b"34".as_slice()));
+    for (next, kind) in FAILED_SAVES {
+        let mut desk = opened(&rt, rt.alloc(), MemSet::new(rt.alloc()), 4);
+        desk.set_next(next);
+        assert!(rt; answers(rt.alloc(), &mut desk, scan, Err(ScanFault::Save)));
+        assert!(rt; desk.pages(id).is_none());
+        assert!(rt; answers(rt.alloc(), &mut desk, scan, Err(ScanFault::Failed)));
+        let mut desk = opened(&rt, rt.alloc(), desk.close(), 4);
+        assert!(rt; answers(rt.alloc(), &mut desk, scan, Ok(kind)) && holds_second(&desk, id));
     }
 }
 
@@ -169,7 +192,7 @@ const OTHER: &[u8] = b"DMPG\x02\x01\x02\x02\x00\x02\x00\x0234";
 
 // The files of a set, a capacity, and what is answered; the first file that is none decides.
 #[rattlefmt::skip]
-const SETS: [(&[(u16, &[u8])], u16, &str); 14] = [
+const SETS: [(&[(u16, &[u8])], u16, &str); 22] = [
     (&[], 0, "Capacity"),
     (&[], 1, "opened"),
     (&[], 1024, "opened"),
@@ -184,6 +207,16 @@ const SETS: [(&[(u16, &[u8])], u16, &str); 14] = [
     (&[(0, b"DMPG\x01"), (1, b"")], 3, "Version"),
     (&[(0, WHOLE), (64_516, SECOND)], 3, "Damaged"),
     (&[(0, WHOLE), (65_535, b"DMPG\x03")], 3, "Version"),
+    // No page is held; the third of two, one of 17, another document's, one of no document.
+    (&[(0, b"DMPG\x02\x01\x01\x02\x00\x00")], 4, "Damaged"),
+    (&[(0, b"DMPG\x02\x01\x01\x02\x00\x04\x00\x00")], 4, "Damaged"),
+    (&[(0, b"DMPG\x02\x01\x01\x11\x00\x01\x00\x00")], 4, "Damaged"),
+    (&[(0, b"DMPG\x02\x01\x02\x02\x00\x01\x00\x00")], 4, "Damaged"),
+    (&[(0, b"DMPG\x02\x00\xff\x02\x00\x01\x00\x00")], 4, "Damaged"),
+    // One byte less and one more than a sound file, and a file of version 1.
+    (&[(0, b"DMPG\x02\x01\x01\x02\x00\x02\x00\x023")], 4, "Damaged"),
+    (&[(0, b"DMPG\x02\x01\x01\x02\x00\x02\x00\x02345")], 4, "Damaged"),
+    (&[(0, b"DMPG\x01\x00\x00")], 4, "Version"),
 ];
 
 #[test]
@@ -194,4 +227,46 @@ fn sets_are_refused(rt: HostRuntime) {
             "{place}"
         );
     }
+}
+
+#[test]
+fn a_page_has_at_most_2600_bytes(rt: HostRuntime) {
+    let mut file = [b'7'; 2613];
+    file[..12].copy_from_slice(b"DMPG\x02\x01\x01\x02\x00\x01\x0a\x29");
+    assert!(rt; answer_to(rt.alloc(), &[(0, &file)], 4) == "Damaged");
+    file[11] = 0x28;
+    assert!(rt; answer_to(rt.alloc(), &[(0, &file[..2612])], 4) == "opened");
+}
+
+// A file of version 1 in which the document 0 has its second page.
+fn joint_file(alloc: Global) -> Result<MemStore, AllocError> {
+    let bytes = b"DMPG\x01\x00\x01\x01\x01\x02\x00\x02\x00\x0234".to_vec(alloc)?;
+    Ok(MemStore::with(alloc, bytes))
+}
+
+// Moves twice, and whether the answers are these, and the set and the old store then have their files.
+fn is_moved(
+    alloc: Global,
+    set: &mut MemSet,
+    answers: [Result<u16, MoveFault>; 2],
+) -> Result<bool, AllocError> {
+    let mut old = joint_file(alloc)?;
+    let first = move_pages(alloc, &mut old, set);
+    let second = move_pages(alloc, &mut old, set);
+    let is_emptied = old.content() == Some(b"DMPG\x01\x00\x00".as_slice());
+    Ok([first, second] == answers && set.content(0) == Some(SECOND) && is_emptied)
+}
+
+#[test]
+fn a_joint_file_is_moved(rt: HostRuntime) -> Result<(), Fail> {
+    let mut set = MemSet::new(rt.alloc());
+    assert!(rt; is_moved(rt.alloc(), &mut set, [Ok(1), Ok(0)])?);
+    let mut set = MemSet::new(rt.alloc());
+    set.set_next(NextSave::FaultOld);
+    assert!(rt; is_moved(rt.alloc(), &mut set, [Err(MoveFault::Device), Ok(1)])?);
+    let mut desk = opened(&rt, rt.alloc(), set, 4);
+    assert!(rt; desk.forget(id_of(&rt, 0)) == Ok(()));
+    let mut set = desk.close();
+    assert!(rt; set.content(0) == None && set.keys(4)?.is_empty());
+    Ok(())
 }

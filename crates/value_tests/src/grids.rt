@@ -4,7 +4,7 @@
 use crate::worked::{WORDS, is_worked_example, worked_modules};
 use dm_finder_frame::{FrameFault, Grid, GridFault, cell_of, frame, unframe};
 use dm_placement::{Layout, lift, lift_with, place, place_with};
-use dm_size::Size;
+use dm_size::{Matrix, Size};
 use std::alloc::{AllocError, Global};
 use std::test::Fail;
 
@@ -40,6 +40,13 @@ fn cells_are_free_or_on_no_finder_pattern(rt: HostRuntime) -> Result<(), Fail> {
     assert!(rt; cell_of(Size::Side10, 1, 1) == Some((0, 0)));
     assert!(rt; cell_of(Size::Side132, 131, 0) == None);
     assert!(rt; cell_of(Size::Side132, 130, 23) == Some((119, 20)));
+    Ok(())
+}
+
+#[test]
+fn light_modules_are_words_of_0(rt: HostRuntime) -> Result<(), Fail> {
+    let light = Matrix::light(rt.alloc(), 10)?;
+    assert!(rt; lift(rt.alloc(), Size::Side12, &light)?.as_slice() == [0; 12].as_slice());
     Ok(())
 }
 

@@ -5,7 +5,7 @@ use dm_append_label::{FileId, LabelFault, Page, SealFault, cut, open_label, seal
 use dm_encodation::{DecodeFault, Scheme};
 use dm_finder_frame::Grid;
 use dm_size::Size;
-use dm_symbol::{correct_grid, draw_symbol};
+use dm_symbol::{correct_grid, draw_symbol, still_near};
 use std::alloc::{AllocError, Global};
 use std::test::Fail;
 
@@ -157,5 +157,16 @@ fn labels_are_worn(rt: HostRuntime) -> Result<(), Fail> {
     assert!(rt; wear(rt.alloc(), &label) == Err(LabelFault::Block { block: 0 }));
     flip_all(&mut label, &[(0, 5)]);
     assert!(rt; wear(rt.alloc(), &label) == Err(LabelFault::Border { wrong: 6 }));
+    Ok(())
+}
+
+// One module of each of three codewords is flipped, and then one of a fourth.
+#[test]
+#[tactic(auto, unfolding(dm_size::specs::Sizes::row))]
+fn three_words_are_near_and_four_are_not(rt: HostRuntime) -> Result<(), Fail> {
+    let label = sealed(rt.alloc(), ONE)?;
+    assert!(rt; label.size() == Size::Side12);
+    assert!(rt; still_near(rt.alloc(), &label, &[(1, 9), (4, 6), (8, 3)])?);
+    assert!(rt; !still_near(rt.alloc(), &label, &[(1, 9), (4, 6), (8, 3), (9, 8)])?);
     Ok(())
 }

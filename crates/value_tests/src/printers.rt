@@ -3,9 +3,11 @@
 
 use dm_append_label::open_label;
 use dm_encodation::Scheme;
-use dm_print_ledger::{GiveFault, Job, OpenFault, PrintFault, Printer, Range, TakeFault, Ticket};
+use dm_print_ledger::{
+    CreateFault, GiveFault, Job, OpenFault, PrintFault, Printer, Range, TakeFault, Ticket,
+};
 use dm_size::Size;
-use dm_store::MemStore;
+use dm_store::{FuseStore, Kept, MemStore, NextSave, Store};
 use std::alloc::Global;
 use std::process::Abort;
 use std::test::Fail;
@@ -65,6 +67,67 @@ fn documents_are_printed(rt: HostRuntime) -> Result<(), Fail> {
     Ok(())
 }
 
+// A save that fails, how many numbers are free once the printer is opened again, and the ID of the next job.
+const FAILED_SAVES: [(NextSave, u32, (u8, u8)); 2] = [
+    (NextSave::FaultOld, 10, (1, 1)),
+    (NextSave::FaultNew, 9, (1, 2)),
+];
+
+#[test]
+fn saves_fail(rt: HostRuntime) -> Result<(), Fail> {
+    for (next, left, words) in FAILED_SAVES {
+        let mut printer = created(&rt, rt.alloc(), 7, 0, 9);
+        printer.set_next(next);
+        assert!(rt; print(&mut printer, b"").err() == Some(PrintFault::Save));
+        assert!(rt; print(&mut printer, b"").err() == Some(PrintFault::Failed));
+        let again = Printer::open(rt.alloc(), printer.close(), 7).ok();
+        let mut again = again.expect(&rt, "it is opened");
+        assert!(rt; again.left() == left);
+        assert!(rt; print(&mut again, b"")?.id().words() == words);
+    }
+    Ok(())
+}
+
+// A printer is created on a store: the store then, and the fault, if there is one.
+fn create<S: Store>(alloc: Global, store: S) -> (S, Option<CreateFault>) {
+    match Printer::create(alloc, store, 7, Range { first: 0, last: 9 }) {
+        Ok(printer) => (printer.close(), None),
+        Err(refused) => (refused.store, Some(refused.fault)),
+    }
+}
+
+const DEVICE: Option<CreateFault> = Some(CreateFault::Device);
+
+const EXISTS: Option<CreateFault> = Some(CreateFault::Exists);
+
+#[test]
+fn nothing_is_created_over_what_a_failed_save_left(rt: HostRuntime) {
+    let mut store = MemStore::new(rt.alloc());
+    store.set_next(NextSave::FaultNew);
+    let (store, fault) = create(rt.alloc(), store);
+    assert!(rt; fault == DEVICE && create(rt.alloc(), store).1 == EXISTS);
+}
+
+// After how many calls a store stops, what its stopped save leaves, and the fault of `create`; and that of another
+// `create` on the store within.
+const STOPS: [(u32, Kept, Option<CreateFault>, Option<CreateFault>); 5] = [
+    (0, Kept::Old, DEVICE, None),
+    (0, Kept::New, DEVICE, None),
+    (1, Kept::Old, DEVICE, None),
+    (1, Kept::New, DEVICE, EXISTS),
+    (2, Kept::Old, None, EXISTS),
+];
+
+#[test]
+fn stores_stop_while_a_printer_is_created(rt: HostRuntime) {
+    for (passes, kept, fault, later) in STOPS {
+        let store = FuseStore::new(MemStore::new(rt.alloc()), passes, kept);
+        let (store, found) = create(rt.alloc(), store);
+        let (_, then) = create(rt.alloc(), store.into_inner());
+        assert!(rt; (found, then) == (fault, later), "{passes} {kept:?}");
+    }
+}
+
 // Two tickets, of which the second is taken: then the first is old. Serials rise by one, and a number in the middle
 // leaves two ranges.
 #[test]
@@ -96,10 +159,11 @@ const DAMAGED: Result<u32, OpenFault> = Err(OpenFault::Damaged);
 
 // Ledgers that are more than a byte away from a sound one, or sound themselves.
 #[rattlefmt::skip]
-const LEDGERS: [(&[u8], Result<u32, OpenFault>); 13] = [
-    // Version 1: sound, and used up; a next number that is out of the range, no range, a great number.
+const LEDGERS: [(&[u8], Result<u32, OpenFault>); 14] = [
+    // Version 1: sound, and used up; a wrong check, a next number that is out of the range, no range, a great number.
     (b"DMLG\x01\x00\x00\x00\x09\x00\x01\xff\xfe", Ok(9)),
     (b"DMLG\x01\x00\x00\x00\x09\x00\x0a\xff\xf5", Ok(0)),
+    (b"DMLG\x01\x00\x00\x00\x09\x00\x01\xff\xff", DAMAGED),
     (b"DMLG\x01\x00\x00\x00\x09\x00\x0b\xff\xf4", DAMAGED),
     (b"DMLG\x01\x00\x09\x00\x08\x00\x09\xff\xf6", DAMAGED),
     (b"DMLG\x01\xfc\x04\xfc\x04\xfc\x04\x03\xfb", DAMAGED),
