@@ -1,8 +1,14 @@
-// Desks over allocators that refuse, and spoiled files; and the files of documents that the tests hold.
+// Desks over allocators that refuse and sets that stop, and spoiled files; and the files of documents that the tests
+// hold.
 
 mod calls;
+mod moves;
 mod spoiled;
+mod stops;
 mod table;
+
+// The file of the document 0, of whose two pages the first is held: 12.
+const FIRST: &[u8] = b"DMPG\x02\x01\x01\x02\x00\x01\x00\x0212";
 
 // The file of the document 0 with both pages, 12 and 34.
 const WHOLE: &[u8] = b"DMPG\x02\x01\x01\x02\x00\x03\x00\x0212\x00\x0234";

@@ -11,11 +11,11 @@ use std::alloc::Global;
 use std::process::Abort;
 use test_helpers::Refusing;
 
-type Memory = Refusing<Global>;
+pub type Memory = Refusing<Global>;
 
 // A call on a desk that holds the page 3 of the document 9.
 #[derive(Clone, Copy)]
-enum Call {
+pub enum Call {
     // The label of a page of the document 0.
     Scan(u8),
     // The document 0, its file, and the list of all.
@@ -28,7 +28,7 @@ enum Call {
 }
 
 // The calls, one after another, and what is answered to each.
-const CALLS: [(Call, &str); 8] = [
+pub const CALLS: [(Call, &str); 8] = [
     (Call::Scan(1), "new"),
     (Call::Scan(2), "complete"),
     (Call::Document, "done"),
@@ -83,7 +83,7 @@ fn given<S: StoreSet>(desk: &Desk<S, &Memory>, id: FileId, is_file: bool) -> &'s
 }
 
 // What is answered to a call.
-fn made<'a, S: StoreSet>(
+pub fn made<'a, S: StoreSet>(
     desk: &mut Desk<S, &'a Memory>,
     memory: &'a Memory,
     call: Call,
@@ -111,7 +111,7 @@ fn made<'a, S: StoreSet>(
 }
 
 // A set that holds the document 9. It is filled again where that was refused.
-fn filled<'a>(rt: &impl Abort, memory: &'a Memory) -> MemSet<&'a Memory> {
+pub fn filled<'a>(rt: &impl Abort, memory: &'a Memory) -> MemSet<&'a Memory> {
     let mut set = MemSet::new(memory);
     assert!(rt; set.replace(9, THIRD).is_ok() || set.replace(9, THIRD).is_ok());
     set

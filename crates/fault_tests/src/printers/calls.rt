@@ -8,11 +8,11 @@ use std::alloc::Global;
 use std::process::Abort;
 use test_helpers::Refusing;
 
-type Memory = Refusing<Global>;
+pub type Memory = Refusing<Global>;
 
 // A call on the printer 0 of the numbers 0 to 9.
 #[derive(Clone, Copy)]
-enum Call {
+pub enum Call {
     // A print of a document of two labels, which is to get this number.
     Print(u16),
     // The numbers 5 and 6 are given to the printer 3.
@@ -21,15 +21,15 @@ enum Call {
     Take,
 }
 
-const CALLS: [Call; 4] = [Call::Print(0), Call::Give, Call::Take, Call::Print(1)];
+pub const CALLS: [Call; 4] = [Call::Print(0), Call::Give, Call::Take, Call::Print(1)];
 
-const RANGE: Range = Range { first: 0, last: 9 };
+pub const RANGE: Range = Range { first: 0, last: 9 };
 
 const GIVEN: [u8; 10] = [0, 0, 0, 0, 0, 3, 0, 5, 0, 6];
 
 const TAKEN: [u8; 10] = [0, 1, 0, 0, 0, 0, 0, 20, 0, 21];
 
-const SECOND_PRINT: &[u8] =
+pub const SECOND_PRINT: &[u8] =
     b"DMLG\x02\x00\x00\x00\x01\x03\x00\x02\x00\x04\x00\x07\x00\x09\x00\x14\x00\x15\
     \x01\x00\x01\x00\x00\xff\xf7";
 
@@ -37,7 +37,7 @@ const SECOND_PRINT: &[u8] =
 const MANY: u32 = 1000;
 
 // What is answered to a call.
-fn made<S: Store>(printer: &mut Printer<S, &Memory>, call: Call) -> &'static str {
+pub fn made<S: Store>(printer: &mut Printer<S, &Memory>, call: Call) -> &'static str {
     match call {
         Call::Print(id) => match printer.print(b"1234", Size::Side12, Scheme::Ascii) {
             Ok(job) if job.id().number() == id => "done",
