@@ -194,7 +194,7 @@ fn print_aim(what: &str, ours: Option<&[f64]>, others: Option<&[f64]>, aim: f64)
 /// one, and, to read one with wrong codewords, of ZXing's to read a clean one.
 type Aims = [(u16, [f64; 3]); 3];
 
-const AIMS: Aims = [(10, [0.85, 0.17, 0.30]), (52, [0.20, 0.07, 0.22]), (132, [0.10, 0.05, 0.20])];
+const AIMS: Aims = [(10, [0.60, 0.15, 0.23]), (52, [0.14, 0.056, 0.17]), (132, [0.075, 0.032, 0.14])];
 
 fn print_aims(times: &[Times]) {
     for size in SIZES {
