@@ -2,9 +2,10 @@
 
 use crate::left_files::{Files, PAGES, SET, STORE, files_on, keep};
 use crate::machine::Machine;
+use dm_disk::{FileSet, FileStore, Folders};
 use dm_encodation::Scheme;
 use dm_print_ledger::Range;
-use dm_store::{FileSet, FileStore, Folders, Store, StoreSet};
+use dm_store::{Store, StoreSet};
 use relay_desk_commands::{
     CopyOptions, EndedAll, Given, copy_command, deliver_command, export_command, forget_command,
     give_all, held_command, import_command, scan_command,

@@ -1,6 +1,6 @@
 //! The files on a disk, and those that a stop may leave there.
 
-use dm_store::Disk;
+use dm_disk::Disk;
 use std::alloc::{AllocError, Global};
 use std::test::Fail;
 use test_helpers::MemDisk;

@@ -1,7 +1,8 @@
 //! A machine with a disk in memory, which all stores of a command share, and which stops after a number of calls.
 
 use crate::left_files::{Files, STORE, files_on};
-use dm_store::{Disk, Folders, Kept, StoreFault};
+use dm_disk::{Disk, Folders};
+use dm_store::{Kept, StoreFault};
 use std::alloc::Global;
 use std::cell::{RefCell, RefMut};
 use std::test::Fail;
@@ -61,7 +62,7 @@ impl<'a, D> SharedDisk<'a, D> {
 
 #[rattlefmt::skip]
 impl<D: Disk> Disk for SharedDisk<'_, D> {
-    ghost use Rattle.dm_store.specs.Disk.{unclaimed};
+    ghost use Rattle.dm_disk.specs.Disk.{unclaimed};
 
     type Memory = D::Memory;
 

@@ -1,2 +1,1 @@
 pub mod Saved
-pub mod Disk

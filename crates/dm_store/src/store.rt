@@ -5,6 +5,7 @@ ghost use Rattle.dm_store.specs.declared.store.StoreFault.TheVariants.{Memory};
 ghost use Rattle.dm_store.specs.Saved.{Saved, Loads, Replaces, MayLackMemory};
 
 use std::alloc::{AllocError, Allocator};
+use std::io::{self, ErrorKind};
 use thiserror::Error;
 
 /// Why a store, a set or a disk did not do what it was asked.
@@ -24,6 +25,15 @@ impl From<AllocError> for StoreFault {
 
     fn from(_: AllocError) -> Self {
         StoreFault::Memory
+    }
+}
+
+impl From<io::Error> for StoreFault {
+    fn from(error: io::Error) -> Self {
+        match error.kind() {
+            ErrorKind::OutOfMemory => StoreFault::Memory,
+            _ => StoreFault::Device,
+        }
     }
 }
 

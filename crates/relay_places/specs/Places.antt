@@ -2,7 +2,8 @@
 use Rattle.std.specs.Prelude.{◌≡◌, ℕ, ◌++◌, List, [], ◌∷◌, Bool, true, false, None, not, if◌then◌else◌, IsTrue, IsFalse, codes, string_bytes, ◌≢◌, ◌⊎◌, Result, Err}
 use Rattle.std.specs.{Str.bytes_eq, FinMap.empty}
 use Rattle.relay_shared.specs.Files.{DeskFiles}
-use Rattle.dm_store.specs.{Disk.draft_of, Disk.saved_under, Disk.set_in, Disk.unclaimed, Saved.Replaces, Saved.Saved, Saved.SavedSet, Saved.in_memory, declared.store.StoreFault.StoreFault, declared.mem_store.NextSave.TheVariants.Fine}
+use Rattle.dm_disk.specs.Disk.{draft_of, saved_under, set_in, unclaimed}
+use Rattle.dm_store.specs.{Saved.Replaces, Saved.Saved, Saved.SavedSet, Saved.in_memory, declared.store.StoreFault.StoreFault, declared.mem_store.NextSave.TheVariants.Fine}
 use Rattle.relay_places.specs.declared.{place.Access.Access, place.Place.Place, locked.Found.Found, mem_places.MemPlace.MemPlace, place.Access.TheVariants.Creates, place.Access.TheVariants.Makes, place.Access.TheVariants.Saves, place.Access.TheVariants.Looks}
 
 abbrev pub files_of : Saved → SavedSet → DeskFiles

@@ -4,7 +4,7 @@
 use crate::notes::{line_of, note_of_draft, note_of_error, note_of_reason};
 use crate::place::Place;
 use crate::reason::Reason;
-use dm_store::{draft_path, folder_of};
+use dm_disk::{draft_path, folder_of};
 use std::io::ErrorKind;
 use std::rt::Files;
 

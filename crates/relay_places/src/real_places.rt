@@ -11,7 +11,7 @@ use crate::real_file::RealFile;
 use crate::reason::Reason;
 use crate::saved_output::save_new;
 use crate::system_disk::SystemDisk;
-use dm_store::{FileSet, FileStore};
+use dm_disk::{FileSet, FileStore};
 use std::alloc::AllocError;
 use std::fs::File;
 use std::rc::Rc;

@@ -6,7 +6,8 @@ use crate::place::{Access, Named, Place};
 use crate::places::SavedNew;
 use crate::reason::Reason;
 use crate::system_disk::{KeepsError, SystemDisk};
-use dm_store::{FileStore, Store, StoreFault};
+use dm_disk::FileStore;
+use dm_store::{Store, StoreFault};
 use std::io::{self, ErrorKind};
 
 // A save that memory was refused for.

@@ -1,8 +1,9 @@
 //! The system's disk, as one type without parameters.
 
-ghost use Rattle.dm_store.specs.Disk.{unclaimed};
+ghost use Rattle.dm_disk.specs.Disk.{unclaimed};
 
-use dm_store::{Disk, Folders, RealDisk, StoreFault};
+use dm_disk::{Disk, Folders, RealDisk};
+use dm_store::StoreFault;
 use std::alloc::Global;
 use std::io;
 

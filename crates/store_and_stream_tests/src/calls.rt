@@ -1,7 +1,8 @@
 //! One call on a store in a file or on a set in a folder, and the name of its answer.
 
 use crate::scripted::Scripted;
-use dm_store::{FileSet, FileStore, Folders, RealDisk, Store, StoreFault, StoreSet};
+use dm_disk::{FileSet, FileStore, Folders, RealDisk};
+use dm_store::{Store, StoreFault, StoreSet};
 use std::alloc::{Allocator, Global};
 use test_helpers::Refusing;
 

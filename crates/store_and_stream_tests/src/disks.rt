@@ -1,7 +1,8 @@
 //! What a stop of the machine leaves on the worst disk that the definitions allow: of a save, after a load, and of four
 //! ways to save that are wrong.
 
-use dm_store::{Disk, FileStore, Kept, Store, StoreFault};
+use dm_disk::{Disk, FileStore};
+use dm_store::{Kept, Store, StoreFault};
 use std::alloc::{AllocError, Global};
 use std::test::Fail;
 use test_helpers::{KeepingNames, MemDisk, Stopping};

@@ -4,7 +4,8 @@
 
 use crate::calls::{Call, Memory, answer, text_of};
 use crate::scripted::{Plan, Scripted};
-use dm_store::{FileStore, RealDisk, Store, StoreFault};
+use dm_disk::{FileStore, RealDisk};
+use dm_store::{Store, StoreFault};
 use std::fs::Permissions;
 use std::io::ErrorKind;
 use std::os::unix::fs::PermissionsExt;

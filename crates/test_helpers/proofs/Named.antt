@@ -4,8 +4,9 @@ use Rattle.std.proofs.Common.{◌≡◌, ◌≢◌, ◌<◌, ◌≤◌, ◌+◌,
 use Rattle.std.specs.Prelude.{codes, if◌then◌else◌}
 use Rattle.std.specs.Str.{bytes_eq}
 use Rattle.std.proofs.lemmas.{List.drop_at, List.take_all, Slice.Eq.bytes_eq-Decides, Bool.cases_lt}
-use Rattle.dm_store.specs.{Disk.Content, Disk.held_below, Disk.key_name, Disk.key_path, Disk.with_found, Saved.Contents}
-use Rattle.dm_store.proofs.Held.{held_above, held_at, known}
+use Rattle.dm_disk.specs.Disk.{Content, held_below, key_name, key_path, with_found}
+use Rattle.dm_store.specs.{Saved.Contents}
+use Rattle.dm_disk.proofs.Held.{held_above, held_at, known}
 
 four : (key : ℕ) → length (key_name key) ≡ 4
 unfolding key_name

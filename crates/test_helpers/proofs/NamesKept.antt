@@ -1,9 +1,9 @@
 -- A disk that keeps all names does what the disk within does, but for renames.
 use Rattle.std.proofs.Common.{◌≡◌, ◌∙◌, ◌+◌, inl, inr, ⊎_elim, ℕ, List, false, Some, None, Option, Result, refl}
 use Rattle.std.specs.Prelude.{IsErr, IsSome, is_some, option_map, take}
-use Rattle.dm_store.specs.Disk.{Content, DiskState, KeepsAll, KeepsFile, Removes, Renames, Syncs, WritesFile}
+use Rattle.dm_disk.specs.Disk.{Content, DiskState, KeepsAll, KeepsFile, Removes, Renames, Syncs, WritesFile}
 use Rattle.dm_store.specs.declared.store.StoreFault.{StoreFault}
-use Rattle.dm_store.proofs.Saving.{keeps_on, not_both}
+use Rattle.dm_disk.proofs.Saving.{keeps_on, not_both}
 use Rattle.test_helpers.specs.Keeping.{keeping_names}
 
 file_kept : {old new : DiskState} {name : List ℕ} → KeepsFile old name new

@@ -5,9 +5,9 @@ use Rattle.std.specs.{List.starts_with, Str.bytes_eq, String.string_bytes, Optio
 use Rattle.std.specs.Prelude.{IsOk, OnOk, OnErr, codes, if◌then◌else◌, nat_eq, ◌&&◌}
 use Rattle.dm_store.specs.declared.store.StoreFault.{StoreFault}
 use Rattle.test_helpers.specs.declared.mem_disk.DiskCall.{DiskCall, TheVariants.SyncedEntry, TheVariants.SyncedFolder}
-use Rattle.dm_store.specs.Disk.{Content, IsSettled, KeepsFile, SettlesFolder, SyncsEntry, key_name}
+use Rattle.dm_disk.specs.Disk.{Content, IsSettled, KeepsFile, SettlesFolder, SyncsEntry, key_name}
 use Rattle.test_helpers.specs.DiskCalls.{seen_after, synced_after, leaves_after, disk_after}
-use Rattle.dm_store.proofs.Saving.{keeps_same}
+use Rattle.dm_disk.proofs.Saving.{keeps_same}
 use Rattle.test_helpers.proofs.SeenIsLeft.{leaves_seen}
 
 same_content : (a b : Content) → option_eq bytes_eq a b ≡ true → a ≡ b

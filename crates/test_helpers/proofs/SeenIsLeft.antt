@@ -4,7 +4,7 @@ use Rattle.std.specs.{List.starts_with, Str.bytes_eq, String.string_bytes, Optio
 use Rattle.std.proofs.lemmas.Slice.Eq.{bytes_eq-Decides}
 use Rattle.test_helpers.specs.declared.mem_disk.DiskCall.{DiskCall}
 use Rattle.test_helpers.specs.declared.mem_disk.DiskCall.TheVariants.{Wrote, Synced, Renamed, Removed, SyncedEntry, SyncedFolder}
-use Rattle.dm_store.specs.Disk.{Content}
+use Rattle.dm_disk.specs.Disk.{Content}
 use Rattle.test_helpers.specs.DiskCalls.{seen_after, synced_after, leaves_after}
 
 content_eq-same : (content : Content) → option_eq bytes_eq content content ≡ true

@@ -2,8 +2,8 @@
 -- disk: what is said of a fault follows from what is said of Ok.
 use Rattle.std.proofs.Common.{inl, inr, ⊎_elim, List, ℕ, Result, Ok, Err, refl}
 use Rattle.std.specs.Prelude.{IsOk, IsErr}
-use Rattle.dm_store.specs.Disk.{DiskState, Renames, Syncs, WritesFile}
-use Rattle.dm_store.proofs.Saving.{by_end, not_both}
+use Rattle.dm_disk.specs.Disk.{DiskState, Renames, Syncs, WritesFile}
+use Rattle.dm_disk.proofs.Saving.{by_end, not_both}
 use Rattle.dm_store.specs.declared.store.StoreFault.{StoreFault}
 
 -- an answer that is not Ok is a fault

@@ -4,7 +4,7 @@ use Rattle.std.specs.Prelude.{ℕ, Bool, true, false, ◌||◌, ◌&&◌, List, 
 use Rattle.std.specs.{List.starts_with, Option.option_eq, Str.bytes_eq, String.string_bytes}
 use Rattle.test_helpers.specs.declared.mem_disk.DiskCall.{DiskCall}
 use Rattle.test_helpers.specs.declared.mem_disk.DiskCall.TheVariants.{Wrote, Synced, Renamed, Removed, SyncedEntry, SyncedFolder}
-use Rattle.dm_store.specs.Disk.{DiskState, Content}
+use Rattle.dm_disk.specs.Disk.{DiskState, Content}
 
 -- what a reader finds
 abbrev pub seen_after : {A : Type 0} → List (DiskCall A) → List ℕ → Content

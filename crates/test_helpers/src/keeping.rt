@@ -3,7 +3,8 @@
 ghost use Rattle.std.specs.Prelude.{◌≡◌};
 ghost use Rattle.test_helpers.specs.Keeping.{keeping_names};
 
-use dm_store::{Disk, StoreFault};
+use dm_disk::Disk;
+use dm_store::StoreFault;
 
 /// A disk of which no rename takes the place of a file: it looks first. It is proved a disk that keeps all names, so that
 /// a save over it puts a file only where none was.

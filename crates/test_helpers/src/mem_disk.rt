@@ -6,7 +6,8 @@ ghost use Rattle.std.specs.Option.{option_eq};
 ghost use Rattle.std.specs.Str.{bytes_eq};
 ghost use Rattle.test_helpers.specs.DiskCalls.{seen_after, synced_after, leaves_after};
 
-use dm_store::{Disk, StoreFault};
+use dm_disk::Disk;
+use dm_store::StoreFault;
 use std::alloc::{Allocator, Global};
 
 /// A call of a disk that was done.

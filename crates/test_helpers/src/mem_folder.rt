@@ -1,11 +1,12 @@
 //! The folders of a disk in memory.
 
 ghost use Rattle.std.specs.Prelude.{◌≡◌, ◌≢◌, ◌≤◌, ◌<◌, ◌^◌, None, List, ℕ, option_map, OnOk};
-ghost use Rattle.dm_store.specs.Disk.{key_path, with_found};
+ghost use Rattle.dm_disk.specs.Disk.{key_path, with_found};
 ghost use Rattle.test_helpers.specs.DiskCalls.{seen_after};
 
 use crate::mem_disk::{DiskCall, MemDisk, note, seen_in};
-use dm_store::{Folders, KeyMap, SavedBytes, StoreFault, key_of, path_of};
+use dm_disk::{Folders, key_of, path_of};
+use dm_store::{KeyMap, SavedBytes, StoreFault};
 use std::alloc::{AllocError, Allocator};
 
 // One more than the key whose file has this name in some folder; 0 for any other name.

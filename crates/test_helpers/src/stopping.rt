@@ -2,7 +2,8 @@
 
 ghost use Rattle.std.specs.Prelude.{◌≡◌, IsErrOf, IsOk};
 
-use dm_store::{Disk, Folders, Kept, StoreFault};
+use dm_disk::{Disk, Folders};
+use dm_store::{Kept, StoreFault};
 
 /// A disk whose machine stops: its first calls are made. The next call, at which it stops, is made if it changes the
 /// disk and [`Kept::New`] was asked for; it fails either way. Each later call fails and changes nothing.

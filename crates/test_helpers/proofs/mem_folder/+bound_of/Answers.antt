@@ -1,5 +1,5 @@
 use Rattle.std.proofs.Common.{arith}
-use Rattle.dm_store.specs.Disk.{key_path}
+use Rattle.dm_disk.specs.Disk.{key_path}
 use Rattle.test_helpers.proofs.Named.{first_and_rest, none_at, none_from}
 use Rattle.test_helpers.proofs.mem_folder.+bound_of.Goals as goal
 

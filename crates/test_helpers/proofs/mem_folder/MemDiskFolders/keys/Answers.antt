@@ -1,6 +1,6 @@
 use Rattle.std.proofs.Common.{◌≡◌, ◌∙◌, ap, arith, sym}
 use Rattle.std.proofs.lemmas.Grind.{common_steps}
-use Rattle.dm_store.specs.Disk.{contents_in, found_in, held_below, with_found}
+use Rattle.dm_disk.specs.Disk.{contents_in, found_in, held_below, with_found}
 use Rattle.test_helpers.specs.DiskCalls.{disk_after}
 use Rattle.test_helpers.proofs.Named.{all_found, one_more}
 use Rattle.test_helpers.proofs.mem_folder.MemDiskFolders.keys.Goals as goal

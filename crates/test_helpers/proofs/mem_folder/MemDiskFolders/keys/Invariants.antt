@@ -1,5 +1,5 @@
 use Rattle.std.specs.Prelude.{◌≡◌}
-use Rattle.dm_store.specs.Disk.{found_in, held_below}
+use Rattle.dm_disk.specs.Disk.{found_in, held_below}
 use Rattle.test_helpers.specs.DiskCalls.{disk_after}
 use Rattle.test_helpers.proofs.mem_folder.MemDiskFolders.keys.Given as goal
 

@@ -1,4 +1,4 @@
-use Rattle.dm_store.proofs.Saving.{puts_told}
+use Rattle.dm_disk.proofs.Saving.{puts_told}
 use Rattle.test_helpers.proofs.stopping.StoppingDisk.remove.Goals as goal
 
 pub returns-clause-removes : goal.returns-clause-removes

@@ -1,0 +1,4 @@
+pub mod Saving
+pub mod Held
+mod Names
+mod InFolder
