@@ -8,7 +8,7 @@ use Rattle.dm_assembly_desk.specs.declared.{fault.ImportFault.ImportFault, file.
 use Rattle.dm_append_label.specs.declared.fault.LabelFault.{LabelFault}
 use Rattle.dm_store.specs.declared.store.StoreFault.{StoreFault}
 use Rattle.dm_assembly_desk.specs.declared.{adding.AddFault.AddFault, reply.Imported.Imported, reply.Accepted.Accepted}
-use Rattle.std.specs.{List.list_all, List.flat_map, Int.w16, Int.to_be_bytes, Option.option_or}
+use Rattle.std.specs.{List.list_all, List.AllByRecursion, List.flat_map, Int.w16, Int.to_be_bytes, Option.option_or}
 use Rattle.dm_store.specs.Saved.{SavePlan, HeldAfterFault, Outcome, Done, Faulted, Refused, SavesIn, SavedSet, RemovesKey, outcome_of, LoadsOpen, Saved, PlanAllows, Replaces, Contents, SavesKey, MayLackMemory}
 use Rattle.dm_assembly_desk.specs.Documents.{Pages, document_of, missing_mask, file, SpellsFile, HasNoFile, Documents, HoldsFiles, own_pages, DeskView, union_of_pages, added_mask, may_join, IsFile, HasFileFault, IsEntry, entry, IsMarked, AreEntries, IsCapacity, summary}
 use Rattle.dm_assembly_desk.specs.declared.reply.Kind.TheVariants.{New, Again, Complete}
@@ -424,25 +424,54 @@ with_files content (e ∷ es) = with_files (map.insert content e.0 (file e.0 e.1
 abbrev pub moved : Contents → Documents → ℕ → Contents
 moved content held k = with_files content (take k (lacked_by content held))
 
+-- ---- what is looked at before the first save
+
+-- the set's file of each of these documents, if it has one, is a file of that document
+abbrev pub AreSound : Contents → List (ℕ × Pages) → Type 0
+AreSound content es =
+    AllByRecursion (λ e. (bytes : List ℕ) → map.get content e.0 ≡ Some bytes → IsFile e.0 bytes) es
+
+-- a move is refused for what an honest set has under a key
+abbrev pub IsRefusedAt : SavedSet → ℕ → MoveFault → Type 0
+IsRefusedAt set key moves.NotPages = HasUnsound set key files.NotPages
+IsRefusedAt set key moves.Version = HasUnsound set key files.Version
+IsRefusedAt set key moves.Damaged = HasUnsound set key files.Damaged
+IsRefusedAt set key moves.Device = ⊥
+IsRefusedAt set key moves.Memory = ⊥
+
+-- The old store holds these documents. Of those of which the set has a file, the first, by rising ID, whose file is
+-- none of it has this fault.
+pub record FindsUnsound (old : Saved) (set : SavedSet) (fault : MoveFault) : Type 0 where
+  pub held : Documents
+  pub joint : IsTrue old.is_honest → HoldsJointFile old.content held
+  pub k : ℕ
+  pub next : ℕ × Pages
+  pub is_next : slice_get (map.entries held) k ≡ Some next
+  pub before : IsTrue set.is_honest → AreSound set.content (take k (map.entries held))
+  pub unsound : IsRefusedAt set next.0 fault
+
 -- ---- how far a move came
 
--- why a load may fail: that of the old store for this or, if it holds a document, that of the set's keys for that
+-- why a load may fail: that of the old store for this or, if it holds a document, one of the set's for that
 abbrev pub MayNotLoad : Saved → Type 0 → Type 0 → Type 0
 MayNotLoad old This That =
     This ⊎ (That × (IsTrue old.is_honest → (held : Documents) × HoldsJointFile old.content held × (0 < map.len held)))
 
--- why a move ends before its first save: the old store holds no document, or no joint file; or a load failed
+-- why a move ends before its first save: the old store holds no document, or no joint file; the set's file of one of
+-- its documents is none; or a load failed
 abbrev pub EndsEarly : Saved → SavedSet → Result ℕ MoveFault → Type 0
 EndsEarly old set (Ok written) = (written ≡ 0) × (IsTrue old.is_honest → HoldsJointFile old.content map.empty)
 EndsEarly old set (Err moves.Device) = MayNotLoad old (old.load_plan ≡ LoadsOpen) (set.load_plan ≡ LoadsOpen)
 EndsEarly old set (Err moves.Memory) = MayNotLoad old (IsTrue old.may_lack_memory) (IsTrue set.may_lack_memory)
-EndsEarly old set (Err fault) = IsTrue old.is_honest → IsSomeAnd old.content (λ bytes. HasJointFileFault bytes fault)
+EndsEarly old set (Err fault) =
+    (IsTrue old.is_honest → IsSomeAnd old.content (λ bytes. HasJointFileFault bytes fault)) ⊎ FindsUnsound old set fault
 
--- The old store holds these documents, and the first k that the set lacked are saved. These saves were not to fail, and
--- leave each plan.
+-- The old store holds these documents, whose files in the set are sound, and the first k that the set lacked are saved.
+-- These saves were not to fail, and leave each plan.
 pub record MoveReaches (old : Saved) (set : SavedSet) (held : Documents) (k : ℕ) (now : SavedSet) : Type 0 where
   pub joint : IsTrue old.is_honest → HoldsJointFile old.content held
   pub some : 0 < map.len held
+  pub sound : IsTrue set.is_honest → AreSound set.content (map.entries held)
   pub content : IsTrue set.is_honest → now.content ≡ moved set.content held k
   pub same : now ≡ record set { content = now.content }
   pub planned : 0 < k → PlanAllows set.save_plan Done set.save_plan

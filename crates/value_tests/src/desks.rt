@@ -270,3 +270,14 @@ fn a_joint_file_is_moved(rt: HostRuntime) -> Result<(), Fail> {
     assert!(rt; set.content(0) == None && set.keys(4)?.is_empty());
     Ok(())
 }
+
+#[test]
+fn a_joint_file_stays_beside_a_damaged_file(rt: HostRuntime) -> Result<(), Fail> {
+    let mut set = MemSet::new(rt.alloc());
+    set.replace(0, &SECOND[..9])?;
+    let mut old = joint_file(rt.alloc())?;
+    let moved = move_pages(rt.alloc(), &mut old, &mut set);
+    assert!(rt; moved == Err(MoveFault::Damaged) && set.content(0) == Some(&SECOND[..9]));
+    assert!(rt; old.content() == joint_file(rt.alloc())?.content());
+    Ok(())
+}

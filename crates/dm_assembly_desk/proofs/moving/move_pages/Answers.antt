@@ -2,10 +2,10 @@ use Rattle.std.proofs.Common.{arith, ◌≡◌, ◌∙◌, ◌+◌, List, ℕ, t
 use Rattle.std.specs.{Prelude.IsTrue, Prelude.option_map, FinMap.keys as map_keys, FinMap.entries as map_entries}
 use Rattle.std.proofs.lemmas.Result.{err_from_is_err_and}
 use Rattle.dm_store.specs.Saved.{Saved, Replaces, SavedSet, MayLackMemory}
-use Rattle.dm_assembly_desk.specs.{Desk.Moves, Desk.early, inner.Reading.lacking, inner.Reading.WritesAll}
+use Rattle.dm_assembly_desk.specs.{Desk.Moves, Desk.early, inner.Reading.lacking, inner.Reading.LooksAtEach, inner.Reading.WritesAll}
 use Rattle.dm_assembly_desk.specs.declared.fault.MoveFault.{MoveFault}
 use Rattle.dm_assembly_desk.proofs.JointContents.{all_of_them}
-use Rattle.dm_assembly_desk.proofs.MoveEnds.{no_documents, not_loaded, nothing_there, not_joint, none_there, no_keys, not_saved, ended}
+use Rattle.dm_assembly_desk.proofs.MoveEnds.{no_documents, not_loaded, nothing_there, not_joint, none_there, no_keys, not_sound, not_saved, ended}
 use Rattle.dm_assembly_desk.proofs.moving.move_pages.Goals as goal
 
 -- the answer is this fault
@@ -63,17 +63,33 @@ returns-in_err-keys g c =
     (λ e. c.in_err-keys.ensures.lists.device (ap Err e))
     (λ e. c.in_err-keys.ensures.lists.memory (ap Err e))) c.load.ensures.loads.same c.keys.ensures.lists.same)
 
+pub returns-in_err-look_at_each : goal.returns-in_err-look_at_each
+returns-in_err-look_at_each g c =
+    let set : SavedSet = g.S.StoreSet.state c.args.set.now in
+    let fault : MoveFault = c.in_err-look_at_each.field-0.0 in
+    let loaded = loaded_as (g.O.Store.state c.args.old.now) c.deref.ensures.value
+    (λ honest. rw c.in-Some.is at (c.in_ok-bytes.ensures.loads.saved honest)) in
+    let reads = c.in_ok-count.ensures.found in
+    let looks : LooksAtEach set (map_entries reads.held) (Err fault) =
+    subst (λ (s : SavedSet). LooksAtEach s (map_entries reads.held) (Err fault)) c.keys.ensures.lists.same
+    (c.in_err-look_at_each.ensures.looks (map_entries reads.held) reads.read) in
+    let answered = err_from_is_err_and c.from_residual-in_err-look_at_each.result c.from_residual-in_err-look_at_each.ensures.1 in
+    ends_so c.from_residual-in_err-look_at_each.result answered.0 _ answered.1 answered.2
+    (early (not_sound (g.O.Store.state c.args.old.now) set c.deref.result.now loaded c.in_ok-count.count
+    c.in_ok-count.entries.now reads c.if-count-eq0.false fault looks)
+    c.load.ensures.loads.same (c.look_at_each.ensures.same ∙ c.keys.ensures.lists.same))
+
 pub returns-in_err-settle : goal.returns-in_err-settle
 returns-in_err-settle g c =
     let loaded = loaded_as (g.O.Store.state c.args.old.now) c.deref.ensures.value
     (λ honest. rw c.in-Some.is at (c.in_ok-bytes.ensures.loads.saved honest)) in
-    let settles = rw c.keys.ensures.lists.same at c.in_err-settle.ensures.settles in
+    let settles = rw (c.look_at_each.ensures.same ∙ c.keys.ensures.lists.same) at c.in_err-settle.ensures.settles in
     let answered = err_from_is_err_and c.from_residual-in_err-settle.result c.from_residual-in_err-settle.ensures.1 in
     ends_so c.from_residual-in_err-settle.result answered.0 _ answered.1 answered.2
     (early (no_keys (g.O.Store.state c.args.old.now) (g.S.StoreSet.state c.args.set.now) c.deref.result.now loaded
     c.in_ok-count.count c.in_ok-count.entries.now c.in_ok-count.ensures.found c.if-count-eq0.false
     c.in_err-settle.field-0.0 (λ e. settles.device (ap Err e)) (λ e. settles.memory (ap Err e)))
-    c.load.ensures.loads.same (c.settle.ensures.settles.same ∙ c.keys.ensures.lists.same))
+    c.load.ensures.loads.same (c.settle.ensures.settles.same ∙ c.look_at_each.ensures.same ∙ c.keys.ensures.lists.same))
 
 pub returns-in_err-written : goal.returns-in_err-written
 returns-in_err-written g c =
@@ -82,19 +98,22 @@ returns-in_err-written g c =
     let after : SavedSet = g.S.StoreSet.state c.move_entries.new.set in
     let loaded = loaded_as (g.O.Store.state c.args.old.now) c.deref.ensures.value
     (λ honest. rw c.in-Some.is at (c.in_ok-bytes.ensures.loads.saved honest)) in
-    let ks : List ℕ = c.deref-3.result.now in
+    let ks : List ℕ = c.deref-4.result.now in
     let known : IsTrue set.is_honest → ks ≡ map_keys set.content = λ honest.
-    all_of_them set.content ks (λ i. rw (c.deref-3.ensures.value ∙ sym c.deref-2.ensures.value) (c.keys_fit.ensures i))
-    (c.deref-3.ensures.value ∙ c.in_ok-keys.ensures.lists.saved honest) in
+    all_of_them set.content ks (λ i. rw (c.deref-4.ensures.value ∙ sym c.deref-3.ensures.value) (c.keys_fit.ensures i))
+    (c.deref-4.ensures.value ∙ c.in_ok-keys.ensures.lists.saved honest) in
     let reads = c.in_ok-count.ensures.found in
+    let looked : LooksAtEach set (map_entries reads.held) (Ok tt) =
+    subst (λ (s : SavedSet). LooksAtEach s (map_entries reads.held) (Ok tt)) c.keys.ensures.lists.same
+    (c.in_ok-look_at_each.ensures.looks (map_entries reads.held) reads.read) in
     let written : WritesAll set (lacking ks (map_entries reads.held)) (Err c.in_err-written.field-0.0) after =
     subst (λ (s : SavedSet). WritesAll s (lacking ks (map_entries reads.held)) (Err c.in_err-written.field-0.0) after)
-    (c.settle.ensures.settles.same ∙ c.keys.ensures.lists.same) (c.in_err-written.ensures (map_entries reads.held) reads.read) in
+    (c.settle.ensures.settles.same ∙ c.look_at_each.ensures.same ∙ c.keys.ensures.lists.same) (c.in_err-written.ensures (map_entries reads.held) reads.read) in
     let answered = err_from_is_err_and c.from_residual-in_err-written.result c.from_residual-in_err-written.ensures.1 in
     ends_so c.from_residual-in_err-written.result answered.0 _ answered.1 answered.2
     (as_it_was c.load.ensures.loads.same
     (not_saved old set c.deref.result.now loaded c.in_ok-count.count c.in_ok-count.entries.now reads
-    c.if-count-eq0.false ks known c.in_err-written.field-0.0 after written))
+    c.if-count-eq0.false ks known looked c.in_err-written.field-0.0 after written))
 
 pub returns-in_err-replace : goal.returns-in_err-replace
 returns-in_err-replace g c =
@@ -103,14 +122,17 @@ returns-in_err-replace g c =
     let after : SavedSet = g.S.StoreSet.state c.move_entries.new.set in
     let loaded = loaded_as (g.O.Store.state c.args.old.now) c.deref.ensures.value
     (λ honest. rw c.in-Some.is at (c.in_ok-bytes.ensures.loads.saved honest)) in
-    let ks : List ℕ = c.deref-3.result.now in
+    let ks : List ℕ = c.deref-4.result.now in
     let known : IsTrue set.is_honest → ks ≡ map_keys set.content = λ honest.
-    all_of_them set.content ks (λ i. rw (c.deref-3.ensures.value ∙ sym c.deref-2.ensures.value) (c.keys_fit.ensures i))
-    (c.deref-3.ensures.value ∙ c.in_ok-keys.ensures.lists.saved honest) in
+    all_of_them set.content ks (λ i. rw (c.deref-4.ensures.value ∙ sym c.deref-3.ensures.value) (c.keys_fit.ensures i))
+    (c.deref-4.ensures.value ∙ c.in_ok-keys.ensures.lists.saved honest) in
     let reads = c.in_ok-count.ensures.found in
+    let looked : LooksAtEach set (map_entries reads.held) (Ok tt) =
+    subst (λ (s : SavedSet). LooksAtEach s (map_entries reads.held) (Ok tt)) c.keys.ensures.lists.same
+    (c.in_ok-look_at_each.ensures.looks (map_entries reads.held) reads.read) in
     let written : WritesAll set (lacking ks (map_entries reads.held)) (Ok c.in_ok-written.written) after =
     subst (λ (s : SavedSet). WritesAll s (lacking ks (map_entries reads.held)) (Ok c.in_ok-written.written) after)
-    (c.settle.ensures.settles.same ∙ c.keys.ensures.lists.same) (c.in_ok-written.ensures (map_entries reads.held) reads.read) in
+    (c.settle.ensures.settles.same ∙ c.look_at_each.ensures.same ∙ c.keys.ensures.lists.same) (c.in_ok-written.ensures (map_entries reads.held) reads.read) in
     let last : Saved = g.O.Store.state c.replace.new.self in
     let replaced : Replaces old no_documents (Err c.in_err-replace.field-0.0) last =
     subst (λ (s : Saved). Replaces s no_documents (Err c.in_err-replace.field-0.0) last) c.load.ensures.loads.same
@@ -118,7 +140,7 @@ returns-in_err-replace g c =
     let answered = err_from_is_err_and c.from_residual-in_err-replace.result c.from_residual-in_err-replace.ensures.1 in
     ends_so c.from_residual-in_err-replace.result answered.0 _ answered.1 answered.2
     (ended old set c.deref.result.now loaded c.in_ok-count.count c.in_ok-count.entries.now reads c.if-count-eq0.false
-    ks known c.in_ok-written.written after written (Err c.in_err-replace.field-0.0) last replaced
+    ks known looked c.in_ok-written.written after written (Err c.in_err-replace.field-0.0) last replaced
     (subst (λ (s : Saved). MayLackMemory s (Err c.in_err-replace.field-0.0)) c.load.ensures.loads.same
     c.in_err-replace.ensures.memory))
 
@@ -129,18 +151,21 @@ returns g c =
     let after : SavedSet = g.S.StoreSet.state c.move_entries.new.set in
     let loaded = loaded_as (g.O.Store.state c.args.old.now) c.deref.ensures.value
     (λ honest. rw c.in-Some.is at (c.in_ok-bytes.ensures.loads.saved honest)) in
-    let ks : List ℕ = c.deref-3.result.now in
+    let ks : List ℕ = c.deref-4.result.now in
     let known : IsTrue set.is_honest → ks ≡ map_keys set.content = λ honest.
-    all_of_them set.content ks (λ i. rw (c.deref-3.ensures.value ∙ sym c.deref-2.ensures.value) (c.keys_fit.ensures i))
-    (c.deref-3.ensures.value ∙ c.in_ok-keys.ensures.lists.saved honest) in
+    all_of_them set.content ks (λ i. rw (c.deref-4.ensures.value ∙ sym c.deref-3.ensures.value) (c.keys_fit.ensures i))
+    (c.deref-4.ensures.value ∙ c.in_ok-keys.ensures.lists.saved honest) in
     let reads = c.in_ok-count.ensures.found in
+    let looked : LooksAtEach set (map_entries reads.held) (Ok tt) =
+    subst (λ (s : SavedSet). LooksAtEach s (map_entries reads.held) (Ok tt)) c.keys.ensures.lists.same
+    (c.in_ok-look_at_each.ensures.looks (map_entries reads.held) reads.read) in
     let written : WritesAll set (lacking ks (map_entries reads.held)) (Ok c.in_ok-written.written) after =
     subst (λ (s : SavedSet). WritesAll s (lacking ks (map_entries reads.held)) (Ok c.in_ok-written.written) after)
-    (c.settle.ensures.settles.same ∙ c.keys.ensures.lists.same) (c.in_ok-written.ensures (map_entries reads.held) reads.read) in
+    (c.settle.ensures.settles.same ∙ c.look_at_each.ensures.same ∙ c.keys.ensures.lists.same) (c.in_ok-written.ensures (map_entries reads.held) reads.read) in
     let last : Saved = g.O.Store.state c.replace.new.self in
     let replaced : Replaces old no_documents (Ok tt) last =
     subst (λ (s : Saved). Replaces s no_documents (Ok tt) last) c.load.ensures.loads.same
     c.in_ok-replace.ensures.replaces in
     ended old set c.deref.result.now loaded c.in_ok-count.count c.in_ok-count.entries.now reads c.if-count-eq0.false
-    ks known c.in_ok-written.written after written (Ok tt) last replaced
+    ks known looked c.in_ok-written.written after written (Ok tt) last replaced
     (subst (λ (s : Saved). MayLackMemory s (Ok tt)) c.load.ensures.loads.same c.in_ok-replace.ensures.memory)
