@@ -1,11 +1,14 @@
 #include "finder.h"
 
 #include "dmtx.h"
+#include "label.h"
+#include "texture.h"
 
 #include <ZXing/ReadBarcode.h>
 
 #include <algorithm>
 #include <cmath>
+#include <set>
 
 namespace {
 
@@ -13,16 +16,10 @@ using namespace std::chrono_literals;
 
 // ZXing has this long for one picture, and libdmtx as long again for what it leaves.
 constexpr auto TIME = 6s;
+// And between them there is this long for symbols that are light on dark.
+constexpr auto TIME_INVERTED = 2s;
 // A picture of more pixels is looked at in half its size.
 constexpr size_t LARGE = 14'000'000;
-// A block of pixels is textured where its darkest and the lightest near it are so far apart.
-constexpr int LEAST_TEXTURE = 30;
-// The smallest symbol that is looked for, in pixels.
-constexpr int LEAST_EXTENT = 24;
-
-struct Box {
-    int x, y, width, height;
-};
 
 Point middle_of(const Corners &corners) {
     return {(corners[0].x + corners[1].x + corners[2].x + corners[3].x) / 4, (corners[0].y + corners[1].y + corners[2].y + corners[3].y) / 4};
@@ -59,8 +56,8 @@ bool is_in(const Corners &corners, double x, double y) {
     return !(left && right);
 }
 
-// Makes a symbol as light as the lightest around it.
-void paint_over(Picture &picture, const Corners &corners) {
+// Makes a symbol as light as the lightest around it. Answers the box in which it is.
+Box paint_over(Picture &picture, const Corners &corners) {
     int left = picture.width, right = 0, top = picture.height, bottom = 0, light = 0;
     for (const Point &corner : corners) {
         const int x = int(std::clamp(corner.x, 0.0, picture.width - 1.0)), y = int(std::clamp(corner.y, 0.0, picture.height - 1.0));
@@ -77,96 +74,8 @@ void paint_over(Picture &picture, const Corners &corners) {
             }
         }
     }
+    return {left, top, right - left + 1, bottom - top + 1};
 }
-
-// ---- Where a picture is as dark and light as a symbol.
-
-class Texture {
-  public:
-    Texture(const Picture &picture, int block) : block(block), across((picture.width + block - 1) / block), down((picture.height + block - 1) / block) {
-        std::vector<uint8_t> darkest(size_t(across) * down, 255), lightest(size_t(across) * down, 0);
-        for (int y = 0; y < picture.height; y++) {
-            const uint8_t *row = picture.row(y);
-            for (int x = 0; x < picture.width; x++) {
-                const size_t at = size_t(y / block) * across + x / block;
-                darkest[at] = std::min(darkest[at], row[x]);
-                lightest[at] = std::max(lightest[at], row[x]);
-            }
-        }
-        textured.resize(darkest.size());
-        for (int at = 0; at < across * down; at++) {
-            int light = 0;
-            for_each_near(at, [&](int near) { light = std::max(light, int(lightest[size_t(near)])); });
-            textured[size_t(at)] = light - darkest[size_t(at)] >= std::max(LEAST_TEXTURE, light / 4);
-        }
-        solid.resize(darkest.size());
-        for (int at = 0; at < across * down; at++) {
-            int near_ones = 0;
-            for_each_near(at, [&](int near) { near_ones += textured[size_t(near)]; });
-            solid[size_t(at)] = near_ones == 9;
-        }
-    }
-
-    // Whether some block in the box and all around it are textured: an edge, or a line of text, is not so wide.
-    bool is_solid(const Box &box) const {
-        for (int y = std::max(0, box.y / block); y < std::min(down, (box.y + box.height) / block); y++) {
-            for (int x = std::max(0, box.x / block); x < std::min(across, (box.x + box.width) / block); x++) {
-                if (solid[size_t(y) * across + x]) {
-                    return true;
-                }
-            }
-        }
-        return false;
-    }
-
-    // Boxes round connected blocks that are textured, if some are solid; the larger ones first.
-    std::vector<Box> boxes() const {
-        std::vector<Box> found;
-        std::vector<bool> unseen = textured;
-        std::vector<int> waiting;
-        for (int start = 0; start < across * down; start++) {
-            if (!unseen[size_t(start)]) {
-                continue;
-            }
-            int left = across, right = 0, top = down, bottom = 0;
-            unseen[size_t(start)] = false;
-            waiting.push_back(start);
-            while (!waiting.empty()) {
-                const int at = waiting.back();
-                waiting.pop_back();
-                left = std::min(left, at % across);
-                right = std::max(right, at % across);
-                top = std::min(top, at / across);
-                bottom = std::max(bottom, at / across);
-                for_each_near(at, [&](int near) {
-                    if (unseen[size_t(near)]) {
-                        unseen[size_t(near)] = false;
-                        waiting.push_back(near);
-                    }
-                });
-            }
-            const Box box = {left * block, top * block, (right - left + 1) * block, (bottom - top + 1) * block};
-            if (std::min(box.width, box.height) >= LEAST_EXTENT && is_solid(box)) {
-                found.push_back(box);
-            }
-        }
-        std::sort(found.begin(), found.end(), [](const Box &a, const Box &b) { return a.width * a.height > b.width * b.height; });
-        return found;
-    }
-
-  private:
-    int block, across, down;
-    std::vector<bool> textured, solid;
-
-    // A block, and the eight around it.
-    template <typename Act> void for_each_near(int at, Act act) const {
-        for (int y = std::max(0, at / across - 1); y <= std::min(down - 1, at / across + 1); y++) {
-            for (int x = std::max(0, at % across - 1); x <= std::min(across - 1, at % across + 1); x++) {
-                act(y * across + x);
-            }
-        }
-    }
-};
 
 // A part of a picture, with a border round the box where the picture has one.
 struct Crop {
@@ -204,20 +113,21 @@ Crop cut_out(const Picture &from, Point middle, double width, double height, dou
 
 class Search {
   public:
-    Search(const Picture &whole, const std::function<void(const Symbol &)> &take)
-        : whole(whole), take(take), scale(whole.grey.size() > LARGE ? 2 : 1), plain(scale == 2 ? halved(whole) : whole), smooth(smoothed(plain)),
-          deadline(Clock::now() + TIME) {}
+    Search(const Picture &whole, int expected, Deadline deadline, const std::function<void(const Symbol &)> &take)
+        : whole(whole), expected(expected), deadline(deadline), take(take), scale(whole.grey.size() > LARGE ? 2 : 1), plain(scale == 2 ? halved(whole) : whole),
+          smooth(smoothed(plain)), relief(smooth) {}
 
     Tally run() {
         for (const int block : {16, 40, 8}) {
             look_at_boxes(block);
         }
+        look_for_inverted();
         look_at_tiles();
         look_by_dmtx();
-        tally.is_late = Clock::now() > deadline;
+        tally.labels = int(read.size());
         for (const Point &at : seen) {
             if (!is_known(at)) {
-                tally.lost.push_back({at.x * scale, at.y * scale});
+                tally.lost.push_back(in_whole(at));
             }
         }
         return tally;
@@ -225,13 +135,35 @@ class Search {
 
   private:
     const Picture &whole;
+    const int expected;
+    Deadline deadline;
     const std::function<void(const Symbol &)> &take;
     const int scale;
     Picture plain, smooth; // each symbol that was found is painted over
-    Deadline deadline;
+    Relief relief;
     Tally tally;
     std::vector<Corners> known;
     std::vector<Point> seen;
+    std::set<Label> read;
+
+    Point in_whole(Point at) const { return {at.x * scale, at.y * scale}; }
+
+    // Whether as many labels were read as are expected.
+    bool has_all() const { return expected > 0 && read.size() >= size_t(expected); }
+
+    // Whether the search has to end though there is more to look at.
+    bool has_to_end() {
+        const bool is_late = !has_all() && Clock::now() > deadline;
+        tally.is_late |= is_late;
+        return is_late || has_all();
+    }
+
+    void make_known(const Corners &corners) {
+        known.push_back(corners);
+        const Corners painted = grown(corners, 1.04);
+        paint_over(plain, painted);
+        relief.look_again(smooth, paint_over(smooth, painted));
+    }
 
     bool is_known(Point at) const {
         return std::any_of(known.begin(), known.end(), [&](const Corners &corners) { return is_in(grown(corners, 1.05), at.x, at.y); });
@@ -244,7 +176,7 @@ class Search {
         }
         Corners wanted = near;
         for (Point &corner : wanted) {
-            corner = {corner.x * scale, corner.y * scale};
+            corner = in_whole(corner);
         }
         Symbol symbol = sample(whole, wanted);
         if (!symbol.looks_right()) {
@@ -257,11 +189,11 @@ class Search {
                 corner = {corner.x / scale, corner.y / scale};
             }
         }
-        known.push_back(symbol.corners);
-        for (Picture *picture : {&plain, &smooth}) {
-            paint_over(*picture, grown(symbol.corners, 1.04));
-        }
+        make_known(symbol.corners);
         tally.found++;
+        if (const auto label = expected > 0 ? label_of(symbol) : std::nullopt) {
+            read.insert(*label);
+        }
         take(symbol);
         return true;
     }
@@ -312,7 +244,7 @@ class Search {
         }
         const double extent = std::max(width, height);
         for (const double degrees : {45.0, 22.5, 67.5, 11.0, 34.0, 56.0, 79.0}) {
-            if (Clock::now() > deadline) {
+            if (has_to_end()) {
                 return false;
             }
             if (look_at(cut_out(smooth, middle, extent, extent, degrees * M_PI / 180, 1), ZXing::Binarizer::LocalAverage)) {
@@ -328,15 +260,15 @@ class Search {
     }
 
     void look_at_boxes(int block) {
-        for (bool more = true; more && Clock::now() < deadline;) {
+        for (bool more = true; more;) {
             more = false;
-            for (const Box &box : Texture(smooth, block).boxes()) {
-                if (Clock::now() > deadline) {
-                    return;
-                }
+            for (const Box &box : Texture(relief, block).boxes()) {
                 const double longer = std::max(box.width, box.height), shorter = std::min(box.width, box.height);
                 if (longer > 2.5 * shorter && shorter < 400) {
                     continue;
+                }
+                if (has_to_end()) {
+                    return;
                 }
                 const double border = 2 * block + longer / 8;
                 const Point middle = {box.x + box.width / 2.0, box.y + box.height / 2.0};
@@ -345,14 +277,31 @@ class Search {
         }
     }
 
+    // Finds symbols that are light on dark: in the negative of what is left they look right.
+    void look_for_inverted() {
+        if (has_all() || Texture(relief, 16).boxes().empty()) {
+            return;
+        }
+        const Deadline begin = Clock::now();
+        const Picture negative = inverted(plain);
+        const std::function<void(const Symbol &)> leave = [](const Symbol &) {};
+        Search search(negative, 0, begin + TIME_INVERTED, leave);
+        search.look_at_boxes(16);
+        for (const Corners &corners : search.known) {
+            make_known(corners);
+            tally.inverted.push_back(in_whole(middle_of(corners)));
+        }
+        deadline += Clock::now() - begin;
+    }
+
     // Looks everywhere, in squares that overlap.
     void look_at_tiles() {
         for (const int tile : {800, 400, 200}) {
-            const Texture texture(smooth, 16);
+            const Texture texture(relief, 16);
             for (int y = 0; y < smooth.height; y += tile / 2) {
                 for (int x = 0; x < smooth.width; x += tile / 2) {
                     for (bool more = texture.is_solid({x, y, tile / 2, tile / 2}); more;) {
-                        if (Clock::now() > deadline) {
+                        if (has_to_end()) {
                             return;
                         }
                         more = look_round({x + tile / 4.0, y + tile / 4.0}, tile, tile, false);
@@ -364,15 +313,18 @@ class Search {
 
     // Has libdmtx look at what is left and may be a symbol.
     void look_by_dmtx() {
-        const Deadline end = Clock::now() + TIME;
-        for (const Box &box : Texture(smooth, 16).boxes()) {
+        deadline = Clock::now() + TIME;
+        for (const Box &box : Texture(relief, 16).boxes()) {
             const double border = 24, longer = std::max(box.width, box.height);
             if (longer > 2.5 * std::min(box.width, box.height) && longer < 400) {
                 continue;
             }
+            if (has_to_end()) {
+                return;
+            }
             const Point middle = {box.x + box.width / 2.0, box.y + box.height / 2.0};
             const Crop crop = cut_out(smooth, middle, box.width + border, box.height + border, 0, 1);
-            for (Corners corners : corners_by_dmtx(crop.picture, std::min(end, Clock::now() + 2s))) {
+            for (Corners corners : corners_by_dmtx(crop.picture, std::min(deadline, Clock::now() + 2s))) {
                 for (Point &corner : corners) {
                     corner = crop.back(corner);
                 }
@@ -386,6 +338,6 @@ class Search {
 
 } // namespace
 
-Tally find_symbols(const Picture &picture, const std::function<void(const Symbol &)> &take) {
-    return Search(picture, take).run();
+Tally find_symbols(const Picture &picture, int expected, const std::function<void(const Symbol &)> &take) {
+    return Search(picture, expected, Clock::now() + TIME, take).run();
 }

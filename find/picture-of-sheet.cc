@@ -19,7 +19,8 @@ namespace {
 struct Quality {
     char name;
     double pixels;      // for each module
-    double degrees;     // turned by so many at most
+    double least_turn;  // in degrees, to either side
+    double most_turn;
     double perspective; // the part of the width by which each corner is moved at most
     double blur;        // the standard deviation, in pixels
     double noise;       // the standard deviation, of 255
@@ -31,14 +32,15 @@ struct Quality {
 };
 
 constexpr Quality QUALITIES[] = {
-    {'A', 6, 0, 0, 0, 0, 1, 1, 0, true, false},
-    {'B', 6, 3, 0, 0.8, 6, 0.8, 1, 0, true, false},
-    {'C', 4, 3, 0, 0.8, 6, 0.8, 1, 0, true, false},
-    {'D', 6, 10, 0.02, 1, 0, 1, 0.6, 85, false, false},
-    {'E', 5, 10, 0.06, 1.5, 10, 1, 0.4, 60, false, false},
-    {'F', 5, 30, 0.12, 2, 14, 1, 1, 40, false, false},
-    {'G', 6, 180, 0, 0.8, 4, 1, 1, 0, false, false},
-    {'H', 8, 10, 0.04, 1.5, 8, 1, 1, 75, false, true},
+    {'A', 6, 0, 0, 0, 0, 0, 1, 1, 0, true, false},
+    {'B', 6, 0, 3, 0, 0.8, 6, 0.8, 1, 0, true, false},
+    {'C', 4, 0, 3, 0, 0.8, 6, 0.8, 1, 0, true, false},
+    {'D', 6, 0, 10, 0.02, 1, 0, 1, 0.6, 85, false, false},
+    {'E', 5, 0, 10, 0.06, 1.5, 10, 1, 0.4, 60, false, false},
+    {'F', 5, 0, 30, 0.12, 2, 14, 1, 1, 40, false, false},
+    {'G', 6, 0, 180, 0, 0.8, 4, 1, 1, 0, false, false},
+    {'H', 8, 0, 10, 0.04, 1.5, 8, 1, 1, 75, false, true},
+    {'I', 6, 8, 8, 0, 1, 6, 1, 1, 60, true, true},
 };
 
 struct Point {
@@ -164,7 +166,8 @@ double between(std::mt19937 &chance, double low, double high) {
 }
 
 Picture taken(const Paper &paper, const Quality &quality, std::mt19937 &chance) {
-    const double turn = between(chance, -quality.degrees, quality.degrees) * M_PI / 180, width = paper.width * quality.pixels, height = paper.height * quality.pixels;
+    const double chosen = between(chance, -quality.most_turn, quality.most_turn);
+    const double turn = std::copysign(std::max(std::abs(chosen), quality.least_turn), chosen) * M_PI / 180, width = paper.width * quality.pixels, height = paper.height * quality.pixels;
     std::array<Point, 4> corners = {{{-width / 2, -height / 2}, {width / 2, -height / 2}, {width / 2, height / 2}, {-width / 2, height / 2}}};
     double left = 0, top = 0, right = 0, bottom = 0;
     for (Point &corner : corners) {
@@ -175,7 +178,7 @@ Picture taken(const Paper &paper, const Quality &quality, std::mt19937 &chance) 
         right = std::max(right, corner.x);
         bottom = std::max(bottom, corner.y);
     }
-    const double border = quality.is_page ? 0 : 20;
+    const double border = quality.is_page && !quality.is_on_table ? 0 : 20;
     for (Point &corner : corners) {
         corner = {corner.x - left + border, corner.y - top + border};
     }
@@ -212,7 +215,7 @@ int main(int count, char **words) {
         labels.push_back(label);
     }
     if (!quality || labels.empty()) {
-        fputs("usage: picture-of-sheet QUALITY SEED < LABELS > PICTURE, with a quality of A to H\n", stderr);
+        fputs("usage: picture-of-sheet QUALITY SEED < LABELS > PICTURE, with a quality of A to I\n", stderr);
         return 2;
     }
     std::mt19937 chance{unsigned(atoi(words[2]))};

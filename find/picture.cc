@@ -311,3 +311,11 @@ Picture halved(const Picture &picture) {
     }
     return made;
 }
+
+Picture inverted(const Picture &picture) {
+    Picture made = picture;
+    for (uint8_t &grey : made.grey) {
+        grey = uint8_t(255 - grey);
+    }
+    return made;
+}

@@ -35,3 +35,6 @@ Picture smoothed(const Picture &picture);
 
 // A picture of half the width and height, each pixel the mean of four.
 Picture halved(const Picture &picture);
+
+// Light where a picture is dark.
+Picture inverted(const Picture &picture);
