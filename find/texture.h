@@ -39,7 +39,7 @@ class Relief {
     // The slopes of a block of so many pixels each way, a multiple of BLOCK, which the picture may cut.
     Slopes of_block(int x, int y, int extent) const;
 
-    int width, height;
+    const int width, height;
 
   private:
     int across, down;
