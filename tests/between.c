@@ -9,7 +9,6 @@
    BETWEEN_LINKS  if it is `no`, the file system has no second names */
 #define _GNU_SOURCE
 #include <dirent.h>
-#include <dirent.h>
 #include <dlfcn.h>
 #include <errno.h>
 #include <fcntl.h>
