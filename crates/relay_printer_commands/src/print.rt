@@ -7,7 +7,7 @@ ghost use Rattle.relay_streams.specs.Streams.{TakesPart};
 ghost use Rattle.relay_printer_commands.specs.Printers.{EndsPrint, HasSide, IsChosen, LosesImages, Suits, TellsPrint, images_of, ledger_at};
 ghost use Rattle.relay_shared.specs.Command.{ReadsNothing};
 
-use crate::ledger::open_printer;
+use crate::ledger::{end_of, open_printer};
 use crate::lines::put_printed;
 use dm_encodation::Scheme;
 use dm_pbm_io::image_of;
@@ -126,13 +126,9 @@ pub fn print_command<A: Allocator + Copy, S: Store, R: Read, W: Write, E: Write>
         return Ended { status, store };
     };
     // What is loaded decides over no label before the next ledger is saved; a refusal that rests on it costs nothing.
-    let store = Unsettled(store);
-    let mut printer = match open_printer(alloc, store, &mut streams.errors, number) {
+    let mut printer = match open_printer(alloc, Unsettled(store), &mut streams.errors, number) {
         Ok(printer) => printer,
-        Err(Ended { status, store }) => {
-            let Unsettled(store) = store;
-            return Ended { status, store };
-        }
+        Err(ended) => return end_of(ended),
     };
     let answer = printer.print(&document, size, scheme);
     let status = tell_print(alloc, streams, answer, printer.left());
