@@ -1,5 +1,5 @@
 -- What the commands of desks do to files and streams, and the lines that they write, which are this project's own.
-use Rattle.std.specs.Prelude.{ℕ, List, [], ◌∷◌, ◌++◌, codes, zero, suc, take, ◌+◌, ◌^◌, ◌==◌, Bool, if◌then◌else◌, ◌≡◌, ◌<◌, Option, None, IfSome, Result, Ok, Err, MatchResult, true, false, ◌≤◌, ◌⊎◌, ◌||◌, Some, is_err, IsOk, IsTrue, IsSomeAnd, IsSome, IfOk, All, filter, is_some, length, nat_lt, map as each}
+use Rattle.std.specs.Prelude.{ℕ, List, [], ◌∷◌, ◌++◌, codes, zero, suc, take, ◌+◌, ◌^◌, ◌==◌, Bool, if◌then◌else◌, ◌≡◌, ◌<◌, Option, None, IfSome, Result, Ok, Err, MatchResult, true, false, ◌⊎◌, ◌||◌, Some, is_err, IsOk, IsTrue, IsSomeAnd, IsSome, IfOk, All, filter, is_some, length, nat_lt, map as each}
 use Rattle.std.specs.{Fmt.decimal, List.list_all}
 use Rattle.dm_assembly_desk.specs.Documents.{names, Documents, DeskView, KeepsPages, DeskIsInOrder, Pages, summaries, summary, count_at, page_at}
 use Rattle.dm_assembly_desk.specs.declared.{reply.Held.Held, limits.TheConstants.MOST_CAPACITY, reply.Accepted.Accepted, reply.Imported.Imported}
@@ -11,7 +11,7 @@ use Rattle.dm_append_label.specs.Labels.{id_words, PageView, Carries, Fits, IsTo
 use Rattle.dm_append_label.specs.{Opening.OpensAs, declared.fault.LabelFault.LabelFault, declared.opening.Opened.Opened}
 use Rattle.dm_assembly_desk.specs.Desk.{Asks, Exports, Forgets, ImportsBytes, AcceptsGrid, kind_name, ask_fault_name, desk_fault_name, export_fault_name, forget_fault_name, import_fault_name, move_fault_name, scan_fault_name, move_fault_of, Moves, HasDeskFault, DeskOpens, HasJointFileFault, HoldsJointFile, SeesKey}
 use Rattle.dm_assembly_desk.specs.declared.fault.{DeskFault.DeskFault, ImportFault.ImportFault, MoveFault.MoveFault, ScanFault.ScanFault}
-use Rattle.relay_streams.specs.Streams.{input_fault_name, OutputView, ReadsFirst, refused_line, AppendsPart}
+use Rattle.relay_streams.specs.Streams.{input_fault_name, OutputView, ReadsFirst, refused_line}
 use Rattle.relay_streams.specs.declared.fault.InputFault.{InputFault}
 use Rattle.relay_desk_commands.specs.declared.documents.Given.{Given, TheVariants.Document, TheVariants.File}
 use Rattle.relay_desk_commands.specs.declared.{import.TheConstants.IMPORT_BYTES, copy.CopyOptions.CopyOptions, all_documents.GivenAll.GivenAll}
@@ -380,26 +380,21 @@ pub data Says (set : SavedSet) (joint : SeenJoint) : Option ℕ → List ℕ →
   no_keys : (why : StoreFault) → ListsKeys (λ (keys : List ℕ). keys) set 65536 (Err why) set
       → Says set joint None (refused_line (move_fault_name (move_fault_of why))) 1
 
--- this was written; or the output failed in the list of all documents, and a part of its first lines is out
-pub data TellsHeld (set : SavedSet) (joint : SeenJoint) (old : OutputView) (status : ℕ) (new : OutputView)
-    : Option ℕ → Type 0 where
-  whole : {id : Option ℕ} (text : List ℕ) (wanted : ℕ) → Says set joint id text wanted → Tells text wanted old status new
-      → TellsHeld set joint old status new id
-  cut_off : {number : ℕ} {text : List ℕ} {unsound : Bool} → Lists set joint number text unsound → number ≤ 65536
-      → new.has_failed ≡ true → AppendsPart old.contents new.contents text → status ≡ 1
-      → TellsHeld set joint old status new None
-
--- and what was seen was settled; or, though all was well, it could not be, and the line of that refusal follows
-abbrev pub TellsSettled : SavedSet → SeenJoint → OutputView → ℕ → OutputView → Option ℕ → Type 0
-TellsSettled set joint old status new id = TellsHeld set joint old status new id
-    ⊎ ((mid : OutputView) × (why : StoreFault) × TellsHeld set joint old 0 mid id × Settles set (Err why) set
-    × TellsRefusal (move_fault_name (move_fault_of why)) mid status new)
+-- What was seen was settled, and this was written. Or it could not be settled, or memory was refused for the text: then
+-- the line of that refusal alone was.
+pub data TellsHeld (set : SavedSet) (joint : SeenJoint) (id : Option ℕ) (old : OutputView) (status : ℕ) (new : OutputView)
+    : Type 0 where
+  told : (text : List ℕ) (wanted : ℕ) → Says set joint id text wanted → Tells text wanted old status new
+      → TellsHeld set joint id old status new
+  unsettled : (why : StoreFault) → Settles set (Err why) set
+      → TellsRefusal (move_fault_name (move_fault_of why)) old status new → TellsHeld set joint id old status new
+  no_memory : TellsRefusal (refusal_name refusals.Memory) old status new → TellsHeld set joint id old status new
 
 -- how `held` ends for an ID, or for all: it changes no file, and no other stream
 pub record EndsHeldOf (id : Option ℕ) (old : OnDesk) (status : ℕ) (new : OnDesk) : Type 0 where
   pub joint : SeenJoint
   pub sees : SeesJoint old.files.joint joint
-  pub told : TellsSettled old.files.set joint old.streams.output status new.streams.output id
+  pub told : TellsHeld old.files.set joint id old.streams.output status new.streams.output
   pub only : OnlyOutput old.streams new.streams
   pub same : new.files ≡ old.files
 

@@ -8,6 +8,7 @@ ghost use Rattle.relay_desk_commands.specs.Desks.{EndsOpening, GivesAll, HasNoDe
 
 use crate::desk_opening::{OpenDesk, Unopened, open_desk, settled_desk};
 use crate::documents::Given;
+use crate::settling::Settled;
 use dm_append_label::FileId;
 use dm_assembly_desk::{AskFault, Desk, DeskFault, MOST_CAPACITY};
 use dm_store::{Store, StoreSet};
@@ -81,6 +82,7 @@ fn given_of<T: StoreSet, A: Allocator + Copy>(
 // What is given of all documents of an open desk.
 fn given_of_each<T: StoreSet, A: Allocator + Copy>(
     alloc: A,
+    _settled: &Settled,
     desk: &Desk<T, A>,
     given: Given,
 ) -> Result<GivenAll<A>, AllocError>
@@ -126,11 +128,11 @@ pub fn give_all<A: Allocator + Copy, S: Store, T: StoreSet>(
             };
         }
     };
-    let answer = match given_of_each(alloc, &opened.desk, given) {
+    let answer = match given_of_each(alloc, &opened.settled, &opened.desk, given) {
         Ok(all) => Ok(all),
         Err(AllocError) => Err(DeskFault::Memory.name()),
     };
-    let OpenDesk { store, desk } = opened;
+    let OpenDesk { store, desk, .. } = opened;
     let set = desk.close();
     EndedAll { answer, store, set }
 }

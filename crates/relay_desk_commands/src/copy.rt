@@ -7,7 +7,8 @@ ghost use Rattle.dm_assembly_desk.specs.Documents.{Documents, count_at, lent_byt
 ghost use Rattle.dm_pbm_io.specs.Image.{picture, written};
 ghost use Rattle.relay_desk_commands.specs.Desks.{EndsCopy, GivesCopy, desk_at};
 
-use crate::desk_opening::{id_of, open_desk};
+use crate::desk_opening::{OpenDesk, id_of, open_desk};
+use crate::settling::Settled;
 use dm_append_label::{FileId, Page, SealFault, seal};
 use dm_assembly_desk::{Desk, MOST_CAPACITY, Pages};
 use dm_encodation::{Scheme, need};
@@ -77,6 +78,7 @@ fn image_of_label<A: Allocator + Copy>(
 // The image of the label of page m of a document; or why there is none, by name.
 fn copy_of<A: Allocator + Copy, T: StoreSet>(
     alloc: A,
+    _settled: &Settled,
     desk: &Desk<T, A>,
     id: FileId,
     m: u16,
@@ -128,7 +130,8 @@ pub fn copy_command<A: Allocator + Copy, S: Store, T: StoreSet, R: Read, W: Writ
         Ok(opened) => opened,
         Err(ended) => return ended,
     };
-    let status = match copy_of(alloc, &opened.desk, id, options.page, size, options.scheme) {
+    let OpenDesk { desk, settled, .. } = &opened;
+    let status = match copy_of(alloc, settled, desk, id, options.page, size, options.scheme) {
         Ok(image) => {
             let put = image.write(&mut streams.output);
             status_after_bytes(&mut streams.errors, put)

@@ -3,8 +3,9 @@
 ghost use Rattle.std.specs.Prelude.{MatchOption, ◌≡◌, ℕ, List, MatchResult};
 ghost use Rattle.relay_desk_commands.specs.Desks.{IsTextOfId, HasNoDesk, OpensDesk};
 ghost use Rattle.dm_assembly_desk.specs.Documents.{DeskIsInOrder};
-ghost use Rattle.relay_shared.specs.Command.{TellsRefusal};
+ghost use Rattle.relay_shared.specs.{Command.TellsRefusal, Files.DeskFiles};
 
+use crate::settling::{Settled, settle_desk};
 use dm_append_label::FileId;
 use dm_assembly_desk::{Desk, MoveFault, move_pages};
 use dm_store::{Store, StoreSet};
@@ -23,13 +24,45 @@ pub(crate) fn id_of(text: &str) -> Option<FileId>
 }
 
 /// An open desk, and the store of the joint file of an older version, whose documents were moved to the desk's set.
+/// What was found is settled, or, if it has `()` for that, not yet.
 #[derive(Drop)]
-pub(crate) struct OpenDesk<S: Store, T: StoreSet, A: Allocator + Copy> {
+pub(crate) struct OpenDesk<S: Store, T: StoreSet, A: Allocator + Copy, K: Drop = Settled> {
     pub(crate) store: S,
     pub(crate) desk: Desk<T, A>,
+    pub(crate) settled: K,
 }
 
-impl<S: Store, T: StoreSet, A: Allocator + Copy> OpenDesk<S, T, A> {
+impl<S: Store, T: StoreSet, A: Allocator + Copy> OpenDesk<S, T, A, ()> {
+    /// Settles what was found when the desk was opened; or there is no desk, and why.
+    pub(crate) fn settle(self) -> Result<OpenDesk<S, T, A>, Unopened<S, T>>
+        ensures { MatchResult result
+            (λ opened. (S.state opened.store ≡ S.state self.store) × (opened.desk ≡ self.desk))
+            (λ unopened. (before : DeskFiles) (capacity : ℕ)
+            → OpensDesk before capacity (S.state self.store) self.desk
+            → HasNoDesk before capacity unopened.name.now
+            (record { joint = S.state unopened.store; set = T.state unopened.set })) }
+    {
+        let OpenDesk {
+            store,
+            mut desk,
+            settled: (),
+        } = self;
+        match settle_desk(&mut desk) {
+            Ok(settled) => Ok(OpenDesk {
+                store,
+                desk,
+                settled,
+            }),
+            Err(fault) => {
+                let name = MoveFault::from(fault).name();
+                let set = desk.close();
+                Err(Unopened { name, store, set })
+            }
+        }
+    }
+}
+
+impl<S: Store, T: StoreSet, A: Allocator + Copy, K: Drop> OpenDesk<S, T, A, K> {
     /// Closes the desk, and ends the command with this status.
     pub(crate) fn end(self, status: u8) -> EndedDesk<S, T>
         ensures status { result.status ≡ status }
@@ -53,8 +86,8 @@ pub(crate) struct Unopened<S: Store, T: StoreSet> {
 }
 
 impl<S: Store, T: StoreSet> Unopened<S, T> {
-    // Writes the line `refused NAME`, and says how the command ends.
-    fn refuse<W: Write>(self, output: &mut Output<W>) -> EndedDesk<S, T>
+    /// Writes the line `refused NAME`, and says how the command ends.
+    pub(crate) fn refuse<W: Write>(self, output: &mut Output<W>) -> EndedDesk<S, T>
         ensures told { TellsRefusal self.name.now output.old result.status output.new }
         ensures store { S.state result.store ≡ S.state self.store }
         ensures set { T.state result.set ≡ T.state self.set }
@@ -78,18 +111,9 @@ pub(crate) fn settled_desk<A: Allocator + Copy, S: Store, T: StoreSet>(
         (λ unopened. HasNoDesk (record { joint = S.state store; set = T.state set }) capacity unopened.name.now
         (record { joint = S.state unopened.store; set = T.state unopened.set })) }
 {
-    let mut opened = match unsettled_desk(alloc, store, set, capacity) {
-        Ok(opened) => opened,
-        Err(unopened) => return Err(unopened),
-    };
-    match opened.desk.settle() {
-        Ok(()) => Ok(opened),
-        Err(fault) => {
-            let name = MoveFault::from(fault).name();
-            let OpenDesk { store, desk } = opened;
-            let set = desk.close();
-            Err(Unopened { name, store, set })
-        }
+    match unsettled_desk(alloc, store, set, capacity) {
+        Ok(opened) => opened.settle(),
+        Err(unopened) => Err(unopened),
     }
 }
 
@@ -99,7 +123,7 @@ fn unsettled_desk<A: Allocator + Copy, S: Store, T: StoreSet>(
     store: S,
     set: T,
     capacity: u16,
-) -> Result<OpenDesk<S, T, A>, Unopened<S, T>>
+) -> Result<OpenDesk<S, T, A, ()>, Unopened<S, T>>
     ensures { MatchResult result
         (λ opened. OpensDesk (record { joint = S.state store; set = T.state set }) capacity (S.state opened.store)
         opened.desk × DeskIsInOrder opened.desk)
@@ -116,7 +140,11 @@ fn unsettled_desk<A: Allocator + Copy, S: Store, T: StoreSet>(
         }
     }
     match Desk::open_unsettled(alloc, set, capacity) {
-        Ok(desk) => Ok(OpenDesk { store, desk }),
+        Ok(desk) => Ok(OpenDesk {
+            store,
+            desk,
+            settled: (),
+        }),
         Err(refused) => {
             let name = refused.fault.name();
             let set = refused.store;
@@ -154,7 +182,7 @@ pub(crate) fn open_unsettled<A: Allocator + Copy, S: Store, T: StoreSet, W: Writ
     set: T,
     output: &mut Output<W>,
     capacity: u16,
-) -> Result<OpenDesk<S, T, A>, EndedDesk<S, T>>
+) -> Result<OpenDesk<S, T, A, ()>, EndedDesk<S, T>>
     ensures { MatchResult result
         (λ opened. OpensDesk (record { joint = S.state store; set = T.state set }) capacity (S.state opened.store)
         opened.desk × (output.new ≡ output.old) × DeskIsInOrder opened.desk)

@@ -1,15 +1,19 @@
 //! The commands of one document of a desk, named by its ID: `relay deliver` gives it back, `relay export`
 //! gives the pages that are held of it, for another desk, and `relay forget` lets it go.
 
-ghost use Rattle.std.specs.Prelude.{MatchResult, Ok, Err};
-ghost use Rattle.relay_desk_commands.specs.Desks.{EndsDeliver, EndsExport, EndsForget, EndsGiving, Yields, desk_at};
+ghost use Rattle.std.specs.Prelude.{◌≡◌, ◌⊎◌, ℕ, List, MatchResult, Ok, Err};
+ghost use Rattle.dm_assembly_desk.specs.Desk.{forget_fault_name};
+ghost use Rattle.relay_shared.specs.{Command.TellsRefusal, Files.DeskFiles};
+ghost use Rattle.relay_desk_commands.specs.Desks.{EndsDeliver, EndsExport, EndsForget, EndsGiving, HasNoDesk, OpensDesk, Yields, desk_at};
 
-use crate::desk_opening::{id_of, open_desk};
+use crate::desk_opening::{OpenDesk, id_of, open_desk, open_unsettled};
 use crate::lines::put_forgotten;
+use crate::settling::Settled;
 use dm_append_label::FileId;
-use dm_assembly_desk::{AskFault, Desk, ExportFault, MOST_CAPACITY};
+use dm_assembly_desk::{AskFault, Desk, ExportFault, ForgetFault, MOST_CAPACITY};
 use dm_store::{Store, StoreSet};
 use relay_shared::{EndedDesk, Refusal, Streams, refuse, status_after, status_after_bytes};
+use relay_streams::Output;
 use std::alloc::Allocator;
 use std::io::{Read, Write};
 
@@ -23,6 +27,7 @@ pub enum Given {
 }
 
 fn bytes_of<A: Allocator + Copy, T: StoreSet>(
+    _settled: &Settled,
     desk: &Desk<T, A>,
     id: FileId,
     given: Given,
@@ -56,7 +61,7 @@ fn give_out<A: Allocator + Copy, S: Store, T: StoreSet, R: Read, W: Write, E: Wr
         Ok(opened) => opened,
         Err(ended) => return ended,
     };
-    let status = match bytes_of(&opened.desk, id, given) {
+    let status = match bytes_of(&opened.settled, &opened.desk, id, given) {
         Ok(bytes) => {
             let put = streams.output.put(&bytes);
             status_after_bytes(&mut streams.errors, put)
@@ -96,6 +101,27 @@ pub fn export_command<A: Allocator + Copy, S: Store, T: StoreSet, R: Read, W: Wr
     give_out(alloc, store, set, streams, text, Given::File)
 }
 
+// Says that no page of a document is held, once what was found is settled; or why that can't be. A document that was held
+// is forgotten by a save of its own, so its desk needs no settling.
+fn refuse_not_held<A: Allocator + Copy, S: Store, T: StoreSet, W: Write>(
+    opened: OpenDesk<S, T, A, ()>,
+    output: &mut Output<W>,
+) -> EndedDesk<S, T>
+    ensures { ((S.state result.store ≡ S.state opened.store) × (T.state result.set ≡ opened.desk.saved)
+        × TellsRefusal (forget_fault_name ForgetFault.NotHeld) output.old result.status output.new)
+        ⊎ ((name : List ℕ) × TellsRefusal name output.old result.status output.new
+        × ((before : DeskFiles) (capacity : ℕ) → OpensDesk before capacity (S.state opened.store) opened.desk
+        → HasNoDesk before capacity name (record { joint = S.state result.store; set = T.state result.set }))) }
+{
+    match opened.settle() {
+        Ok(opened) => {
+            let status = refuse(output, ForgetFault::NotHeld.name());
+            opened.end(status)
+        }
+        Err(unopened) => unopened.refuse(output),
+    }
+}
+
 /// Lets a document go, and prints `forgotten IIII`, its ID, or the line `refused NAME`. The text, as for
 /// `deliver`, is looked at before the files.
 pub fn forget_command<A: Allocator + Copy, S: Store, T: StoreSet, R: Read, W: Write, E: Write>(
@@ -112,12 +138,13 @@ pub fn forget_command<A: Allocator + Copy, S: Store, T: StoreSet, R: Read, W: Wr
         let status = refuse(&mut streams.output, Refusal::FileId.name());
         return EndedDesk { status, store, set };
     };
-    let mut opened = match open_desk(alloc, store, set, &mut streams.output, MOST_CAPACITY) {
+    let mut opened = match open_unsettled(alloc, store, set, &mut streams.output, MOST_CAPACITY) {
         Ok(opened) => opened,
         Err(ended) => return ended,
     };
     let status = match opened.desk.forget(id) {
         Ok(()) => status_after(put_forgotten(&mut streams.output, id)),
+        Err(ForgetFault::NotHeld) => return refuse_not_held(opened, &mut streams.output),
         Err(fault) => refuse(&mut streams.output, fault.name()),
     };
     opened.end(status)

@@ -1,16 +1,18 @@
 //! `relay held`: what the files of a desk hold, told without a desk.
 
-ghost use Rattle.std.specs.Prelude.{◌≡◌, ◌+◌, ◌++◌, ◌<◌, ◌≤◌, false, Option, None, Some, IfOk, IfSome, IsTrue, List, ℕ};
+ghost use Rattle.std.specs.Prelude.{◌≡◌, ◌+◌, ◌++◌, ◌<◌, ◌≤◌, [], false, Option, None, Some, IfOk, IfSome, IsTrue, List, ℕ};
 ghost use Rattle.std.specs.FinMap as map;
 ghost use Rattle.std.specs.Option.{option_copied};
-ghost use Rattle.dm_store.specs.Saved.{Loads, Saved};
+ghost use Rattle.dm_store.specs.Saved.{Loads, Saved, SavedSet};
 ghost use Rattle.dm_assembly_desk.specs.Desk.{IsFirstFrom};
 ghost use Rattle.relay_streams.specs.Streams.{OutputView};
 ghost use Rattle.relay_shared.specs.Command.{PutsText};
-ghost use Rattle.relay_desk_commands.specs.Desks.{desk_at, EndsHeld, SeenJoint, SeesJoint, SeesNumber, TellsHeld, TellsSettled, documents_in, joint_line, seen_line};
+ghost use Rattle.relay_desk_commands.specs.Desks.{desk_at, EndsHeld, EndsHeldOf, SeenJoint, SeesJoint, SeesNumber, TellsHeld, documents_in, joint_line, seen_line};
+ghost use Rattle.relay_desk_commands.specs.inner.Gathered.{GathersHeld};
 
 use crate::desk_opening::id_of;
 use crate::lines::{put_held, put_unsound, put_unsound_joint};
+use crate::settling::{Settled, settle_set};
 use dm_append_label::FileId;
 use dm_assembly_desk::{
     AskFault, DeskFault, Held, JointFile, MOST_JOINT_FILE_BYTES, MoveFault, held_at, is_listed,
@@ -122,7 +124,7 @@ fn put_joint<W: Write>(output: &mut Output<W>, joint: &SeenJoint<'_>) -> Result<
 // Tells of each number, as they rise, until the output has refused a line.
 fn tell_all<T: StoreSet, W: Write>(set: &mut T, output: &mut Output<W>, joint: &SeenJoint<'_>) -> u8
     ensures same { T.state set.new ≡ T.state set.old }
-    ensures tells { TellsHeld (T.state set.old) joint.now output.old result output.new None }
+    ensures tells { GathersHeld (T.state set.old) joint.now output.old result output.new None }
 {
     let keys = match set.keys(65_536) {
         Ok(keys) => keys,
@@ -152,7 +154,7 @@ fn tell<T: StoreSet, W: Write>(
     id: Option<FileId>,
 ) -> u8
     ensures same { T.state set.new ≡ T.state set.old }
-    ensures tells { TellsHeld (T.state set.old) joint.now output.old result output.new id }
+    ensures tells { GathersHeld (T.state set.old) joint.now output.old result output.new id }
 {
     let Some(id) = id else {
         return tell_all(set, output, joint);
@@ -175,21 +177,47 @@ fn tell<T: StoreSet, W: Write>(
     }
 }
 
-// Settles what was seen, once after all files. If that fails, and all else was well, the last line is a refusal.
-fn settle_seen<T: StoreSet, W: Write>(set: &mut T, output: &mut Output<W>, status: u8) -> u8
-    ensures same { T.state set.new ≡ T.state set.old }
-    ensures tells { (joint : SeenJoint) (id : Option ℕ) (before : OutputView)
-        → TellsHeld (T.state set.old) joint before status output.old id
-        → TellsSettled (T.state set.old) joint before result output.new id }
+// Writes what was gathered of files that are settled now; or that memory was refused for it.
+fn put_gathered<A: Allocator, W: Write>(
+    _settled: &Settled,
+    output: &mut Output<W>,
+    gathered: Output<Vec<u8, A>>,
+    status: u8,
+) -> u8
+    ensures { (set : SavedSet) (joint : SeenJoint) (id : Option ℕ) (empty : OutputView) → empty.contents ≡ Some []
+        → GathersHeld set joint empty status gathered id → TellsHeld set joint id output.old result output.new }
 {
-    let settled = set.settle();
-    if status != 0 {
-        return status;
+    if gathered.has_failed() {
+        return refuse(output, Refusal::Memory.name());
     }
-    match settled {
+    match output.put(gathered.into_writer().as_slice()) {
         Ok(()) => status,
-        Err(fault) => refuse(output, MoveFault::from(fault).name()),
+        Err(_) => 1,
     }
+}
+
+// Tells of the document of an ID, or of all, once what was seen is settled.
+fn held_of<A: Allocator + Copy, S: Store, T: StoreSet, R: Read, W: Write, E: Write>(
+    alloc: A,
+    store: S,
+    set: T,
+    streams: &mut Streams<R, W, E>,
+    id: Option<FileId>,
+) -> EndedDesk<S, T>
+    ensures { EndsHeldOf id (desk_at (S.state store) (T.state set) streams.old) result.status
+        (desk_at (S.state result.store) (T.state result.set) streams.new) }
+{
+    let mut store = store;
+    let mut set = set;
+    let loaded = store.load(MOST_JOINT_FILE_BYTES);
+    let joint = joint_in(&loaded);
+    let mut gathered = Output::new(Vec::new(alloc));
+    let status = tell(&mut set, &mut gathered, &joint, id);
+    let status = match settle_set(&mut set) {
+        Ok(settled) => put_gathered(&settled, &mut streams.output, gathered, status),
+        Err(fault) => refuse(&mut streams.output, MoveFault::from(fault).name()),
+    };
+    EndedDesk { status, store, set }
 }
 
 /// Prints a line for each document of which a page is held, by rising ID: `IIII n complete`, or
@@ -197,9 +225,11 @@ fn settle_seen<T: StoreSet, W: Write>(set: &mut T, output: &mut Output<W>, statu
 /// ID, as for `deliver`, it prints that line alone, or `refused NotHeld`.
 ///
 /// In place of a file that can't be read stands `file FILE NAME` (`joint`, of an older version, comes first), and the
-/// others are listed all the same. The exit status is then 1. A last line is a refusal if a stop of the machine may
-/// take back what was seen. No desk is opened, nothing is saved or moved; one document at a time is in memory.
-pub fn held_command<S: Store, T: StoreSet, R: Read, W: Write, E: Write>(
+/// others are listed all the same. The exit status is then 1. Nothing is printed before what was seen is settled: if that
+/// fails, a refusal stands alone. No desk is opened, nothing is saved or moved; beside the lines, one document at a time
+/// is in memory.
+pub fn held_command<A: Allocator + Copy, S: Store, T: StoreSet, R: Read, W: Write, E: Write>(
+    alloc: A,
     store: S,
     set: T,
     streams: &mut Streams<R, W, E>,
@@ -208,21 +238,14 @@ pub fn held_command<S: Store, T: StoreSet, R: Read, W: Write, E: Write>(
     ensures { EndsHeld (option_copied text.entry) (desk_at (S.state store) (T.state set) streams.old) result.status
         (desk_at (S.state result.store) (T.state result.set) streams.new) }
 {
-    let mut store = store;
-    let mut set = set;
-    let id = match text {
-        None => None,
-        Some(text) => match id_of(text) {
-            Some(id) => Some(id),
-            None => {
-                let status = refuse(&mut streams.output, Refusal::FileId.name());
-                return EndedDesk { status, store, set };
-            }
-        },
+    let Some(text) = text else {
+        return held_of(alloc, store, set, streams, None);
     };
-    let loaded = store.load(MOST_JOINT_FILE_BYTES);
-    let joint = joint_in(&loaded);
-    let status = tell(&mut set, &mut streams.output, &joint, id);
-    let status = settle_seen(&mut set, &mut streams.output, status);
-    EndedDesk { status, store, set }
+    match id_of(text) {
+        Some(id) => held_of(alloc, store, set, streams, Some(id)),
+        None => {
+            let status = refuse(&mut streams.output, Refusal::FileId.name());
+            EndedDesk { status, store, set }
+        }
+    }
 }

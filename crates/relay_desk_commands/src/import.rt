@@ -8,6 +8,7 @@ ghost use Rattle.relay_desk_commands.specs.Desks.{EndsImport, ImportsFile, desk_
 
 use crate::desk_opening::{OpenDesk, open_desk};
 use crate::lines::room_text;
+use crate::settling::Settled;
 use dm_assembly_desk::{Desk, ImportFault, Imported};
 use dm_store::{Store, StoreSet};
 use relay_shared::{
@@ -20,9 +21,11 @@ use std::io::{Read, Write};
 /// One byte more than the greatest file of a document.
 pub const IMPORT_BYTES: usize = 41_643;
 
-// Writes the line of a desk's answer. Gives the exit status, and the name of the refusal, if it is one.
+// Writes the line of a desk's answer, which may rest on what was found there. Gives the exit status, and the name of the refusal, if it is one.
 #[rattlefmt::skip] // a pattern a line
-fn tell<W: Write>(output: &mut Output<W>, answer: Result<Imported, ImportFault>) -> (u8, Option<&'static str>)
+fn tell<W: Write>(
+    _settled: &Settled, output: &mut Output<W>, answer: Result<Imported, ImportFault>,
+) -> (u8, Option<&'static str>)
     ensures { TellsAnswer import_line import_fault_name answer output.old result.0 output.new }
 {
     match answer {
@@ -47,7 +50,7 @@ fn why_refused<A: Allocator + Copy, T: StoreSet>(
 // Takes in a file, whose bytes are read into this room, and writes the line of the answer.
 #[rattlefmt::skip] // a signature a line
 fn import_file<A: Allocator + Copy, T: StoreSet, F: NamedFile, W: Write>(
-    alloc: A, desk: &mut Desk<T, A>, file: &F, room: &mut [u8], output: &mut Output<W>,
+    alloc: A, settled: &Settled, desk: &mut Desk<T, A>, file: &F, room: &mut [u8], output: &mut Output<W>,
 ) -> u8
     requires running { desk.old.is_failed ≡ false }
     requires room { length room.old ≡ IMPORT_BYTES }
@@ -60,7 +63,7 @@ fn import_file<A: Allocator + Copy, T: StoreSet, F: NamedFile, W: Write>(
     };
     let mut input = Input::new(reader);
     let (status, refused) = match input.fill(room) {
-        Ok(count) => tell(output, desk.import(&room[..count])),
+        Ok(count) => tell(settled, output, desk.import(&room[..count])),
         Err(fault) => (refuse(output, fault.name()), Some(fault.name())),
     };
     let why = match refused {
@@ -86,11 +89,11 @@ fn import_input<A: Allocator + Copy, S: Store, T: StoreSet, R: Read, W: Write, E
         Err(fault) => return EndedDesk { status: refuse(&mut streams.output, fault.name()), store, set },
     };
     let output = &mut streams.output;
-    let OpenDesk { store, mut desk } = match open_desk(alloc, store, set, output, capacity) {
+    let OpenDesk { store, mut desk, settled } = match open_desk(alloc, store, set, output, capacity) {
         Ok(opened) => opened,
         Err(ended) => return ended,
     };
-    EndedDesk { status: tell(output, desk.import(&bytes)).0, store, set: desk.close() }
+    EndedDesk { status: tell(&settled, output, desk.import(&bytes)).0, store, set: desk.close() }
 }
 
 /// Reads files that `export` has written, at most 41,643 bytes of each, or one from the input where none is named. It
@@ -113,13 +116,13 @@ pub fn import_command<A: Allocator + Copy, S: Store, T: StoreSet, F: NamedFile, 
     let Ok(mut room) = vec![in alloc; 0u8; IMPORT_BYTES] else {
         return EndedDesk { status: refuse(output, Refusal::Memory.name()), store, set };
     };
-    let OpenDesk { store, mut desk } = match open_desk(alloc, store, set, output, capacity) {
+    let OpenDesk { store, mut desk, settled } = match open_desk(alloc, store, set, output, capacity) {
         Ok(opened) => opened,
         Err(ended) => return ended,
     };
     let mut status = 0;
     for file in files {
-        status = greater(status, import_file(alloc, &mut desk, file, &mut room, output));
+        status = greater(status, import_file(alloc, &settled, &mut desk, file, &mut room, output));
         if output.has_failed() | desk.has_failed() {
             return EndedDesk { status, store, set: desk.close() };
         }

@@ -17,6 +17,7 @@ mod import;
 pub mod laws;
 mod lines;
 mod scan;
+mod settling;
 
 pub use all_documents::{EndedAll, GivenAll, GivenDocument, give_all, opening_command};
 pub use copy::{CopyOptions, copy_command};

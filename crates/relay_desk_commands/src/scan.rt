@@ -1,6 +1,6 @@
 //! `relay scan`: labels gathered at a desk.
 
-ghost use Rattle.std.specs.Prelude.{◌≡◌, map, false, true, IfOk, IfSome, MatchResult, OnErr, Result, string_bytes};
+ghost use Rattle.std.specs.Prelude.{◌≡◌, map, false, true, IfOk, IfSome, IsSome, MatchResult, None, OnErr, Result, string_bytes};
 ghost use Rattle.std.specs.Io.KnownBytes.{Appends};
 ghost use Rattle.dm_assembly_desk.specs.Desk.{AcceptsGrid, Scans};
 ghost use Rattle.dm_assembly_desk.specs.Documents.{DeskView, KeepsPages, DeskIsInOrder};
@@ -11,6 +11,7 @@ ghost use Rattle.relay_desk_commands.specs.Desks.{desk_at, EndsRefusal, EndsScan
 
 use crate::desk_opening::{OpenDesk, open_unsettled};
 use crate::lines::room_text;
+use crate::settling::{Settled, settle_desk};
 use dm_append_label::LabelFault::{Block, Border};
 use dm_append_label::{FileId, MOST_PAGE_BYTES, open_page};
 use dm_assembly_desk::{Accepted, Desk, Kind, MoveFault, ScanFault};
@@ -55,8 +56,8 @@ fn put_refused<W: Write>(
 #[derive(Drop)]
 struct Scanning<T: StoreSet, A: Allocator + Copy> {
     desk: Desk<T, A>,
-    // Whether what was held when the desk was opened is settled.
-    is_settled: bool,
+    // What was held when the desk was opened is settled, if it was.
+    settled: Option<Settled>,
 }
 
 impl<T: StoreSet, A: Allocator + Copy> Scanning<T, A> {
@@ -78,17 +79,16 @@ impl<T: StoreSet, A: Allocator + Copy> Scanning<T, A> {
         requires { self.old.desk.is_failed ≡ false }
         ensures answers { MatchResult result (λ answer. AcceptsGrid grid.now self.old.desk answer self.new.desk)
             (λ why. IsUnsettled grid.now why self.old.desk × (self.new.desk ≡ self.old.desk)) }
-        ensures settled { IfOk result (λ answer. rests_on_held answer ≡ true → self.new.is_settled ≡ true) }
-        ensures unsettled { OnErr result ((self.old.is_settled ≡ false) × (self.new.is_settled ≡ false)) }
+        ensures settled { IfOk result (λ answer. rests_on_held answer ≡ true → IsSome self.new.settled) }
+        ensures unsettled { OnErr result ((self.old.settled ≡ None) × (self.new.settled ≡ None)) }
         ensures kept { KeepsPages self.old.desk.held self.new.desk.held }
         ensures order { DeskIsInOrder self.new.desk }
     {
         let answer = self.desk.accept_lent(grid);
-        if self.is_settled | !Self::rests_on_held(&answer) {
+        if self.settled.is_some() | !Self::rests_on_held(&answer) {
             return Ok(answer);
         }
-        self.desk.settle()?;
-        self.is_settled = true;
+        self.settled = Some(settle_desk(&mut self.desk)?);
         Ok(answer)
     }
 
@@ -198,10 +198,10 @@ pub fn scan_command<
         Ok(opened) => opened,
         Err(ended) => return ended,
     };
-    let OpenDesk { store, desk } = opened;
+    let OpenDesk { store, desk, .. } = opened;
     let mut scanning = Scanning {
         desk,
-        is_settled: false,
+        settled: None,
     };
     let status = each_input(
         alloc,

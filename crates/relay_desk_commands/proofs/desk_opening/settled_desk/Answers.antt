@@ -1,23 +1,13 @@
-use Rattle.std.specs.Prelude.{◌≡◌, ℕ, Err}
-use Rattle.std.proofs.Common.{inl, refl}
-use Rattle.dm_store.specs.Saved.{SavedSet, Settles}
-use Rattle.dm_store.specs.declared.store.StoreFault.{StoreFault, TheVariants.Device, TheVariants.Memory}
-use Rattle.dm_assembly_desk.specs.Documents.{IsCapacity}
-use Rattle.dm_assembly_desk.specs.Desk.{HasDeskFault, desk_fault_name, move_fault_name, move_fault_of}
-use Rattle.dm_assembly_desk.specs.declared.fault.DeskFault.{DeskFault}
-use Rattle.dm_assembly_desk.specs.declared.fault.DeskFault.TheVariants as faults
-use Rattle.relay_desk_commands.specs.Desks.HasNoDesk.{not_opened}
+use Rattle.std.proofs.Common.{Result, Ok, Err}
+use Rattle.std.specs.Prelude.{MatchResult}
 use Rattle.relay_desk_commands.proofs.desk_opening.settled_desk.Goals as goal
 
-desk_fault : (set : SavedSet) (capacity : ℕ) (why : StoreFault) → IsCapacity capacity → Settles set (Err why) set
-    → (fault : DeskFault) × HasDeskFault set capacity fault × (move_fault_name (move_fault_of why) ≡ desk_fault_name fault)
-desk_fault set capacity Device is settles = (faults.Device, (is, settles.device refl), refl)
-desk_fault set capacity Memory is settles = (faults.Memory, (is, inl (settles.memory refl)), refl)
+-- what follows from each of two answers follows from either
+mapped : {X E : Type 0} {P Q : X → Type 0} {R S : E → Type 0} (r : Result X E) → ((x : X) → P x → Q x)
+    → ((e : E) → R e → S e) → MatchResult r P R → MatchResult r Q S
+mapped (Ok x) f g is = f x is
+mapped (Err e) f g is = g e is
 
-pub returns-in-Err-settle : goal.returns-in-Err-settle
-returns-in-Err-settle g c =
-    let opens = c.in-Ok.ensures.0 in
-    let settles = rw c.settle.ensures.same at c.in-Err-settle.ensures.settles in
-    let found = desk_fault _ c.args.capacity c.in-Err-settle.fault opens.opens.is_capacity settles in
-    rw (c.close-set.ensures.state, c.settle.ensures.same)
-    (not_opened found.0 opens.moves found.1 (rw (c.name-name.ensures, c.from.ensures) found.2))
+pub returns-in-Ok : goal.returns-in-Ok
+returns-in-Ok g c = mapped c.settle.result (λ opened same. rw (same.0, same.1) c.in-Ok.ensures)
+    (λ unopened why. why _ _ c.in-Ok.ensures.0) c.settle.ensures

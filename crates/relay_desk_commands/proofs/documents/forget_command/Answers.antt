@@ -1,4 +1,10 @@
-use Rattle.std.proofs.Common.{Ok, Err, refl}
+use Rattle.std.proofs.Common.{◌≡◌, ℕ, Bool, true, false, Ok, Err, inl, inr, refl}
+use Rattle.std.specs.Prelude.{if◌then◌else◌}
+use Rattle.std.specs.FinMap.{remove}
+use Rattle.dm_store.specs.Saved.{Done, Faulted, Refused}
+use Rattle.dm_assembly_desk.specs.Documents.{DeskView}
+use Rattle.dm_assembly_desk.specs.Desk.{DeskCarriesOut, Forgets, Stays, Becomes}
+use Rattle.dm_assembly_desk.specs.declared.fault.ForgetFault.TheVariants as forgets
 use Rattle.relay_shared.proofs.Telling.{told}
 use Rattle.relay_desk_commands.specs.Desks.{EndsAtDesk.no_desk, EndsAtDesk.opened, EndsOnId.no_id, EndsOnId.of_id}
 use Rattle.relay_desk_commands.proofs.documents.forget_command.Goals.{in-Ok-forget, in-Err-forget}
@@ -11,6 +17,29 @@ returns-in_default g c =
 pub returns-in-Err : goal.returns-in-Err
 returns-in-Err g c = rw (← c.streams.view_is) (of_id c.in-Some.id c.in-Some.ensures
     (no_desk c.in-Err.ensures.0 c.in-Err.ensures.1 (c.in-Err.ensures.2, refl)))
+
+-- what is not held is not forgotten
+by_test : (is_absent : Bool) (old new : DeskView) (id : ℕ) →
+    DeskCarriesOut (Err forgets.Memory) (Err forgets.Save) id (if is_absent then Stays (Err forgets.NotHeld) else Becomes (remove old.held id) (Ok (tt {0}))) old (Err forgets.NotHeld) new → new ≡ old
+by_test true old new id did = did.1
+by_test false old new id (Done, is, ends) = absurd cc
+by_test false old new id (Faulted, is, ends) = absurd cc
+by_test false old new id (Refused, is, ends) = absurd cc
+
+pub returns-in-Err-NotHeld : goal.returns-in-Err-NotHeld
+returns-in-Err-NotHeld g c =
+    let opens = c.in-Ok.ensures in
+    let desk : DeskView = c.in-Ok.opened.desk in
+    let after : DeskView = c.forget.new.self in
+    let did : Forgets c.in-Some.id desk (Err forgets.NotHeld) after =
+    rw c.in-Err-NotHeld.field-0-is at (c.in-Err-NotHeld.ensures.forgotten opens.0.opens.running) in
+    let same : after ≡ desk = by_test _ desk after c.in-Some.id did in
+    rw (← c.streams.view_is) (of_id c.in-Some.id c.in-Some.ensures (elim c.refuse_not_held.ensures [
+      | inl told ↦
+          opened desk (rw told.0 opens.0) (refl, (after, Err forgets.NotHeld, did, told.1, rw opens.1 at told.2))
+      | inr none ↦
+          no_desk none.0 (none.2 _ _ (rw same opens.0)) (rw opens.1 at none.1, refl)
+    ]))
 
 pub returns : goal.returns
 returns g c =

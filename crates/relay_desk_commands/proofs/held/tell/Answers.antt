@@ -1,6 +1,7 @@
 use Rattle.std.proofs.Common.{refl}
 use Rattle.relay_shared.proofs.Telling.{told, told_else}
-use Rattle.relay_desk_commands.specs.Desks.{TellsHeld.whole, Says.is_held, Says.joint_unsound, Says.not_held, Says.unsound}
+use Rattle.relay_desk_commands.specs.inner.Gathered.GathersHeld.{whole}
+use Rattle.relay_desk_commands.specs.Desks.{Says.is_held, Says.joint_unsound, Says.not_held, Says.unsound}
 use Rattle.relay_desk_commands.proofs.held.tell.Goals as goal
 
 pub returns-in-Ok-Some-clause-tells : goal.returns-in-Ok-Some-clause-tells

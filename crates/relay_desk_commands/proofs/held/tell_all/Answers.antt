@@ -1,7 +1,8 @@
 use mir.Val.{bool_byte}
 use Rattle.std.proofs.Common.{◌≡◌, ◌++◌, ◌∙◌, ℕ, List, Result, Ok, Err, true, ap, arith, refl, sym}
 use Rattle.std.specs.Prelude.{MatchResult, is_err}
-use Rattle.relay_desk_commands.specs.Desks.{joint_line, seen_line, Lists.begun, Lists.further, Says.all, Says.no_keys, TellsHeld.cut_off, TellsHeld.whole}
+use Rattle.relay_desk_commands.specs.Desks.{joint_line, seen_line, Lists.begun, Lists.further, Says.all, Says.no_keys}
+use Rattle.relay_desk_commands.specs.inner.Gathered.GathersHeld.{cut_off, whole}
 use Rattle.relay_shared.proofs.Telling.{told, told_else}
 use Rattle.relay_shared.specs.Command.{PutsText}
 use Rattle.relay_streams.specs.{Streams.AppendsPart, Streams.OutputView, declared.fault.WriteFault.WriteFault}

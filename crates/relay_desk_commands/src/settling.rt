@@ -1,0 +1,37 @@
+//! That what is told can't be taken back. A stop of the machine may take back what was found on a disk but not settled.
+
+ghost use Rattle.std.specs.Prelude.{◌≡◌, Err, IfErr};
+ghost use Rattle.dm_store.specs.Saved.{Settles};
+
+use dm_assembly_desk::Desk;
+use dm_store::{StoreFault, StoreSet};
+use std::alloc::Allocator;
+
+/// That what was found is settled. Only the calls of this module make one, where a settle was done; and what tells what
+/// is held, or that it isn't, wants one.
+#[derive(Drop)]
+pub(crate) struct Settled(());
+
+/// Settles what was found when the desk was opened.
+pub(crate) fn settle_desk<A: Allocator + Copy, T: StoreSet>(
+    desk: &mut Desk<T, A>,
+) -> Result<Settled, StoreFault>
+    ensures same { desk.new ≡ desk.old }
+    ensures failed { IfErr result (λ why. Settles desk.old.saved (Err why) desk.old.saved) }
+{
+    match desk.settle() {
+        Ok(()) => Ok(Settled(())),
+        Err(fault) => Err(fault),
+    }
+}
+
+/// Settles what the calls of a set have found.
+pub(crate) fn settle_set<T: StoreSet>(set: &mut T) -> Result<Settled, StoreFault>
+    ensures same { T.state set.new ≡ T.state set.old }
+    ensures failed { IfErr result (λ why. Settles (T.state set.old) (Err why) (T.state set.old)) }
+{
+    match set.settle() {
+        Ok(()) => Ok(Settled(())),
+        Err(fault) => Err(fault),
+    }
+}
