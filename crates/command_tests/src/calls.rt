@@ -104,6 +104,10 @@ pub const LABELS: &[u8] = b"P4\n14 14\n\
 pub const LABEL: &[u8] = b"P4\n14 14\n\
     \0\0\x55\x50\x42\x38\x4c\x60\x79\xc8\x76\x90\x62\x08\x55\x30\x62\x48\x63\xd0\x4b\x68\x41\xd0\x7f\xf8\0\0";
 
+/// The first label of `5678` under the same ID.
+pub const OTHER_LABEL: &[u8] = b"P4\n14 14\n\
+    \0\0\x55\x50\x42\x38\x4c\x60\x7f\x48\x72\0\x72\x58\x43\xa0\x40\xd8\x46\x90\x4a\xa8\x41\x10\x7f\xf8\0\0";
+
 const SCRIPT: &[u8] =
     b"range 0 9\ndesks 1 4\nprint 0 12 ascii 31323334 -\nscan 0 0 - -\nscan 0 1 - -\n\
     ask 0 0101\n";
@@ -235,7 +239,7 @@ fn of_desk<A: Allocator + Copy, S: Store, T: StoreSet, R: Read, W: Write, E: Wri
         Call::ImportFiles => import_command(
             memory, store, set, &TWO_FILES, streams, CAPACITY,
         ).status,
-        Call::Held(id) => held_command(store, set, streams, id).status,
+        Call::Held(id) => held_command(memory, store, set, streams, id).status,
         Call::Copy => copy_command(memory, store, set, streams, COPY).status,
         _ => u8::from(store.replace(JOINT).is_err()),
     }

@@ -53,7 +53,7 @@ fn refusals_of(rt: &impl Abort, alloc: Global, call: Call) -> Result<u64, Fail> 
 // Whether a command takes no memory of its own.
 #[rattlefmt::skip]
 fn takes_none(call: Call) -> bool {
-    matches!(call, Call::Ticket | Call::Ledger | Call::Give | Call::GiveLast | Call::Take | Call::Left | Call::Held(_))
+    matches!(call, Call::Ticket | Call::Ledger | Call::Give | Call::GiveLast | Call::Take | Call::Left)
 }
 
 // The growths of a world are refused in a test of another crate.

@@ -2,7 +2,7 @@
 //! Whatever the stop leaves, the next commands find all that was answered, and at most the one save more that was
 //! under way.
 
-use crate::calls::{BOTH, Call, LABEL, LABELS, OTHER, Whole, made};
+use crate::calls::{BOTH, Call, LABEL, LABELS, OTHER, OTHER_LABEL, Whole, made};
 use crate::left_files::{LeftFiles, files_on};
 use crate::machine::{MOST_CALLS, Machine};
 use dm_store::Kept;
@@ -14,8 +14,8 @@ use test_helpers::MemDisk;
 // More calls of the disk than the move of an old file makes.
 const MOST_CALLS_OF_A_MOVE: u32 = 24;
 
-// More calls of the disk than a scan of one label or an import makes.
-const MOST_CALLS_OF_ONE: u32 = 16;
+// More calls of the disk than the move of an old file makes, and a forget after it.
+const MOST_CALLS_OF_A_FORGET: u32 = 32;
 
 // A command that looks at what was saved, and the line that it writes after none of the saves, after the first, and so
 // on.
@@ -212,48 +212,107 @@ fn a_move_stopped_twice_keeps_both_documents(rt: HostRuntime) -> Result<(), Fail
     Ok(())
 }
 
-// A call that is stopped, one that tells of what it has saved, and what an import of both pages adds then.
+// The calls that are done before, one that is stopped, and one that tells of what it found: done, or by this refusal.
+// Then what a look writes, whatever a stop has left.
+type Telling = (
+    &'static [Call],
+    Call,
+    (Call, &'static [u8]),
+    Call,
+    &'static [u8],
+);
+
+const DONE: &[u8] = b"";
+
 #[rattlefmt::skip]
-const TOLD: [(Call, Call, &[u8]); 5] = [
-    (Call::Scan(LABEL), Call::Scan(LABEL), ADDED_SECOND),
-    (Call::Import(BOTH), Call::Import(BOTH), ADDED_NONE),
-    (Call::Import(BOTH), Call::Deliver, ADDED_NONE),
-    (Call::Import(BOTH), Call::Export("0101"), ADDED_NONE),
-    (Call::Import(BOTH), Call::Copy, ADDED_NONE),
+const TOLD: &[Telling] = &[
+    (&[], Call::Scan(LABEL), (Call::Scan(LABEL), DONE), Call::Import(BOTH), ADDED_SECOND),
+    (&[], Call::Scan(LABEL), (Call::Scan(OTHER_LABEL), b"refused Conflict\n"), Call::Import(BOTH), ADDED_SECOND),
+    (&[], Call::Import(BOTH), (Call::Import(BOTH), DONE), Call::Import(BOTH), ADDED_NONE),
+    (&[], Call::Import(BOTH), (Call::Deliver, DONE), Call::Import(BOTH), ADDED_NONE),
+    (&[], Call::Import(BOTH), (Call::Export("0101"), DONE), Call::Import(BOTH), ADDED_NONE),
+    (&[], Call::Import(BOTH), (Call::Copy, DONE), Call::Import(BOTH), ADDED_NONE),
+    (&[], Call::Import(BOTH), (Call::Held(None), IS_HELD), Call::Import(BOTH), ADDED_NONE),
+    (&[], Call::Import(BOTH), (Call::Held(Some("0101")), IS_HELD), Call::Import(BOTH), ADDED_NONE),
+    // What is told as gone stays gone.
+    (&[Call::Import(BOTH)], Call::Forget("0101"), (Call::Forget("0101"), NOT_HELD), Call::Import(BOTH), ADDED_BOTH),
+    (&[Call::Import(BOTH)], Call::Forget("0101"), (Call::Deliver, NOT_HELD), Call::Import(BOTH), ADDED_BOTH),
+    (&[Call::Import(BOTH)], Call::Forget("0101"), (Call::Export("0101"), NOT_HELD), Call::Import(BOTH), ADDED_BOTH),
+    (&[Call::Import(BOTH)], Call::Forget("0101"), (Call::Copy, NOT_HELD), Call::Import(BOTH), ADDED_BOTH),
+    (&[Call::Import(BOTH)], Call::Forget("0101"), (Call::Held(Some("0101")), NOT_HELD), Call::Import(BOTH), ADDED_BOTH),
+    // The documents of the joint file are moved first, and what is forgotten then stays so.
+    (&[Call::Joint], Call::Import(OTHER), (Call::Forget("0101"), DONE), Call::Import(BOTH), ADDED_BOTH),
+    // A ticket that is told as taken before was taken.
+    (&[Call::Ledger], Call::Take, (Call::Take, b"refused Old\n"), Call::Take, b"refused Old\n"),
 ];
 
-// Whether what the second call tells stays held whatever a stop leaves after it, though the first may have been stopped
-// before its file was settled. Each of the two may be stopped.
-fn keeps_what_it_told(
+const IS_HELD: &[u8] = b"0101 2 complete\n";
+
+const NOT_HELD: &[u8] = b"refused NotHeld\n";
+
+// What came of a call that was stopped and one that told.
+#[derive(Drop)]
+struct Told {
+    // Whether what was told stays so, whatever a stop leaves. Where something else was told, nothing is asked.
+    keeps: bool,
+    was_stopped: bool,
+    teller_was_stopped: bool,
+}
+
+// The first call may be stopped before its file is settled, and so may the one that tells.
+fn told_after(
     alloc: Global,
-    (before, call, added): (Call, Call, &'static [u8]),
+    (before, stopped, (call, told), look, wanted): Telling,
     (first, second): (u32, u32),
     kept: Kept,
-) -> Result<bool, Fail> {
-    let machine = Machine::new(alloc, MemDisk::new(alloc), first, kept)?;
-    let disk = made(alloc, machine, before)?.disk;
-    let ended = made(alloc, Machine::new(alloc, disk, second, kept)?, call)?;
-    let left = LeftFiles::new(alloc, &ended.disk, &ended.old, &ended.files)?;
+) -> Result<Told, Fail> {
+    let disk = disk_after(alloc, before)?;
+    let first = made(alloc, Machine::new(alloc, disk, first, kept)?, stopped)?;
+    let ended = made(alloc, Machine::new(alloc, first.disk, second, kept)?, call)?;
+    let tells = if told.is_empty() {
+        ended.status == 0
+    } else {
+        has_told(&ended, call, told)
+    };
+    let left = LeftFiles::new(alloc, &ended.disk, &first.old, &ended.files)?;
+    let ways = if tells { left.count() } else { 0 };
     let mut keeps = true;
-    for number in 0..left.count() {
+    for number in 0..ways {
         let whole = Machine::whole(alloc, left.way(alloc, number)?)?;
-        keeps &= has_told(
-            &made(alloc, whole, Call::Import(BOTH))?,
-            Call::Import(BOTH),
-            added,
-        );
+        keeps &= has_told(&made(alloc, whole, look)?, look, wanted);
     }
-    Ok(keeps || ended.status != 0)
+    Ok(Told {
+        keeps,
+        was_stopped: first.has_stopped,
+        teller_was_stopped: ended.has_stopped,
+    })
+}
+
+// Stops the first call at each call of its disk, until it is done. Says whether it was stopped.
+fn tells_what_stays(
+    rt: &impl Abort,
+    alloc: Global,
+    told: Telling,
+    first: u32,
+    kept: Kept,
+) -> Result<bool, Fail> {
+    for second in 0..=MOST_CALLS_OF_A_FORGET {
+        let seen = told_after(alloc, told, (first, second), kept)?;
+        assert!(rt; seen.keeps, "{:?} {first} {second} {kept:?}", told.2);
+        if !seen.teller_was_stopped {
+            return Ok(seen.was_stopped);
+        }
+    }
+    Err("calls without end".into())
 }
 
 #[test]
-fn what_is_told_as_held_stays_held(rt: HostRuntime) -> Result<(), Fail> {
+fn what_is_told_stays_so(rt: HostRuntime) -> Result<(), Fail> {
     for told in TOLD.iter() {
-        for first in 0..MOST_CALLS_OF_ONE {
-            for second in 0..=MOST_CALLS_OF_ONE {
-                for kept in [Kept::Old, Kept::New] {
-                    let keeps = keeps_what_it_told(rt.alloc(), *told, (first, second), kept)?;
-                    assert!(rt; keeps, "{:?} {first} {second} {kept:?}", told.1);
+        for kept in [Kept::Old, Kept::New] {
+            for first in 0..MOST_CALLS_OF_A_FORGET {
+                if !tells_what_stays(&rt, rt.alloc(), *told, first, kept)? {
+                    break;
                 }
             }
         }
