@@ -1,9 +1,9 @@
 //! Scripts and worlds whose memory is refused, one growth after another. A growth that is refused is asked for once
 //! more by std, in its least size, so two in a row are refused.
 
-use dm_assembly_desk::{AskFault, DeskFault, ExportFault, ScanFault};
+use dm_assembly_desk::{Accepted, AskFault, DeskFault, ExportFault, Kind, ScanFault};
 use dm_event_history::{Event, Reply};
-use dm_event_world::{World, is_honest};
+use dm_event_world::{World, WorldFault, is_honest};
 use dm_print_ledger::{GiveFault, OpenFault, PrintFault, TakeFault};
 use relay_script::{Script, ScriptFault, read_script};
 use std::alloc::Allocator;
@@ -27,13 +27,17 @@ pub const GATHERING: &str =
     ask 0 0101\nask 1 0101\nexport 0 0101\ngive 0 1 5 9 -\n";
 
 /// What the replies to its events tell.
-pub const GATHERED: &str = "printed,new,again,complete,document,not held,exported,given";
+pub const GATHERED: &str =
+    "printed 0101 0 2,0101 2/2 new,0101 2/2 again,0101 1/2 complete,document 1234,not held,\
+    exported,given";
 
 const FAILING: &str =
     "range 0 9\ndesks 1 4\nprint 0 12 ascii 31323334 fault-new\nprint 0 12 ascii 31323334 -\n\
     restart printer 0\nprint 0 12 ascii 31323334 -\n";
 
-const FAILED: &str = "save,failed,restarted,printed";
+const FAILED: &str = "save,failed,restarted,printed 0102 0 2";
+
+const OVERLAPPING: &str = "range 0 9\nrange 5 7\ndesks 1 4\n";
 
 // Printers that are stopped after their saves: the first ID is used by a label that left, the second by
 // none, so the third label that is there is the second of the third ID.
@@ -44,8 +48,8 @@ const STOPPING_PRINTERS: &str =
     give 0 1 5 5 -\ngive 0 1 6 6 -\ntake 1 0 in-new\nrestart printer 1\ntake 1 0 -\n";
 
 const STOPPED_PRINTERS: &str =
-    "stopped,restarted,stopped,restarted,printed,new,new,complete,document,stopped,restarted,\
-    not free,given,stopped,restarted,old";
+    "stopped,restarted,stopped,restarted,printed 0103 1 2,0101 1/2 new,0103 1/2 new,0103 2/2 complete,\
+    document 5678,stopped,restarted,not free,given,stopped,restarted,old";
 
 // Desks that are stopped after their saves: each page is held once they are restarted, and no page after a forget.
 const STOPPING_DESKS: &str =
@@ -54,15 +58,51 @@ const STOPPING_DESKS: &str =
     import 1 0 in-new\nrestart desk 1\nask 1 0101\nforget 1 0101 after:0\nrestart desk 1\nask 1 0101\n";
 
 const STOPPED_DESKS: &str =
-    "printed,stopped,restarted,again,stopped,restarted,document,exported,stopped,restarted,\
-    document,stopped,restarted,not held";
+    "printed 0101 0 2,stopped,restarted,0101 1/2 again,stopped,restarted,document 1234,exported,stopped,restarted,\
+    document 1234,stopped,restarted,not held";
 
-/// What a reply tells, in a word.
+// What a print tells: the ID, the number of its first label, and how many they are.
+fn printed(id: (u8, u8), first: usize, count: u8) -> &'static str {
+    match (id, first, count) {
+        ((1, 1), 0, 2) => "printed 0101 0 2",
+        ((1, 2), 0, 2) => "printed 0102 0 2",
+        ((1, 3), 1, 2) => "printed 0103 1 2",
+        _ => "another print",
+    }
+}
+
+// What a scan tells of a page of two.
+fn scanned(accepted: &Accepted) -> &'static str {
+    if accepted.n != 2 {
+        return "another page";
+    }
+    match (accepted.id.words(), accepted.m, accepted.kind) {
+        ((1, 1), 1, Kind::New) => "0101 1/2 new",
+        ((1, 1), 1, Kind::Again) => "0101 1/2 again",
+        ((1, 1), 1, Kind::Complete) => "0101 1/2 complete",
+        ((1, 1), 2, Kind::New) => "0101 2/2 new",
+        ((1, 1), 2, Kind::Again) => "0101 2/2 again",
+        ((1, 3), 1, Kind::New) => "0103 1/2 new",
+        ((1, 3), 2, Kind::Complete) => "0103 2/2 complete",
+        _ => "another page",
+    }
+}
+
+// Which document is given.
+fn document(bytes: &[u8]) -> &'static str {
+    match bytes {
+        b"1234" => "document 1234",
+        b"5678" => "document 5678",
+        _ => "another document",
+    }
+}
+
+/// What a reply tells, in words.
 pub fn told<A: Allocator>(reply: &Reply<A>) -> &'static str {
     match reply {
-        Reply::Printed { .. } => "printed",
-        Reply::Scanned(accepted) => accepted.kind.name(),
-        Reply::Document(_) => "document",
+        Reply::Printed { id, first, count } => printed(id.words(), *first, *count),
+        Reply::Scanned(accepted) => scanned(accepted),
+        Reply::Document(bytes) => document(bytes.as_slice()),
         Reply::AskRefused(AskFault::NotHeld) => "not held",
         Reply::PrintRefused(PrintFault::Save) => "save",
         Reply::PrintRefused(PrintFault::Failed) => "failed",
@@ -148,6 +188,18 @@ fn tells<A: Allocator + Copy>(alloc: A, text: &str, words: &str) -> Result<bool,
     Ok(script.events.len() == words.split(',').count())
 }
 
+// Whether no world begins with ranges that share a number.
+fn overlaps<A: Allocator + Copy>(alloc: A) -> Result<bool, Fail> {
+    let script = script_of(alloc, OVERLAPPING)?;
+    for _time in 0..MOST_TIMES {
+        match World::new(alloc, &script.ranges, &script.capacities) {
+            Err(WorldFault::Memory) => {}
+            ended => return Ok(matches!(ended, Err(WorldFault::Overlap))),
+        }
+    }
+    Ok(false)
+}
+
 // What is no script, if only by its last line, is refused for that with however little memory.
 #[test]
 fn refused_growths_of_a_script_are_named(rt: HostRuntime) -> Result<(), Fail> {
@@ -189,4 +241,17 @@ fn refused_growths_leave_the_replies(rt: HostRuntime) -> Result<(), Fail> {
         assert!(rt; refusals > 20 && refusals < MOST_GROWTHS - 1, "{refusals}");
     }
     Ok(())
+}
+
+#[test]
+fn refused_growths_begin_no_world(rt: HostRuntime) -> Result<(), Fail> {
+    for growths in 0..MOST_GROWTHS {
+        let second = Refusing::new(rt.alloc(), growths);
+        let memory = Refusing::new(&second, growths);
+        assert!(rt; overlaps(&memory)?, "{growths}");
+        if !memory.is_spent() {
+            return Ok(());
+        }
+    }
+    Err("growths without end".into())
 }

