@@ -1,19 +1,19 @@
 -- The desks at some paths, once commands ran: they hold pages of printed labels alone, and so does what they let out.
 use Rattle.std.proofs.Common.{◌≡◌, ◌++◌, inl, inr, ℕ, List, [], ◌∷◌, None, Option, Some, slice_get, slice_set, refl, sym, ap, subst, ◌∙◌}
-use Rattle.std.specs.{Prelude.IfSome, Prelude.IsTrue, Prelude.option_map, Prelude.unwrap_or, Io.KnownBytes.Appends}
-use Rattle.std.specs.{List.AllByRecursion, Option.option_copied, Ordering.nat_cmp}
+use Rattle.std.specs.{Prelude.IfSome, Prelude.option_map, Io.KnownBytes.Appends}
+use Rattle.std.specs.{List.AllByRecursion, Option.option_copied}
 use Rattle.std.specs.FinMap as finite
 use Rattle.dm_finder_frame.specs.Frame.{GridView}
 use Rattle.dm_symbol.specs.Correction.{IsNear}
 use Rattle.dm_append_label.specs.Labels.{Carries, PageView}
-use Rattle.dm_store.specs.Saved.{Contents, SavedSet}
+use Rattle.dm_store.specs.Saved.{SavedSet}
 use Rattle.dm_print_ledger.specs.declared.range.Range.{Range}
-use Rattle.dm_assembly_desk.specs.Documents.{HoldsFiles, Pages, file, page, page_at}
+use Rattle.dm_assembly_desk.specs.Documents.{Pages, file}
 use Rattle.dm_assembly_desk.specs.declared.limits.TheConstants.{MOST_CAPACITY}
 use Rattle.dm_event_history.specs.Relay.{Label}
-use Rattle.dm_event_history.specs.Headline.{AreDisjoint, AreOfOneDocument, ArePrinted, HaveLeft, RelayIsSound, IsTheDocument}
-use Rattle.dm_event_history.proofs.{Gotten.get_more, Gotten.set_at, Headline.each_run_is_sound, Told.page_none}
-use Rattle.dm_event_history.proofs.Stays.{have_more, more_left, more_pages}
+use Rattle.dm_event_history.specs.Headline.{AreDisjoint, AreOfOneDocument, ArePrinted, RelayIsSound, IsTheDocument}
+use Rattle.dm_event_history.proofs.{Gotten.get_more, Headline.each_run_is_sound}
+use Rattle.dm_event_history.proofs.Stays.{more_left, more_pages}
 use Rattle.relay_command.specs.declared.command.Command.{Command}
 use Rattle.relay_command.specs.declared.command.Command.TheVariants.{Words, Draw, Read, Plan, Ticket, Ledger, Print, Give, GiveLast, Take, Left, Audit, Scan, Deliver, DeliverAll, Forget, Export, ExportAll, Import, Held, Copy, World}
 use Rattle.relay_shared.specs.Files.{DeskFiles}
@@ -24,9 +24,9 @@ use Rattle.relay_desk_runs.proofs.{Scanning.each_scan_keeps, Importing.each_forg
 use Rattle.relay_desk_runs.proofs.Giving.{each_copy_is_printed, each_deliver_is_printed, each_export_is_printed, export_clean}
 use Rattle.relay_desk_runs.proofs.Opened.{at_desk_keeps, held_same}
 use Rattle.relay.specs.Program.{Does, path_of}
-use Rattle.relay_program_runs.specs.Law.{At, DeliversPrinted, Halts, IsBlank, LeavesFile, LetsOut, PrintsUnder, Ran, SomeRan, TakesPrinted, WritesPrinted, at_its_path, cut_short, exited, passed, passed_at, status_of, writes, writes_nothing}
+use Rattle.relay_program_runs.specs.Law.{DeliversPrinted, FindsLeft, Halts, IsBlank, LeavesAs, LeavesFile, LetsOut, PrintsUnder, Ran, SomeRan, StoreAt, TakesPrinted, WritesPrinted, at_its_path, cut_short, exited, passed, passed_at, status_of, writes, writes_nothing}
 use Rattle.relay_program_runs.specs.Passed.{Passed, passed_by, text_of}
-use Rattle.relay_program_runs.proofs.{Effects.no_documents, Lists.all_so, Lists.before_or_now}
+use Rattle.relay_program_runs.proofs.{Effects.no_documents, Folders.IsFileOf, Folders.holds_printed, Lists.all_so, Lists.before_or_now}
 use Rattle.relay_program_runs.proofs.Printers.{OneMore, Stands, begun, holds, nothing_ran}
 use Rattle.relay_shared.specs.Command.{FileView}
 
@@ -53,64 +53,30 @@ label_more labels more page l = record {
   page_is = l.page_is;
 }
 
-set_more : (labels more : List Label) (set : SavedSet) → HoldsPrinted labels set → HoldsPrinted (labels ++ more) set
-set_more labels more set h = record {
-  honest = h.honest;
-  held = h.held;
-  files = h.files;
-  printed = have_more labels more h.held h.printed;
-}
-
 -- ---- the files of a set
 
 file_printed : (labels : List Label) (set : SavedSet) → HoldsPrinted labels set → (key : ℕ) (bytes : List ℕ) →
-    finite.get set.content key ≡ Some bytes → IsPrintedFile labels bytes
+    finite.get set.content key ≡ Some bytes → IsFileOf labels key bytes
 file_printed labels set h key bytes there = of_held (finite.get h.held key) refl
   where
-    of_held : (found : Option Pages) → finite.get h.held key ≡ found → IsPrintedFile labels bytes
+    of_held : (found : Option Pages) → finite.get h.held key ≡ found → IsFileOf labels key bytes
     of_held None none = absurd (let no_file = h.files.files key ∙ ap (option_map (file key)) none in cc (there, no_file))
-    of_held (Some pages) is = record {
-      id = key;
-      pages = pages;
-      sound = h.files.entries key pages is;
-      is_file = let its_file = h.files.files key ∙ ap (option_map (file key)) is in cc (there, its_file);
-      clean = export_clean labels h.held key pages h.printed is;
-    }
-
--- ---- an empty set
-
-holds_nothing : HoldsFiles finite.empty finite.empty
-holds_nothing = record {
-  entries = λ id pages there. absurd (let none = finite.get-empty {X = Pages} nat_cmp id in cc (there, none));
-  files = λ id. finite.get-empty nat_cmp id ∙ sym (ap (option_map (file id)) (finite.get-empty {X = Pages} nat_cmp id));
-}
-
-no_page : (id m : ℕ) (bytes : List ℕ) → page_at finite.empty id m ≡ Some bytes → ⊥
-no_page id m bytes is =
-    let gone = ap (λ (o : Option Pages). page (unwrap_or o []) m) (finite.get-empty {X = Pages} nat_cmp id) ∙ page_none m in
-    cc (gone, is)
-
-have_none : (labels : List Label) → HaveLeft labels finite.empty
-have_none labels = record {
-  pages = λ id m bytes is. absurd (no_page id m bytes is);
-  counts = λ id pages is. absurd (let none = finite.get-empty {X = Pages} nat_cmp id in cc (none, is));
-  some = λ id pages is. absurd (let none = finite.get-empty {X = Pages} nat_cmp id in cc (none, is));
-}
-
-empty_holds : (labels : List Label) (set : SavedSet) → IsTrue set.is_honest → set.content ≡ finite.empty →
-    HoldsPrinted labels set
-empty_holds labels set honest none = record {
-  honest = honest;
-  held = finite.empty;
-  files = subst (λ (c : Contents). HoldsFiles c finite.empty) (sym none) holds_nothing;
-  printed = have_none labels;
-}
+    of_held (Some pages) is = (
+      record {
+        id = key;
+        pages = pages;
+        sound = h.files.entries key pages is;
+        is_file = let its_file = h.files.files key ∙ ap (option_map (file key)) is in cc (there, its_file);
+        clean = export_clean labels h.held key pages h.printed is;
+      },
+      refl,
+    )
 
 -- ---- what a command does at such a desk
 
 -- its set is so still, what it let out is so, and so is what it delivered
-record Clean (labels : List Label) (command : Command) (before : OnDesk) (status : ℕ) (after : OnDesk) (p : Passed) : Type 0 where
-  set : HoldsPrinted labels after.files.set
+pub record Clean (labels : List Label) (command : Command) (before : OnDesk) (status : ℕ) (after : OnDesk) (p : Passed) : Type 0 where
+  pub set : HoldsPrinted labels after.files.set
   exported : IfSome p.exported (IsPrintedFile labels)
   copied : IfSome p.copied (λ grid. (page : PageView) × Carries page grid × IsOfLabel labels page)
   delivered : IfSome (text_of command) (λ text. GivesPrinted labels text before status after)
@@ -191,7 +157,7 @@ module _ (A : Type 0) (labels : List Label) (printed : ArePrinted labels) (one :
   effect World does near sent = record { set = same_files does.0.1; exported = tt; copied = tt; delivered = tt }
 
 -- the status that it exited with, or would have
-abbrev status_at : {A : Type 0} {command : Command} {inputs : List FileView} {before after : OnDesk} →
+abbrev pub status_at : {A : Type 0} {command : Command} {inputs : List FileView} {before after : OnDesk} →
     Halts A command inputs before after → ℕ
 status_at (exited status does) = status
 status_at (cut_short status does) = status
@@ -216,8 +182,11 @@ clean_at A labels printed one command {inputs} before after (cut_short status do
 -- ---- what is so once commands ran
 
 module _ (A : Type 0) (IsAmong : List ℕ → Type 0) where
-  abbrev Leaves : List ℕ → Ran A → Type 0
-  Leaves bytes ran = LeavesFile bytes ran × IsAmong (path_of ran.command)
+  abbrev pub KeptAs : ℕ → List ℕ → Ran A → Type 0
+  KeptAs key bytes ran = LeavesAs key bytes ran × IsAmong (path_of ran.command)
+
+  abbrev Exported : List ℕ → Ran A → Type 0
+  Exported bytes ran = ((passed ran).exported ≡ Some bytes) × IsAmong (path_of ran.command)
 
   abbrev Copies : GridView → Ran A → Type 0
   Copies grid ran = ((passed ran).copied ≡ Some grid) × IsAmong (path_of ran.command)
@@ -225,19 +194,18 @@ module _ (A : Type 0) (IsAmong : List ℕ → Type 0) where
   abbrev OfLabel : List Label → GridView → Type 0
   OfLabel labels grid = (page : PageView) × Carries page grid × IsOfLabel labels page
 
-  pub record AreClean (ranges : List Range) (earlier : List (Ran A)) (site : List At) : Type 0 where
+  pub record AreClean (ranges : List Range) (earlier : List (Ran A)) (site : List StoreAt) : Type 0 where
     pub stands : Stands A ranges earlier site
-    pub sets : (place : ℕ) (at : At) → slice_get site place ≡ Some at → IsAmong at.path →
-        HoldsPrinted stands.relay.labels at.files.set
-    pub files : (bytes : List ℕ) → SomeRan (Leaves bytes) earlier → IsPrintedFile stands.relay.labels bytes
+    pub files : (key : ℕ) (bytes : List ℕ) → SomeRan (KeptAs key bytes) earlier → IsFileOf stands.relay.labels key bytes
+    pub exported : (bytes : List ℕ) → SomeRan (Exported bytes) earlier → IsPrintedFile stands.relay.labels bytes
     pub copied : (grid : GridView) → SomeRan (Copies grid) earlier → OfLabel stands.relay.labels grid
 
-  pub clean_begun : (ranges : List Range) (site : List At) →
-      ((place : ℕ) (at : At) → slice_get site place ≡ Some at → IsBlank at) → AreClean ranges [] site
+  pub clean_begun : (ranges : List Range) (site : List StoreAt) →
+      ((place : ℕ) (at : StoreAt) → slice_get site place ≡ Some at → IsBlank None at.saved) → AreClean ranges [] site
   clean_begun ranges site blank = record {
     stands = begun A ranges site blank;
-    sets = λ place at there among. let b = blank place at there in empty_holds (begun A ranges site blank).relay.labels at.files.set b.set_honest b.set;
-    files = λ bytes s. absurd (nothing_ran _ s);
+    files = λ key bytes s. absurd (nothing_ran _ s);
+    exported = λ bytes s. absurd (nothing_ran _ s);
     copied = λ grid s. absurd (nothing_ran _ s);
   }
 
@@ -249,9 +217,9 @@ module _ (A : Type 0) (IsAmong : List ℕ → Type 0) where
   as_given P None x some is = cc (some)
   as_given P (Some y) x some is = (let same : y ≡ x = cc (some) in subst P same is)
 
-  module _ (ranges : List Range) (disjoint : AreDisjoint ranges) (earlier : List (Ran A)) (site : List At)
+  module _ (ranges : List Range) (disjoint : AreDisjoint ranges) (earlier : List (Ran A)) (site : List StoreAt)
       (c : AreClean ranges earlier site) (ran : Ran A) (place : ℕ)
-      (found : slice_get site place ≡ Some (at_its_path ran ran.before.files)) where
+      (found : slice_get site place ≡ Some (at_its_path ran ran.before.files.joint)) where
     abbrev labels : List Label
     labels = c.stands.relay.labels
 
@@ -274,16 +242,23 @@ module _ (A : Type 0) (IsAmong : List ℕ → Type 0) where
         let l = let_out own some in
         record { page = l.0; own = own; near = is_near; carries = l.1; of_label = l.2 }
 
-    module _ (takes : TakesPrinted IsAmong earlier ran) where
-      clean_now : IsAmong (path_of ran.command) →
+    -- so is a file that was exported, or kept
+    left : (bytes : List ℕ) → SomeRan (λ other. LeavesFile bytes other × IsAmong (path_of other.command)) earlier →
+        IsPrintedFile labels bytes
+    left bytes (n, other, there, (inl exported, among)) = c.exported bytes (n, other, there, (exported, among))
+    left bytes (n, other, there, (inr (key, kept), among)) = (c.files key bytes (n, other, there, (kept, among))).0
+
+    module _ (takes : TakesPrinted IsAmong earlier ran) (finds : FindsLeft IsAmong earlier ran) where
+      pub clean_now : IsAmong (path_of ran.command) →
           Clean labels ran.command ran.before (status_at ran.ends) ran.after (passed ran)
       clean_now among = clean_at A labels sound.1 sound.0.one_document ran.command ran.before ran.after ran.ends
           (record {
-            set = c.sets place (at_its_path ran ran.before.files) found among;
+            set = holds_printed labels ran.before.files.set
+                (λ key bytes there. c.files key bytes (finds.files among key bytes there)) (finds.honest among);
             joint = no_documents c.stands.relay ran.before.files.joint _ (holds A ranges earlier site c.stands ran place found);
           })
           (all_so _ _ (passed ran).scanned near (takes.scans among))
-          (all_so _ _ (passed ran).imported c.files (takes.imports among))
+          (all_so _ _ (passed ran).imported left (takes.imports among))
 
       -- ---- what is delivered
 
@@ -315,12 +290,15 @@ module _ (A : Type 0) (IsAmong : List ℕ → Type 0) where
 
       -- ---- one more command
 
-      module _ (o : OneMore A ranges earlier c.stands.relay ran (slice_set site place (at_its_path ran ran.after.files))) where
-        more_set : (set : SavedSet) → HoldsPrinted labels set → HoldsPrinted o.stands.relay.labels set
-        more_set set h = subst (λ (ls : List Label). HoldsPrinted ls set) (sym o.labels) (set_more labels o.more set h)
-
+      module _ (o : OneMore A ranges earlier c.stands.relay ran
+          (slice_set site place (at_its_path ran ran.after.files.joint))) where
         more_file : (bytes : List ℕ) → IsPrintedFile labels bytes → IsPrintedFile o.stands.relay.labels bytes
         more_file bytes f = subst (λ (ls : List Label). IsPrintedFile ls bytes) (sym o.labels) (file_more labels o.more bytes f)
+
+        more_kept : (key : ℕ) (bytes : List ℕ) → IsFileOf labels key bytes → IsFileOf o.stands.relay.labels key bytes
+        unfolding file_more
+        more_kept key bytes f = subst (λ (ls : List Label). IsFileOf ls key bytes) (sym o.labels)
+            (file_more labels o.more bytes f.0, f.1)
 
         more_label : (grid : GridView) → OfLabel labels grid → OfLabel o.stands.relay.labels grid
         more_label grid (page, carries, l) = (
@@ -329,20 +307,18 @@ module _ (A : Type 0) (IsAmong : List ℕ → Type 0) where
           subst (λ (ls : List Label). IsOfLabel ls page) (sym o.labels) (label_more labels o.more page l),
         )
 
-        pub clean_more : AreClean ranges (earlier ++ ran ∷ []) (slice_set site place (at_its_path ran ran.after.files))
+        pub clean_more : AreClean ranges (earlier ++ ran ∷ []) (slice_set site place (at_its_path ran ran.after.files.joint))
         clean_more = record {
           stands = o.stands;
-          sets = λ p at there among. elim (set_at site place p (at_its_path ran ran.after.files) at there) [
-            | inl same ↦ subst (λ (a : At). HoldsPrinted o.stands.relay.labels a.files.set) same.1
-                (more_set ran.after.files.set (clean_now (subst (λ (a : At). IsAmong a.path) (sym same.1) among)).set)
-            | inr other ↦ more_set at.files.set (c.sets p at other.1 among)
+          files = λ key bytes some. elim (before_or_now (KeptAs key bytes) earlier ran some) [
+            | inl old ↦ more_kept key bytes (c.files key bytes old)
+            | inr new ↦ more_kept key bytes
+                (file_printed labels ran.after.files.set (clean_now new.1).set key bytes new.0)
           ];
-          files = λ bytes some. elim (before_or_now (Leaves bytes) earlier ran some) [
-            | inl old ↦ more_file bytes (c.files bytes old)
-            | inr new ↦ more_file bytes (elim new.0 [
-              | inl exported ↦ as_given (IsPrintedFile labels) (passed ran).exported bytes exported (clean_now new.1).exported
-              | inr left ↦ file_printed labels ran.after.files.set (clean_now new.1).set left.0 bytes left.1
-            ])
+          exported = λ bytes some. elim (before_or_now (Exported bytes) earlier ran some) [
+            | inl old ↦ more_file bytes (c.exported bytes old)
+            | inr new ↦ more_file bytes
+                (as_given (IsPrintedFile labels) (passed ran).exported bytes new.0 (clean_now new.1).exported)
           ];
           copied = λ grid some. elim (before_or_now (Copies grid) earlier ran some) [
             | inl old ↦ more_label grid (c.copied grid old)

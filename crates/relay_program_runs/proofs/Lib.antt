@@ -2,6 +2,7 @@ pub mod Lists
 pub mod Ranges
 pub mod Effects
 pub mod Printers
+pub mod Folders
 pub mod Desks
 pub mod Walk
 pub mod OneDocument

@@ -1,7 +1,9 @@
 -- Lines that ran over the places of a system are commands that ran at a site: the paths that they name, each once.
 use Rattle.std.proofs.Common.{◌≡◌, ◌≢◌, ◌++◌, ◌⊎◌, Bor, inl, inr, ℕ, zero, suc, List, [], ◌∷◌, None, Option, Some, slice_get, slice_set, refl, sym, ap, subst, ◌∙◌, Bool, true, false}
 use Rattle.std.specs.{Prelude.Decides, Prelude.map, Prelude.unwrap_or, List.AllByRecursion, Str.bytes_eq}
+use Rattle.std.specs.FinMap as finite
 use Rattle.std.proofs.lemmas.Slice.Eq.{bytes_eq-Decides}
+use Rattle.dm_store.specs.Saved.{SavedIn}
 use Rattle.dm_size.specs.declared.size.Size.{Size}
 use Rattle.dm_symbol.specs.Correction.{CarriesItsWords}
 use Rattle.relay_command.specs.declared.command.Command.{Command}
@@ -13,9 +15,10 @@ use Rattle.relay.specs.Places.{PlacesView}
 use Rattle.relay.specs.Program.{named_path, path_of, DoesAll, DoesAndSaves, DoesAt, GivesEach, IsAt, SystemView, all_command, does, does_all, does_and_saves, does_here, gives_each, has_none, lacks_memory, next_id, no_id, one_command, opens_desk, opens_none, shows}
 use Rattle.relay.proofs.AllDocuments.{others_stay}
 use Rattle.relay.specs.Program as program
-use Rattle.relay_program_runs.specs.Law.{At, MeetsPremises, IsBlank, IsNew, Ran, RunInTurn, SomeRan}
+use Rattle.relay_program_runs.specs.Law.{At, MeetsPremises, IsBlank, IsNew, Ran, RunInTurn, SomeRan, store_of}
 use Rattle.relay_program_runs.specs.Lines.{EachIdOfLinesHasOneDocument, Follow, IsNamedBy, LineRan, LinesAsk, NoLinePrintsAnIdAgain, WhatLinesDeliverIsTheDocument, WhatLinesDeliverWasPrinted, all_commands, commands_in, commands_of, givers_in, ids_of_all, if_named, in_folder, ran_at, saved_as}
-use Rattle.relay_program_runs.proofs.{Lists.all_so, OneDocument.each_id_has_one_document, OneDocument.what_is_delivered_is_the_document, Walk.no_id_is_printed_twice, Walk.what_is_delivered_was_printed}
+use Rattle.relay_program_runs.specs.InTurn.{WhatLinesRunInTurnFindWhatWasLeft, set_of}
+use Rattle.relay_program_runs.proofs.{Lists.all_so, OneDocument.each_id_has_one_document, OneDocument.what_is_delivered_is_the_document, Walk.no_id_is_printed_twice, Walk.what_is_delivered_was_printed, Walk.what_runs_in_turn_finds_what_was_left}
 use Rattle.relay_program_runs.proofs.Steps.{Pairs, at_same, found, pairs_so, there}
 use Rattle.relay_shared.specs.Command.{FileView}
 
@@ -50,68 +53,69 @@ in_or_none path (first ∷ rest) = elim (decided (bytes_eq path first) path firs
 
 -- ---- a site of them
 
-abbrev site_of : List (List ℕ) → PlacesView → List At
-site_of [] places = []
-site_of (path ∷ paths) places = there path (places path) ∷ site_of paths places
-
-at_in : (paths : List (List ℕ)) (places : PlacesView) (i : ℕ) (path : List ℕ) → slice_get paths i ≡ Some path →
-    slice_get (site_of paths places) i ≡ Some (there path (places path))
-at_in [] places i path is = cc (is)
-at_in (first ∷ rest) places zero path is =
-    let same : first ≡ path = cc (is) in ap (λ (p : List ℕ). Some (there p (places p))) same
-at_in (first ∷ rest) places (suc i) path is = at_in rest places i path is
-
--- at every other of these paths is what was there before
-abbrev KeepsIn : List (List ℕ) → List ℕ → PlacesView → PlacesView → Type 0
-KeepsIn paths path old new = (other : List ℕ) → IsIn paths other → path ≢ other → new other ≡ old other
-
 and_then : {X : Type 0} {x y : X} {xs ys : List X} → x ≡ y → xs ≡ ys → x ∷ xs ≡ y ∷ ys
 and_then first rest = λ i. first i ∷ rest i
 
-same_site : (paths : List (List ℕ)) (path : List ℕ) (old new : PlacesView) → IsNone paths path →
-    KeepsIn paths path old new → site_of paths old ≡ site_of paths new
-same_site [] path old new none keeps = refl
-same_site (first ∷ rest) path old new none keeps =
-    and_then (at_same refl (sym (keeps first (zero, refl) none.0)))
-    (same_site rest path old new none.1 (λ other is. keeps other (later_in first rest other is)))
+module _ {X : Type 0} (of : DeskFiles → SavedIn X) where
+  abbrev site_of : List (List ℕ) → PlacesView → List (At X)
+  site_of [] places = []
+  site_of (path ∷ paths) places = there path (of (places path)) ∷ site_of paths places
 
-set_in_site : (paths : List (List ℕ)) → Pairs IsApart paths → (i : ℕ) (path : List ℕ) → slice_get paths i ≡ Some path →
-    (old new : PlacesView) (after : DeskFiles) → new path ≡ after → KeepsIn paths path old new →
-    slice_set (site_of paths old) i (there path after) ≡ site_of paths new
-set_in_site [] apart i path is old new after left keeps = cc (is)
-set_in_site (first ∷ rest) apart zero path is old new after left keeps =
-    let same : first ≡ path = cc (is) in
-    and_then (at_same (sym same) (sym left ∙ ap new (sym same)))
-    (same_site rest path old new (subst (IsNone rest) same apart.0)
-    (λ other is. keeps other (later_in first rest other is)))
-set_in_site (first ∷ rest) apart (suc i) path is old new after left keeps =
-    and_then (at_same refl (sym (keeps first (zero, refl)
-    (λ same. found (λ (other : List ℕ). first ≢ other) rest apart.0 i path is (sym same)))))
-    (set_in_site rest apart.1 i path is old new after left (λ other is. keeps other (later_in first rest other is)))
+  at_in : (paths : List (List ℕ)) (places : PlacesView) (i : ℕ) (path : List ℕ) → slice_get paths i ≡ Some path →
+      slice_get (site_of paths places) i ≡ Some (there path (of (places path)))
+  at_in [] places i path is = cc (is)
+  at_in (first ∷ rest) places zero path is =
+      let same : first ≡ path = cc (is) in ap (λ (p : List ℕ). Some (there p (of (places p)))) same
+  at_in (first ∷ rest) places (suc i) path is = at_in rest places i path is
 
-module _ (places : PlacesView) where
-  all_blank : (paths : List (List ℕ)) → ((path : List ℕ) → IsIn paths path → IsBlank (there path (places path))) →
-      AllByRecursion IsBlank (site_of paths places)
-  all_blank [] blank = tt
-  all_blank (path ∷ paths) blank =
-      (blank path (zero, refl), all_blank paths (λ other is. blank other (later_in path paths other is)))
+  -- at every other of these paths is what was there before
+  abbrev KeepsIn : List (List ℕ) → List ℕ → PlacesView → PlacesView → Type 0
+  KeepsIn paths path old new = (other : List ℕ) → IsIn paths other → path ≢ other → of (new other) ≡ of (old other)
 
-  none_there : (paths : List (List ℕ)) (path : List ℕ) → IsNone paths path →
-      AllByRecursion (λ (at : At). path ≢ at.path) (site_of paths places)
-  none_there [] path none = tt
-  none_there (first ∷ rest) path none = (none.0, none_there rest path none.1)
+  same_site : (paths : List (List ℕ)) (path : List ℕ) (old new : PlacesView) → IsNone paths path →
+      KeepsIn paths path old new → site_of paths old ≡ site_of paths new
+  same_site [] path old new none keeps = refl
+  same_site (first ∷ rest) path old new none keeps =
+      and_then (at_same refl (sym (keeps first (zero, refl) none.0)))
+      (same_site rest path old new none.1 (λ other is. keeps other (later_in first rest other is)))
 
-  pairs_there : (paths : List (List ℕ)) → Pairs IsApart paths →
-      Pairs (λ (one other : At). one.path ≢ other.path) (site_of paths places)
-  pairs_there [] apart = tt
-  pairs_there (path ∷ paths) apart = (none_there paths path apart.0, pairs_there paths apart.1)
+  set_in_site : (paths : List (List ℕ)) → Pairs IsApart paths → (i : ℕ) (path : List ℕ) → slice_get paths i ≡ Some path →
+      (old new : PlacesView) (after : SavedIn X) → of (new path) ≡ after → KeepsIn paths path old new →
+      slice_set (site_of paths old) i (there path after) ≡ site_of paths new
+  set_in_site [] apart i path is old new after left keeps = cc (is)
+  set_in_site (first ∷ rest) apart zero path is old new after left keeps =
+      let same : first ≡ path = cc (is) in
+      and_then (at_same (sym same) (sym left ∙ ap (λ (p : List ℕ). of (new p)) (sym same)))
+      (same_site rest path old new (subst (IsNone rest) same apart.0)
+      (λ other is. keeps other (later_in first rest other is)))
+  set_in_site (first ∷ rest) apart (suc i) path is old new after left keeps =
+      and_then (at_same refl (sym (keeps first (zero, refl)
+      (λ same. found (λ (other : List ℕ). first ≢ other) rest apart.0 i path is (sym same)))))
+      (set_in_site rest apart.1 i path is old new after left (λ other is. keeps other (later_in first rest other is)))
 
-  new_site : (paths : List (List ℕ)) → Pairs IsApart paths →
-      ((path : List ℕ) → IsIn paths path → IsBlank (there path (places path))) → IsNew (site_of paths places)
-  new_site paths apart blank = record {
-    paths = pairs_so _ (site_of paths places) (pairs_there paths apart);
-    blank = found IsBlank (site_of paths places) (all_blank paths blank);
-  }
+  module _ (none : X) (places : PlacesView) where
+    all_blank : (paths : List (List ℕ)) → ((path : List ℕ) → IsIn paths path → IsBlank none (of (places path))) →
+        AllByRecursion (λ (at : At X). IsBlank none at.saved) (site_of paths places)
+    all_blank [] blank = tt
+    all_blank (path ∷ paths) blank =
+        (blank path (zero, refl), all_blank paths (λ other is. blank other (later_in path paths other is)))
+
+    none_there : (paths : List (List ℕ)) (path : List ℕ) → IsNone paths path →
+        AllByRecursion (λ (at : At X). path ≢ at.path) (site_of paths places)
+    none_there [] path none = tt
+    none_there (first ∷ rest) path none = (none.0, none_there rest path none.1)
+
+    pairs_there : (paths : List (List ℕ)) → Pairs IsApart paths →
+        Pairs (λ (one other : At X). one.path ≢ other.path) (site_of paths places)
+    pairs_there [] apart = tt
+    pairs_there (path ∷ paths) apart = (none_there paths path apart.0, pairs_there paths apart.1)
+
+    new_site : (paths : List (List ℕ)) → Pairs IsApart paths →
+        ((path : List ℕ) → IsIn paths path → IsBlank none (of (places path))) → IsNew none (site_of paths places)
+    new_site paths apart blank = record {
+      paths = pairs_so _ (site_of paths places) (pairs_there paths apart);
+      blank = found (λ (at : At X). IsBlank none at.saved) (site_of paths places) (all_blank paths blank);
+    }
 
 -- ---- commands over places
 
@@ -174,29 +178,29 @@ module _ (A : Type 0) where
     | inr none ↦ absurd (found (λ (other : List ℕ). path ≢ other) c.paths (c.no_other path none) is.0 path is.1 refl)
   ]
 
-  module _ (paths : List (List ℕ)) where
+  module _ {X : Type 0} (of : DeskFiles → SavedIn X) (paths : List (List ℕ)) where
     -- each command finds what is at its path, and leaves every other of the paths as it is
     abbrev RunsOver : PlacesView → List (Ran A) → Type 0
     RunsOver places [] = Unit {0}
-    RunsOver places (ran ∷ later) = (ran.before.files ≡ places (path_of ran.command)) × (next : PlacesView)
-        × (next (path_of ran.command) ≡ ran.after.files) × KeepsIn paths (path_of ran.command) places next
+    RunsOver places (ran ∷ later) = (of ran.before.files ≡ of (places (path_of ran.command))) × (next : PlacesView)
+        × (of (next (path_of ran.command)) ≡ of ran.after.files) × KeepsIn of paths (path_of ran.command) places next
         × RunsOver next later
 
     -- commands that run over places are a run at the site of these paths
     runs_there : Pairs IsApart paths → (places : PlacesView) (rans : List (Ran A)) → AllIn paths rans →
-        RunsOver places rans → RunInTurn (site_of paths places) rans
+        RunsOver places rans → RunInTurn of (site_of of paths places) rans
     runs_there apart places [] all over = tt
     runs_there apart places (ran ∷ later) (is, all) (finds, next, leaves, keeps, rest) = (
       is.0,
-      at_in paths places is.0 (path_of ran.command) is.1 ∙ ap Some (at_same refl (sym finds)),
-      subst (λ (site : List At). RunInTurn site later)
-          (sym (set_in_site paths apart is.0 (path_of ran.command) is.1 places next ran.after.files leaves keeps))
+      at_in of paths places is.0 (path_of ran.command) is.1 ∙ ap Some (at_same refl (sym finds)),
+      subst (λ (site : List (At X)). RunInTurn of site later)
+          (sym (set_in_site of paths apart is.0 (path_of ran.command) is.1 places next (of ran.after.files) leaves keeps))
           (runs_there apart next later all rest),
     )
 
     -- places that are the same at these paths have the same runs
     agree : (old new : PlacesView) (rans : List (Ran A)) → AllIn paths rans →
-        ((other : List ℕ) → IsIn paths other → new other ≡ old other) → RunsOver new rans → RunsOver old rans
+        ((other : List ℕ) → IsIn paths other → of (new other) ≡ of (old other)) → RunsOver new rans → RunsOver old rans
     agree old new [] all same over = tt
     agree old new (ran ∷ later) (is, all) same (finds, next, leaves, keeps, rest) = (
       finds ∙ same (path_of ran.command) is,
@@ -212,10 +216,10 @@ module _ (A : Type 0) where
         RunsOver old (if_named named ran ++ rans)
     over_at None ran old new is same rans over = subst (λ (p : PlacesView). RunsOver p rans) same over
     over_at (Some path) ran old new is (finds, leaves, keeps) rans over = (
-      finds ∙ ap old is,
+      ap of (finds ∙ ap old is),
       new,
-      ap new (sym is) ∙ leaves,
-      λ other there apart. keeps other (λ same. apart (sym (same ∙ is))),
+      ap of (ap new (sym is) ∙ leaves),
+      λ other there apart. ap of (keeps other (λ same. apart (sym (same ∙ is)))),
       over,
     )
 
@@ -226,8 +230,8 @@ module _ (A : Type 0) where
         over_at (named_path command) (ran_at to.does) old.places to.done.places refl to.does.is_at rans (elim to.saves [
           | inl kept ↦ subst (λ (s : SystemView). RunsOver s.places rans) kept.2 over
           | inr (zero_is, saves) ↦ agree to.done.places new.places rans all
-              (λ other is. others_stay path _ _ _ _ saves.saves other
-              (λ same. found (λ (p : List ℕ). path ≢ p) paths saved is.0 other is.1 (sym same))) over
+              (λ other is. ap of (others_stay path _ _ _ _ saves.saves other
+              (λ same. found (λ (p : List ℕ). path ≢ p) paths saved is.0 other is.1 (sym same)))) over
         ])
 
     over_one : (what : Given) (from id : Bor (List ℕ)) (path : List ℕ) (old new : SystemView) (status : ℕ)
@@ -281,7 +285,7 @@ module _ (A : Type 0) where
 
     over_lines : (IsOurs : List ℕ → Type 0) → ((path : List ℕ) → IsIn paths path → IsOurs path) →
         (lines : List (LineRan A)) (places : PlacesView) → AllIn paths (all_commands lines) →
-        AllByRecursion (λ line. AllByRecursion (IsNone paths) (saved_as line.runs)) lines → Follow IsOurs places lines →
+        AllByRecursion (λ line. AllByRecursion (IsNone paths) (saved_as line.runs)) lines → Follow of IsOurs places lines →
         RunsOver places (all_commands lines)
     over_lines IsOurs ours [] places all saved follow = tt
     over_lines IsOurs ours (line ∷ later) places all saved (same, follow) =
@@ -290,13 +294,28 @@ module _ (A : Type 0) where
         (over_line line.inputs line.words line.before line.after line.status line.runs (all_commands later)
         all saved.0 (over_lines IsOurs ours later line.after.places rest saved.1 follow))
 
+  -- the lines over the paths that they name
+  module _ {X : Type 0} (of : DeskFiles → SavedIn X) (lines : List (LineRan A)) (ask : LinesAsk lines) (places : PlacesView)
+      (follow : Follow of (IsNamedBy lines) places lines) where
+    abbrev paths_of : List (List ℕ)
+    paths_of = (covers (all_commands lines)).paths
+
+    run_there : RunInTurn of (site_of of paths_of places) (all_commands lines)
+    run_there = let c = covers (all_commands lines) in
+        runs_there of c.paths c.apart places (all_commands lines) c.all (over_lines of c.paths (IsNamedBy lines)
+        (is_path (all_commands lines) c) lines places c.all
+        (all_so _ _ lines (λ line apart. all_so _ _ (saved_as line.runs) c.no_other apart) ask.saved_apart) follow)
+
+    new_there : (none : X) → ((path : List ℕ) → IsNamedBy lines path → IsBlank none (of (places path))) →
+        IsNew none (site_of of paths_of places)
+    new_there none blank = let c = covers (all_commands lines) in
+        new_site of none places c.paths c.apart (λ path is. blank path (is_path (all_commands lines) c path is))
+
   asks : (lines : List (LineRan A)) (ask : LinesAsk lines) →
-      MeetsPremises (site_of (covers (all_commands lines)).paths ask.places) (all_commands lines)
-  asks lines ask = let c = covers (all_commands lines) in record {
-    is_new = new_site ask.places c.paths c.apart (λ path is. ask.is_new path (is_path (all_commands lines) c path is));
-    runs = runs_there c.paths c.apart ask.places (all_commands lines) c.all (over_lines c.paths (IsNamedBy lines)
-        (is_path (all_commands lines) c) lines ask.places c.all
-        (all_so _ _ lines (λ line apart. all_so _ _ (saved_as line.runs) c.no_other apart) ask.saved_apart) ask.follow);
+      MeetsPremises (site_of store_of (covers (all_commands lines)).paths ask.places) (all_commands lines)
+  asks lines ask = record {
+    is_new = new_there store_of lines ask ask.places ask.follow None ask.is_new;
+    runs = run_there store_of lines ask ask.places ask.follow;
     apart = ask.apart;
     tickets = ask.tickets;
   }
@@ -306,6 +325,11 @@ module _ (A : Type 0) where
 
   pub what_lines_deliver_was_printed : WhatLinesDeliverWasPrinted A
   what_lines_deliver_was_printed among lines ask = what_is_delivered_was_printed A among _ (all_commands lines) (asks lines ask)
+
+  pub what_lines_run_in_turn_find_what_was_left : WhatLinesRunInTurnFindWhatWasLeft A
+  what_lines_run_in_turn_find_what_was_left among places lines ask takes blank follow =
+      what_runs_in_turn_finds_what_was_left A among _ _ (all_commands lines) (asks lines ask) takes
+      (new_there set_of lines ask places follow finite.empty blank) (run_there set_of lines ask places follow)
 
   module _ (law : (size : Size) → CarriesItsWords size) where
     pub each_id_of_lines_has_one_document : EachIdOfLinesHasOneDocument A

@@ -145,10 +145,10 @@ module _ {A : Type 0} where
 
 module _ (A : Type 0) (law : (size : Size) → CarriesItsWords size) where
   pub what_lines_let_out_is_the_document : WhatLinesLetOutIsTheDocument A
-  what_lines_let_out_is_the_document among before after line ask takes =
+  what_lines_let_out_is_the_document among before after line ask vouched =
       let lines : List (LineRan A) = before ++ line ∷ after in
       let are : all_commands lines ≡ all_commands before ++ all_commands (line ∷ after) = commands_more before (line ∷ after) in
-      let delivers = what_lines_deliver_was_printed A among lines ask takes in
+      let delivers = what_lines_deliver_was_printed A among lines ask vouched in
       by_runs A (λ path. IsTrue (among path)) (all_commands before) (IsDocumentOf (all_commands before) (all_commands lines))
       (λ id text document is printed. record {
         id = id;

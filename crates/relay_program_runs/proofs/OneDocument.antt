@@ -230,10 +230,10 @@ module _ (A : Type 0) (rans : List (Ran A)) (one : HaveOneDocument rans) where
   )
 
 pub what_is_delivered_is_the_document : (A : Type 0) → ((size : Size) → CarriesItsWords size) → WhatIsDeliveredIsTheDocument A
-what_is_delivered_is_the_document A law among site rans asks takes =
+what_is_delivered_is_the_document A law among site rans asks vouched =
     each_so (DeliversPrinted (λ path. IsTrue (among path))) (DeliversTheDocument (λ path. IsTrue (among path)) rans) rans [] rans
     refl (λ before after ran are delivers. by (text_of ran.command) before after ran are delivers)
-    (what_is_delivered_was_printed A among site rans asks takes)
+    (what_is_delivered_was_printed A among site rans asks vouched)
   where
     by : (o : Option (List ℕ)) (before after : List (Ran A)) (ran : Ran A) → rans ≡ before ++ ran ∷ after →
         IfSome o (λ text. IsTrue (among (path_of ran.command)) → WritesPrinted before text ran) →

@@ -20,7 +20,7 @@ use Rattle.relay_runs.specs.Runs.{FollowsRun, IsOfJob, KeepsLedger, grids_in, gr
 use Rattle.relay_runs.proofs.Places.{set_there}
 use Rattle.relay_printer_commands.specs.Printers.{images_of}
 use Rattle.relay_streams.specs.Streams.{AppendsPart}
-use Rattle.relay_program_runs.specs.Law.{At, Halts, IsBlank, IsFirstOfItsId, IsOnePart, PrintsUnder, Ran, SomeRan, all_made, at_its_path, cut_short, exited, passed, passed_at}
+use Rattle.relay_program_runs.specs.Law.{Halts, IsBlank, IsFirstOfItsId, IsOnePart, PrintsUnder, Ran, SomeRan, StoreAt, all_made, at_its_path, cut_short, exited, passed, passed_at}
 use Rattle.relay_program_runs.specs.Passed.{Made, made_by}
 use Rattle.relay_program_runs.proofs.Effects.{Effect, HoldsSo, Taken, effect, follows, idle, makes, out_of, unmade}
 use Rattle.relay_program_runs.proofs.Lists.{at_length, before_or_now, made_more, one_before, one_now}
@@ -47,14 +47,14 @@ abbrev pub LeftAs : Relay → GridView → Type 0
 LeftAs relay grid = (number : ℕ) × (label : Label) × (slice_get relay.labels number ≡ Some label) × (label.grid ≡ grid)
 
 -- which printer's ledger each store holds, if any, and that a run of the machine led there
-pub record Stands (A : Type 0) (ranges : List Range) (earlier : List (Ran A)) (site : List At) : Type 0 where
+pub record Stands (A : Type 0) (ranges : List Range) (earlier : List (Ran A)) (site : List StoreAt) : Type 0 where
   pub moments : List (Moment A)
   pub relay : Relay
   pub run : IsRun (start ranges []) moments relay
   pub numbers : List (Option ℕ)
   pub count : length site ≡ length numbers
-  pub each : (place : ℕ) (at : At) (o : Option ℕ) → slice_get site place ≡ Some at → slice_get numbers place ≡ Some o →
-      HoldsSo relay at.files.joint o
+  pub each : (place : ℕ) (at : StoreAt) (o : Option ℕ) → slice_get site place ≡ Some at → slice_get numbers place ≡ Some o →
+      HoldsSo relay at.saved o
   pub once : (p q number : ℕ) → slice_get numbers p ≡ Some (Some number) → slice_get numbers q ≡ Some (Some number) → p ≡ q
   pub fresh : (number : ℕ) (range : Range) → slice_get ranges number ≡ Some range →
       ((p : ℕ) → slice_get numbers p ≡ Some (Some number) → ⊥) →
@@ -104,21 +104,21 @@ get_fresh from (suc i) (one ∷ ranges) range there =
     let number : from + 1 + i ≡ from + suc i = omega arith in
     get_fresh (from + 1) i ranges range there ∙ ap (λ (n : ℕ). Some (Running (opening n range))) number
 
-none_at : (site : List At) (p : ℕ) (o : Option ℕ) →
-    slice_get (map (λ (at : At). let o : Option ℕ = None in o) site) p ≡ Some o → o ≡ None
-none_at site p o there = sym (get_map_from (λ (at : At). let o : Option ℕ = None in o) site p o there).2
+none_at : (site : List StoreAt) (p : ℕ) (o : Option ℕ) →
+    slice_get (map (λ (at : StoreAt). let o : Option ℕ = None in o) site) p ≡ Some o → o ≡ None
+none_at site p o there = sym (get_map_from (λ (at : StoreAt). let o : Option ℕ = None in o) site p o there).2
 
-pub begun : (A : Type 0) (ranges : List Range) (site : List At) →
-    ((place : ℕ) (at : At) → slice_get site place ≡ Some at → IsBlank at) → Stands A ranges [] site
+pub begun : (A : Type 0) (ranges : List Range) (site : List StoreAt) →
+    ((place : ℕ) (at : StoreAt) → slice_get site place ≡ Some at → IsBlank None at.saved) → Stands A ranges [] site
 begun A ranges site blank = record {
   moments = [];
   relay = start ranges [];
   run = refl;
-  numbers = map (λ (at : At). None) site;
-  count = sym (length-map site (λ (at : At). let o : Option ℕ = None in o));
+  numbers = map (λ (at : StoreAt). None) site;
+  count = sym (length-map site (λ (at : StoreAt). let o : Option ℕ = None in o));
   each = λ place at o there is.
       let b = blank place at there in
-      subst (HoldsSo (start ranges []) at.files.joint) (sym (none_at site place o is)) (b.store_honest, b.store);
+      subst (HoldsSo (start ranges []) at.saved) (sym (none_at site place o is)) (b.honest, b.empty);
   once = λ p q number a b. absurd (let none = none_at site p (Some number) a in cc (none));
   fresh = λ number range there none.
       get_fresh 0 number ranges range there
@@ -167,7 +167,7 @@ out_at A command {inputs} before after (cut_short status does) job is =
 
 -- what is so once it ran: more labels may have left
 pub record OneMore (A : Type 0) (ranges : List Range) (earlier : List (Ran A)) (relay : Relay) (ran : Ran A)
-    (next : List At) : Type 0 where
+    (next : List StoreAt) : Type 0 where
   pub stands : Stands A ranges (earlier ++ ran ∷ []) next
   pub first : IsFirstOfItsId earlier ran
   pub more : List Label
@@ -183,22 +183,22 @@ no_first earlier ran none = by (passed ran).printed none
 
 -- ---- once it ran
 
-module _ (A : Type 0) (ranges : List Range) (earlier : List (Ran A)) (site : List At) (s : Stands A ranges earlier site)
-    (ran : Ran A) (place : ℕ) (found : slice_get site place ≡ Some (at_its_path ran ran.before.files)) where
+module _ (A : Type 0) (ranges : List Range) (earlier : List (Ran A)) (site : List StoreAt) (s : Stands A ranges earlier site)
+    (ran : Ran A) (place : ℕ) (found : slice_get site place ≡ Some (at_its_path ran ran.before.files.joint)) where
   abbrev now : List (Ran A)
   now = earlier ++ ran ∷ []
 
-  abbrev next : List At
-  next = slice_set site place (at_its_path ran ran.after.files)
+  abbrev next : List StoreAt
+  next = slice_set site place (at_its_path ran ran.after.files.joint)
 
   pub its_number : (o : Option ℕ) × (slice_get s.numbers place ≡ Some o)
-  its_number = let its = at_place site s.numbers place (at_its_path ran ran.before.files) s.count found in (its.0, its.1)
+  its_number = let its = at_place site s.numbers place (at_its_path ran ran.before.files.joint) s.count found in (its.0, its.1)
 
   pub holds : HoldsSo s.relay ran.before.files.joint its_number.0
-  holds = s.each place (at_its_path ran ran.before.files) its_number.0 found its_number.1
+  holds = s.each place (at_its_path ran ran.before.files.joint) its_number.0 found its_number.1
 
   as_many : length next ≡ length s.numbers
-  as_many = length-set site place (at_its_path ran ran.after.files) ∙ s.count
+  as_many = length-set site place (at_its_path ran ran.after.files.joint) ∙ s.count
 
   made_now : (number : ℕ) → WasMade (all_made earlier) number → WasMade (all_made now) number
   made_now number (i, one, there, is) = (
@@ -212,8 +212,8 @@ module _ (A : Type 0) (ranges : List Range) (earlier : List (Ran A)) (site : Lis
   module _ (no_job : (passed ran).printed ≡ None) (no_ticket : (passed ran).given ≡ None) where
     -- these stores hold ledgers of these numbers
     stays : (numbers : List (Option ℕ)) → length next ≡ length numbers →
-        ((place : ℕ) (at : At) (o : Option ℕ) → slice_get next place ≡ Some at → slice_get numbers place ≡ Some o →
-        HoldsSo s.relay at.files.joint o) →
+        ((place : ℕ) (at : StoreAt) (o : Option ℕ) → slice_get next place ≡ Some at → slice_get numbers place ≡ Some o →
+        HoldsSo s.relay at.saved o) →
         ((p q number : ℕ) → slice_get numbers p ≡ Some (Some number) → slice_get numbers q ≡ Some (Some number) → p ≡ q) →
         ((number : ℕ) (range : Range) → slice_get ranges number ≡ Some range →
         ((p : ℕ) → slice_get numbers p ≡ Some (Some number) → ⊥) →
@@ -248,10 +248,10 @@ module _ (A : Type 0) (ranges : List Range) (earlier : List (Ran A)) (site : Lis
     -- the store holds what it did, or as good as
     still_holds : HoldsSo s.relay ran.after.files.joint its_number.0 → Stands A ranges now next
     still_holds here = stays s.numbers as_many
-        (λ p at o there is. elim (set_at site place p (at_its_path ran ran.after.files) at there) [
+        (λ p at o there is. elim (set_at site place p (at_its_path ran ran.after.files.joint) at there) [
           | inl same ↦
               let o_is : its_number.0 ≡ o = cc (its_number.1, is, same.0) in
-              subst (λ (a : At). HoldsSo s.relay a.files.joint o) same.1
+              subst (λ (a : StoreAt). HoldsSo s.relay a.saved o) same.1
               (subst (HoldsSo s.relay ran.after.files.joint) o_is here)
           | inr other ↦ s.each p at o other.1 is
         ])
@@ -287,11 +287,11 @@ module _ (A : Type 0) (ranges : List Range) (earlier : List (Ran A)) (site : Lis
 
       makes_one : Stands A ranges now next
       makes_one = stays numbered (as_many ∙ sym (length-set s.numbers place (Some number)))
-          (λ p at o there is. elim (set_at site place p (at_its_path ran ran.after.files) at there) [
+          (λ p at o there is. elim (set_at site place p (at_its_path ran ran.after.files.joint) at there) [
             | inl same ↦
                 let here = set_there s.numbers place its_number.0 (Some number) its_number.1 in
                 let o_is : Some number ≡ o = cc (here, is, same.0) in
-                subst (λ (a : At). HoldsSo s.relay a.files.joint o) same.1 (subst (HoldsSo s.relay ran.after.files.joint) o_is
+                subst (λ (a : StoreAt). HoldsSo s.relay a.saved o) same.1 (subst (HoldsSo s.relay ran.after.files.joint) o_is
                 (Running (opening number range), s.fresh number range in_ranges first, keeps))
             | inr other ↦ s.each p at o other.1
                 (sym (other_there s.numbers place p (Some number) (λ e. other.0 (sym e))) ∙ is)
@@ -432,12 +432,12 @@ module _ (A : Type 0) (ranges : List Range) (earlier : List (Ran A)) (site : Lis
       run = whole;
       numbers = s.numbers;
       count = as_many;
-      each = λ p at o there is. elim (set_at site place p (at_its_path ran ran.after.files) at there) [
+      each = λ p at o there is. elim (set_at site place p (at_its_path ran ran.after.files.joint) at there) [
         | inl same ↦
             let o_is : Some number ≡ o = cc (its_number.1, is, same.0, is_number) in
-            subst (λ (a : At). HoldsSo f.after a.files.joint o) same.1 (subst (HoldsSo f.after ran.after.files.joint) o_is
+            subst (λ (a : StoreAt). HoldsSo f.after a.saved o) same.1 (subst (HoldsSo f.after ran.after.files.joint) o_is
             (f.runs.actor, f.runs.there, f.runs.keeps))
-        | inr other ↦ still_elsewhere p at.files.joint o (λ e. other.0 e) is (s.each p at o other.1 is)
+        | inr other ↦ still_elsewhere p at.saved o (λ e. other.0 e) is (s.each p at o other.1 is)
       ];
       once = s.once;
       fresh = λ other range there unmade. other_printer other (λ e. unmade place (cc (its_number.1, is_number, e)))

@@ -1,17 +1,19 @@
 -- Lists of commands, each at its place of a site: that the site is new, that they ran one after another, and which
 -- ledgers they made.
-use Rattle.std.proofs.Common.{◌≡◌, ◌≢◌, ◌≤◌, ◌<◌, ◌+◌, ◌++◌, ℕ, zero, suc, List, [], ◌∷◌, Option, Some, slice_get, slice_set, refl, sym, ap, subst, ◌∙◌, arith}
+use Rattle.std.proofs.Common.{◌≡◌, ◌≢◌, ◌≤◌, ◌<◌, ◌+◌, ◌++◌, ℕ, zero, suc, List, [], ◌∷◌, None, Option, Some, slice_get, slice_set, refl, sym, ap, subst, ◌∙◌, arith}
 use Rattle.std.specs.{Prelude.AllPairs, Prelude.IfSome, Prelude.IsSomeAnd, List.AllByRecursion}
 use Rattle.std.proofs.lemmas.Option.{slice_get-get_or}
-use Rattle.dm_store.specs.Saved.{with_open_plans, Saved, SavedSet}
+use Rattle.std.specs.FinMap as finite
+use Rattle.dm_store.specs.Saved.{with_open_plans, Contents, Saved, SavedIn, SavedSet}
 use Rattle.dm_print_ledger.specs.Ledger.{JobView, TicketView}
 use Rattle.relay_command.specs.declared.command.Command.{Command}
 use Rattle.relay_shared.specs.Files.{DeskFiles}
 use Rattle.relay.specs.Program.{path_of}
 use Rattle.relay_program_runs.specs.Passed.{Made}
-use Rattle.relay_program_runs.specs.Law.{At, Each, IsBlank, IsFirstOfItsId, IsNew, Ran, RunInTurn, SomeRan, TakesGiven, all_made, cut_short, exited, passed}
+use Rattle.relay_program_runs.specs.Law.{At, Each, IsBlank, IsFirstOfItsId, IsNew, Ran, RunInTurn, SomeRan, StoreAt, TakesGiven, all_made, cut_short, exited, passed, store_of}
+use Rattle.relay_program_runs.specs.InTurn.{set_of}
 use Rattle.relay_program_runs.proofs.Lists.{all_so}
-use Rattle.relay_program_runs.specs.Worked.{Breaks, IsDone, two_files, given, no_files}
+use Rattle.relay_program_runs.specs.Worked.{BothInTurn, Breaks, IsDone, two_files, given, no_files}
 
 -- ---- lists
 
@@ -37,44 +39,68 @@ pairs_so R (x ∷ xs) all (suc i) (suc j) d below within = pairs_so R xs all.1 i
 
 -- ---- sites
 
-abbrev pub there : List ℕ → DeskFiles → At
-there path files = record { path = path; files = files }
+module _ {X : Type 0} where
+  abbrev pub there : List ℕ → SavedIn X → At X
+  there path saved = record { path = path; saved = saved }
 
-pub at_same : {p q : List ℕ} {x y : DeskFiles} → p ≡ q → x ≡ y → there p x ≡ there q y
-at_same path files = λ i. record { path = path i; files = files i }
+  pub at_same : {p q : List ℕ} {x y : SavedIn X} → p ≡ q → x ≡ y → there p x ≡ there q y
+  at_same path saved = λ i. record { path = path i; saved = saved i }
 
 abbrev pub first_byte : List ℕ → ℕ
 first_byte [] = 0
 first_byte (x ∷ xs) = x
 
 -- each path begins with a greater byte than the one before
-abbrev pub Rise : ℕ → List At → Type 0
+abbrev pub Rise : ℕ → List (List ℕ) → Type 0
 Rise from [] = Unit {0}
-Rise from (at ∷ site) = (from ≤ first_byte at.path) × Rise (first_byte at.path + 1) site
+Rise from (path ∷ paths) = (from ≤ first_byte path) × Rise (first_byte path + 1) paths
 
-above : (m from : ℕ) (site : List At) → m < from → Rise from site → AllByRecursion (λ at. m < first_byte at.path) site
-above m from [] below rise = tt
-above m from (at ∷ site) below (first, rest) =
-    (omega arith, above m (first_byte at.path + 1) site (omega arith) rest)
+-- at each of these paths is the same
+abbrev pub all_at : {X : Type 0} → SavedIn X → List (List ℕ) → List (At X)
+all_at saved [] = []
+all_at saved (path ∷ paths) = there path saved ∷ all_at saved paths
 
-abbrev PathsApart : At → At → Type 0
-PathsApart one other = one.path ≢ other.path
+module _ {X : Type 0} (saved : SavedIn X) where
+  above : (m from : ℕ) (paths : List (List ℕ)) → m < from → Rise from paths →
+      AllByRecursion (λ (at : At X). m < first_byte at.path) (all_at saved paths)
+  above m from [] below rise = tt
+  above m from (path ∷ paths) below (first, rest) =
+      (omega arith, above m (first_byte path + 1) paths (omega arith) rest)
 
-paths_apart : (from : ℕ) (site : List At) → Rise from site → Pairs PathsApart site
-paths_apart from [] rise = tt
-paths_apart from (at ∷ site) (first, rest) = (
-  all_so (λ other. first_byte at.path < first_byte other.path) (PathsApart at) site
-      (λ other below same. omega (arith, below, ap first_byte same))
-      (above (first_byte at.path) (first_byte at.path + 1) site (omega arith) rest),
-  paths_apart (first_byte at.path + 1) site rest,
-)
+  abbrev PathsApart : At X → At X → Type 0
+  PathsApart one other = one.path ≢ other.path
 
-pub new : (site : List At) → Rise 0 site → AllByRecursion IsBlank site → IsNew site
-new site rise blank =
-    record { paths = pairs_so PathsApart site (paths_apart 0 site rise); blank = found IsBlank site blank }
+  paths_apart : (from : ℕ) (paths : List (List ℕ)) → Rise from paths → Pairs PathsApart (all_at saved paths)
+  paths_apart from [] rise = tt
+  paths_apart from (path ∷ paths) (first, rest) = (
+    all_so (λ (other : At X). first_byte path < first_byte other.path) (PathsApart (there path saved)) (all_at saved paths)
+        (λ other below same. omega (arith, below, ap first_byte same))
+        (above (first_byte path) (first_byte path + 1) paths (omega arith) rest),
+    paths_apart (first_byte path + 1) paths rest,
+  )
 
-pub blank : {path : List ℕ} → IsBlank (there path no_files)
-blank = record { store_honest = refl; store = refl; set_honest = refl; set = refl }
+  all_blank : (none : X) → IsBlank none saved → (paths : List (List ℕ)) →
+      AllByRecursion (λ (at : At X). IsBlank none at.saved) (all_at saved paths)
+  all_blank none is [] = tt
+  all_blank none is (path ∷ paths) = (is, all_blank none is paths)
+
+  pub new : (none : X) → IsBlank none saved → (paths : List (List ℕ)) → Rise 0 paths → IsNew none (all_at saved paths)
+  new none is paths rise = record {
+    paths = pairs_so PathsApart (all_at saved paths) (paths_apart 0 paths rise);
+    blank = found (λ (at : At X). IsBlank none at.saved) (all_at saved paths) (all_blank none is paths);
+  }
+
+abbrev pub no_stores : List (List ℕ) → List StoreAt
+no_stores paths = all_at no_files.joint paths
+
+abbrev pub no_sets : List (List ℕ) → List (At Contents)
+no_sets paths = all_at no_files.set paths
+
+pub blank_store : IsBlank None no_files.joint
+blank_store = record { honest = refl; empty = refl }
+
+pub blank_set : IsBlank finite.empty no_files.set
+blank_set = record { honest = refl; empty = refl }
 
 -- ---- commands
 
@@ -118,19 +144,20 @@ rans_of [] = []
 rans_of (step ∷ steps) = step.did ∷ rans_of steps
 
 -- each found what is at its place
-abbrev pub Fit : {A : Type 0} → List At → List (Step A) → Type 0
-Fit site [] = Unit {0}
-Fit site (step ∷ steps) = (slice_get site step.place ≡ Some (there step.path step.did.before.files))
-    × Fit (slice_set site step.place (there step.path step.after)) steps
+abbrev pub Fit : {A X : Type 0} → (DeskFiles → SavedIn X) → List (At X) → List (Step A) → Type 0
+Fit of site [] = Unit {0}
+Fit of site (step ∷ steps) = (slice_get site step.place ≡ Some (there step.path (of step.did.before.files)))
+    × Fit of (slice_set site step.place (there step.path (of step.after))) steps
 
-pub run_so : {A : Type 0} (site : List At) (steps : List (Step A)) → Fit site steps → RunInTurn site (rans_of steps)
-run_so site [] fit = tt
-run_so site (step ∷ steps) (finds, rest) = (
+pub run_so : {A X : Type 0} (of : DeskFiles → SavedIn X) (site : List (At X)) (steps : List (Step A)) → Fit of site steps →
+    RunInTurn of site (rans_of steps)
+run_so of site [] fit = tt
+run_so {X = X} of site (step ∷ steps) (finds, rest) = (
   step.place,
   finds ∙ ap Some (at_same (sym step.named) refl),
-  subst (λ (at : At). RunInTurn (slice_set site step.place at) (rans_of steps))
-      (at_same (sym step.named) (sym step.leaves))
-      (run_so (slice_set site step.place (there step.path step.after)) steps rest),
+  subst (λ (at : At X). RunInTurn of (slice_set site step.place at) (rans_of steps))
+      (at_same (sym step.named) (sym (ap of step.leaves)))
+      (run_so of (slice_set site step.place (there step.path (of step.after))) steps rest),
 )
 
 pub and_made : {one : Made} {first more rest : List Made} → first ≡ one ∷ [] → more ≡ rest → first ++ more ≡ one ∷ rest
@@ -164,16 +191,29 @@ takes_given {A} earlier {giver} taker number at gives takes =
     (sym takes) (number, giver, at, gives)
 
 -- the list of these steps, which lacks a premise
-pub broken : {A : Type 0} (Apart : Made → Made → Type 0) (Takes So : List (Ran A) → Ran A → Type 0) (site : List At)
-    (steps : List (Step A)) → Rise 0 site → AllByRecursion IsBlank site → Fit site steps → (made : List Made) →
-    all_made (rans_of steps) ≡ made → Pairs Apart made → Each Takes [] (rans_of steps) →
-    (Each So [] (rans_of steps) → ⊥) → Breaks A RunInTurn Apart Takes So
-broken Apart Takes So site steps rise blank fit made are apart takes fails = record {
-  site = site;
+pub broken : {A : Type 0} (Run : List StoreAt → List (Ran A) → Type 0) (Apart : Made → Made → Type 0)
+    (Takes So : List (Ran A) → Ran A → Type 0) (paths : List (List ℕ)) (steps : List (Step A)) → Rise 0 paths →
+    Run (no_stores paths) (rans_of steps) → (made : List Made) → all_made (rans_of steps) ≡ made → Pairs Apart made →
+    Each Takes [] (rans_of steps) → (Each So [] (rans_of steps) → ⊥) → Breaks A Run Apart Takes So
+broken Run Apart Takes So paths steps rise runs made are apart takes fails = record {
+  site = no_stores paths;
   rans = rans_of steps;
-  is_new = new site rise blank;
-  runs = run_so site steps fit;
+  is_new = new no_files.joint None blank_store paths rise;
+  runs = runs;
   apart = subst (AllPairs Apart) (sym are) (pairs_so Apart made apart);
   tickets = takes;
   fails = fails;
 }
+
+pub stores_so : {A : Type 0} (paths : List (List ℕ)) (steps : List (Step A)) → Fit store_of (no_stores paths) steps →
+    RunInTurn store_of (no_stores paths) (rans_of steps)
+stores_so paths steps fit = run_so store_of (no_stores paths) steps fit
+
+pub sets_so : {A : Type 0} (paths : List (List ℕ)) (steps : List (Step A)) → Fit set_of (no_sets paths) steps →
+    RunInTurn set_of (no_sets paths) (rans_of steps)
+sets_so paths steps fit = run_so set_of (no_sets paths) steps fit
+
+pub both_so : {A : Type 0} (paths : List (List ℕ)) (steps : List (Step A)) → Rise 0 paths →
+    Fit store_of (no_stores paths) steps → Fit set_of (no_sets paths) steps → BothInTurn (no_stores paths) (rans_of steps)
+both_so paths steps rise stores sets =
+    (stores_so paths steps stores, no_sets paths, new no_files.set finite.empty blank_set paths rise, sets_so paths steps sets)

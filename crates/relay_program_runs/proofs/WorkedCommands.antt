@@ -1,7 +1,8 @@
 -- The premises of the laws, of the commands of the worked list.
-use Rattle.std.proofs.Common.{◌≡◌, ◌≤◌, ◌<◌, ◌++◌, inl, inr, ℕ, List, [], ◌∷◌, Option, Some, length, slice_get, refl, sym, ap, subst, ◌∙◌, arith}
+use Rattle.std.proofs.Common.{◌≡◌, ◌≤◌, ◌<◌, ◌++◌, inl, inr, ℕ, List, [], ◌∷◌, None, Option, Some, length, slice_get, refl, sym, ap, subst, ◌∙◌, arith}
 use Rattle.std.specs.Prelude.{AllPairs, IsSomeAnd, IsTrue, codes, is_some, true}
 use Rattle.std.specs.{Borrow.Bor, List.AllByRecursion}
+use Rattle.std.specs.FinMap as finite
 use Rattle.dm_gf256.proofs.OneBlockWord.{differ-self}
 use Rattle.dm_check_blocks.specs.Blocks.{block_of}
 use Rattle.dm_encodation.specs.declared.scheme.Scheme.TheVariants.{Ascii}
@@ -15,10 +16,10 @@ use Rattle.relay_shared.specs.Files.{DeskFiles}
 use Rattle.relay_runs.proofs.TicketTexts.{ten_ticket}
 use Rattle.relay_desk_runs.specs.Answered.{grids_scanned}
 use Rattle.relay.specs.Program.{path_of}
-use Rattle.relay_program_runs.specs.Law.{AreApart, MeetsPremises, At, Each, LeavesFile, LetsOut, Ran, SomeRan, TakesPrinted, passed}
+use Rattle.relay_program_runs.specs.Law.{AreApart, AreVouchedFor, MeetsPremises, Each, LeavesFile, LetsOut, Ran, SomeRan, TakesPrinted, passed}
 use Rattle.relay_program_runs.specs.Worked.{Delivers, IsDone, IsWorked, given, no_files}
-use Rattle.relay_program_runs.proofs.{Images.Is12, Images.scanned_so, Lists.all_so}
-use Rattle.relay_program_runs.proofs.Steps.{Step, also, and_made, blank, cut, exits, new, pairs_so, ran, rans_of, run_so, stops, takes_given, there}
+use Rattle.relay_program_runs.proofs.{Images.Is12, Images.scanned_so, Lists.all_so, Walk.what_runs_in_turn_finds_what_was_left}
+use Rattle.relay_program_runs.proofs.Steps.{Rise, Step, also, and_made, blank_set, blank_store, cut, exits, new, no_sets, no_stores, pairs_so, ran, rans_of, sets_so, stops, stores_so, takes_given}
 use Rattle.relay_program_runs.proofs.WorkedFacts.{IsIn, PrintedWell, copy_done, export_done, gave, import_of_all, its_made, keeps_fresh, one_made, print_done, took}
 
 near_itself : (grid : GridView) → IsNear grid grid
@@ -69,9 +70,8 @@ module _ {A : Type 0} {f1 f2 f3 f4 f5 f6 f7 f8 f9 f10 f11 f12 f13 f14 t i9 i10 i
     (n13 : f13.now ≡ codes "e") (n14 : f14.now ≡ codes "e")
     (text : IsTextOf t.now ten_ticket) (more : 0 < length o7) (short : length o10 ≤ 1000) (one : o9 ≡ codes "1234")
     (other : o14 ≡ codes "1234") where
-  abbrev site : List At
-  site = there (codes "a") no_files ∷ there (codes "b") no_files ∷ there (codes "d") no_files
-      ∷ there (codes "e") no_files ∷ []
+  abbrev paths : List (List ℕ)
+  paths = codes "a" ∷ codes "b" ∷ codes "d" ∷ codes "e" ∷ []
 
   abbrev steps : List (Step A)
   steps = exits 0 r1 n1 ∷ exits 1 r2 n2 ∷ exits 0 r3 n3 ∷ exits 1 r4 n4 ∷ exits 0 r5 n5 ∷ stops 0 r6 n6 ∷ exits 0 r7 n7
@@ -122,10 +122,13 @@ module _ {A : Type 0} {f1 f2 f3 f4 f5 f6 f7 f8 f9 f10 f11 f12 f13 f14 t i9 i10 i
   wrote : IsSomeAnd r7.after.streams.output.contents (λ bytes. 0 < length bytes)
   wrote = subst (λ (o : Option (List ℕ)). IsSomeAnd o (λ bytes. 0 < length bytes)) (sym r7.output_is) more
 
-  asks : MeetsPremises site (rans_of steps)
+  rise : Rise 0 paths
+  rise = (omega arith, (omega arith, (omega arith, (omega arith, tt))))
+
+  asks : MeetsPremises (no_stores paths) (rans_of steps)
   asks = record {
-    is_new = new site (omega arith, (omega arith, (omega arith, (omega arith, tt)))) (blank, (blank, (blank, (blank, tt))));
-    runs = run_so site steps (also refl (also refl (also refl (also refl (also refl (also refl (also refl (also refl
+    is_new = new no_files.joint None blank_store paths rise;
+    runs = stores_so paths steps (also refl (also refl (also refl (also refl (also refl (also refl (also refl (also refl
         (also refl (also refl (also refl (also refl (also refl (also refl tt))))))))))))));
     apart = subst (AllPairs AreApart) (sym (and_made (one_made r1) (and_made (one_made r2) refl))) apart;
     tickets = also tt (also tt (also tt (also (takes_given (ran r1 ∷ ran r2 ∷ ran r3 ∷ []) (ran r4) 2 refl
@@ -141,13 +144,19 @@ module _ {A : Type 0} {f1 f2 f3 f4 f5 f6 f7 f8 f9 f10 f11 f12 f13 f14 t i9 i10 i
       (also (record { scans = λ among. tt; imports = λ among. imports })
       (also (takes_none refl refl) tt)))))))))))))
 
+  vouched : AreVouchedFor IsAmong (rans_of steps)
+  vouched = what_runs_in_turn_finds_what_was_left A (λ path. true) (no_stores paths) (no_sets paths) (rans_of steps) asks
+      all_printed (new no_files.set finite.empty blank_set paths rise)
+      (sets_so paths steps (also refl (also refl (also refl (also refl (also refl (also refl (also refl (also refl
+      (also refl (also refl (also refl (also refl (also refl (also refl tt)))))))))))))))
+
   pub worked : IsWorked A o14
   worked = record {
-    site = site;
+    site = no_stores paths;
     rans = rans_of steps;
     count = refl;
     asks = asks;
-    printed = all_printed;
+    vouched = vouched;
     takes = (3, ran r4, refl, ap is_some (took ten_ticket text refl (keeps_fresh r2) r4).0);
     cut = (5, cut r6, refl, refl);
     lost = (6, ran r7, refl, (refl, wrote));
@@ -155,6 +164,6 @@ module _ {A : Type 0} {f1 f2 f3 f4 f5 f6 f7 f8 f9 f10 f11 f12 f13 f14 t i9 i10 i
     copies = (10, ran r11, refl, ap is_some copied.1);
     there = (13, ran r14, refl, delivered r14 n14 refl);
     written_is = other;
-    once = λ law. law site (rans_of steps) asks;
-    delivered = λ law. law (λ path. true) site (rans_of steps) asks all_printed;
+    once = λ law. law (no_stores paths) (rans_of steps) asks;
+    delivered = λ law. law (λ path. true) (no_stores paths) (rans_of steps) asks vouched;
   }

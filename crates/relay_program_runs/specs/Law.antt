@@ -2,8 +2,9 @@
 -- what is delivered is the one document printed under its ID. None says that any command succeeds.
 --
 -- The stores and sets are honest: each holds what was last saved or, after a save that failed, that or what it held
--- before. Files on a disk that keeps its promise are such stores; that a system's disk keeps it is trusted. Each
--- command has what is at its path to itself until it ends: nothing is said of two commands at one path at once.
+-- before. Files on a disk that keeps its promise are such; that a system's disk keeps it is trusted. A command has the
+-- store at its path to itself. Others may run beside it at the set there. What it had left there at some moment is what
+-- it would have left, had it been cut short then: so it stands in the list once more, cut short, before them.
 use Rattle.std.specs.Prelude.{◌≡◌, ◌≢◌, ◌+◌, ◌++◌, ◌∷◌, ◌⊎◌, ℕ, length, AllPairs, Bool, IfSome, IsSomeAnd, IsTrue, List, [], None, Option, Some, slice_get, slice_set}
 use Rattle.std.specs.{List.AllByRecursion, Io.KnownBytes.Appends}
 use Rattle.std.specs.FinMap as finite
@@ -12,13 +13,13 @@ use Rattle.dm_symbol.specs.Correction.{IsNear}
 use Rattle.dm_size.specs.declared.size.Size.{Size}
 use Rattle.dm_encodation.specs.declared.scheme.Scheme.{Scheme}
 use Rattle.dm_append_label.specs.Labels.{AreParts, Carries, PageView}
+use Rattle.dm_store.specs.Saved.{Saved, SavedIn}
 use Rattle.dm_print_ledger.specs.Ledger.{JobView}
 use Rattle.dm_event_history.specs.Headline.{IsApart}
 use Rattle.relay_command.specs.declared.command.Command.{Command}
 use Rattle.relay_streams.specs.Streams.{AppendsPart, InputView, OutputView}
-use Rattle.relay_shared.specs.Command.{FileView, ReadsDocument}
+use Rattle.relay_shared.specs.{Command.FileView, Command.ReadsDocument, Files.DeskFiles}
 use Rattle.relay_printer_commands.specs.Printers.{images_of}
-use Rattle.relay_shared.specs.Files.{DeskFiles}
 use Rattle.relay_desk_commands.specs.Desks.{IsTextOfId, OnDesk}
 use Rattle.relay.specs.Program.{Does, path_of}
 use Rattle.relay_program_runs.specs.Passed.{Made, Passed, made_by, passed_by, text_of}
@@ -26,8 +27,8 @@ use Rattle.relay_program_runs.specs.Passed.{Made, Passed, made_by, passed_by, te
 -- ---- commands that ran
 
 -- A command exited with this status. Or the machine cut it short: then it left what its clause allows if, from some
--- point on, each call and each write fails, and nobody saw its status. If a save failed and the machine stopped before
--- the file was read again, the command counts as cut short, since the stop may have undone the save.
+-- point on, each call and each write fails, and nobody saw its status. If its save to a store failed, and a stop of the
+-- machine undid that before another command read the file, it counts as cut short.
 pub data Halts (A : Type 0) (command : Command) (inputs : List FileView) (before after : OnDesk) : Type 0 where
   exited : (status : ℕ) → Does A command inputs before status after → Halts A command inputs before after
   cut_short : (status : ℕ) → Does A command inputs before status after → Halts A command inputs before after
@@ -60,32 +61,36 @@ passed ran = passed_at ran.ends
 
 -- ---- a site
 
--- what is at a path: a store, and a set beside it
-pub record At : Type 0 where
+-- a store at a path, or the set beside it
+pub record At (X : Type 0) : Type 0 where
   pub path : List ℕ
-  pub files : DeskFiles
+  pub saved : SavedIn X
 
--- they are honest, and hold nothing
-pub record IsBlank (at : At) : Type 0 where
-  pub store_honest : IsTrue at.files.joint.is_honest
-  pub store : at.files.joint.content ≡ None
-  pub set_honest : IsTrue at.files.set.is_honest
-  pub set : at.files.set.content ≡ finite.empty
+abbrev pub store_of : DeskFiles → Saved
+store_of files = files.joint
+
+abbrev pub StoreAt : Type 0
+StoreAt = At (Option (List ℕ))
+
+-- it is honest, and holds nothing
+pub record IsBlank {X : Type 0} (none : X) (saved : SavedIn X) : Type 0 where
+  pub honest : IsTrue saved.is_honest
+  pub empty : saved.content ≡ none
 
 -- no path is there twice, and there is nothing at any of them
-pub record IsNew (site : List At) : Type 0 where
+pub record IsNew {X : Type 0} (none : X) (site : List (At X)) : Type 0 where
   pub paths : AllPairs (λ one other. one.path ≢ other.path) site
-  pub blank : (place : ℕ) (at : At) → slice_get site place ≡ Some at → IsBlank at
+  pub blank : (place : ℕ) (at : At X) → slice_get site place ≡ Some at → IsBlank none at.saved
 
-abbrev pub at_its_path : {A : Type 0} → Ran A → DeskFiles → At
-at_its_path ran files = record { path = path_of ran.command; files = files }
+abbrev pub at_its_path : {A X : Type 0} → Ran A → SavedIn X → At X
+at_its_path ran saved = record { path = path_of ran.command; saved = saved }
 
--- The commands ran one after another, the oldest first. Each found at its path what the site has there, and what it
--- left is there from then on; nothing else changes it.
-abbrev pub RunInTurn : {A : Type 0} → List At → List (Ran A) → Type 0
-RunInTurn site [] = Unit {0}
-RunInTurn site (ran ∷ later) = (place : ℕ) × (slice_get site place ≡ Some (at_its_path ran ran.before.files))
-    × RunInTurn (slice_set site place (at_its_path ran ran.after.files)) later
+-- The commands ran one after another, the oldest first. Of its files each found, as its store or as its set, what the
+-- site has at its path, and what it left is there from then on; nothing else changes it.
+abbrev pub RunInTurn : {A X : Type 0} → (DeskFiles → SavedIn X) → List (At X) → List (Ran A) → Type 0
+RunInTurn of site [] = Unit {0}
+RunInTurn of site (ran ∷ later) = (place : ℕ) × (slice_get site place ≡ Some (at_its_path ran (of ran.before.files)))
+    × RunInTurn of (slice_set site place (at_its_path ran (of ran.after.files))) later
 
 -- this holds of each of them and of those that ran before it
 abbrev pub Each : {A : Type 0} → (List (Ran A) → Ran A → Type 0) → List (Ran A) → List (Ran A) → Type 0
@@ -115,10 +120,13 @@ abbrev pub LetsOut : {A : Type 0} → (List ℕ → Type 0) → GridView → Ran
 LetsOut IsAmong grid ran = IsSomeAnd (passed ran).printed (λ job. (i : ℕ) × (slice_get job.labels i ≡ Some grid))
     ⊎ (((passed ran).copied ≡ Some grid) × IsAmong (path_of ran.command))
 
--- it exported these bytes, or left them as the file of a document in the folder at its path
+-- it left these bytes as the file with this key in the folder at its path
+abbrev pub LeavesAs : {A : Type 0} → ℕ → List ℕ → Ran A → Type 0
+LeavesAs key bytes ran = finite.get ran.after.files.set.content key ≡ Some bytes
+
+-- it exported these bytes, or left them as a file in that folder
 abbrev pub LeavesFile : {A : Type 0} → List ℕ → Ran A → Type 0
-LeavesFile bytes ran = ((passed ran).exported ≡ Some bytes)
-    ⊎ ((key : ℕ) × (finite.get ran.after.files.set.content key ≡ Some bytes))
+LeavesFile bytes ran = ((passed ran).exported ≡ Some bytes) ⊎ ((key : ℕ) × LeavesAs key bytes ran)
 
 -- At one of these paths it took in only grids near such labels, and files that were left before at one of these paths.
 pub record TakesPrinted {A : Type 0} (IsAmong : List ℕ → Type 0) (earlier : List (Ran A)) (ran : Ran A) : Type 0 where
@@ -126,6 +134,14 @@ pub record TakesPrinted {A : Type 0} (IsAmong : List ℕ → Type 0) (earlier : 
       × SomeRan (LetsOut IsAmong own) earlier) (passed ran).scanned
   pub imports : IsAmong (path_of ran.command) → AllByRecursion (λ bytes.
       SomeRan (λ other. LeavesFile bytes other × IsAmong (path_of other.command)) earlier) (passed ran).imported
+
+-- The set that it found at one of these paths is honest. Each file in it was left before at one of these paths, under
+-- the same key; so some may be of an older moment than others, and some may be gone.
+pub record FindsLeft {A : Type 0} (IsAmong : List ℕ → Type 0) (earlier : List (Ran A)) (ran : Ran A) : Type 0 where
+  pub honest : IsAmong (path_of ran.command) → IsTrue ran.before.files.set.is_honest
+  pub files : IsAmong (path_of ran.command) → (key : ℕ) (bytes : List ℕ) →
+      finite.get ran.before.files.set.content key ≡ Some bytes →
+      SomeRan (λ other. LeavesAs key bytes other × IsAmong (path_of other.command)) earlier
 
 -- ---- conclusions
 
@@ -199,30 +215,36 @@ DeliversTheDocument IsAmong rans earlier ran = IfSome (text_of ran.command) (λ 
 
 -- ---- the laws
 
--- What all laws ask of a list of commands at a site: there is nothing at first, each command finds what the last one
--- at its path left, ledgers are made apart, and tickets are taken as they were given.
-pub record MeetsPremises {A : Type 0} (site : List At) (rans : List (Ran A)) : Type 0 where
-  pub is_new : IsNew site
-  pub runs : RunInTurn site rans
+-- What all laws ask of a list of commands at a site: its stores are empty at first, each command finds the store that the
+-- last one at its path left, ledgers are made apart, and tickets are taken as they were given.
+pub record MeetsPremises {A : Type 0} (site : List StoreAt) (rans : List (Ran A)) : Type 0 where
+  pub is_new : IsNew None site
+  pub runs : RunInTurn store_of site rans
   pub apart : AllPairs AreApart (all_made rans)
   pub tickets : Each TakesGiven [] rans
 
--- No ID is printed twice. Nothing is asked of scans. A `copy` draws a label again, and is not a print.
+-- What the second law asks besides of the desks at these paths.
+pub record AreVouchedFor {A : Type 0} (IsAmong : List ℕ → Type 0) (rans : List (Ran A)) : Type 0 where
+  pub takes : Each (TakesPrinted IsAmong) [] rans
+  pub finds : Each (FindsLeft IsAmong) [] rans
+
+-- No ID is printed twice. Nothing is asked of desks. A `copy` draws a label again, and is not a print.
 abbrev pub NoIdIsPrintedTwice : Type 0 → Type 0
-NoIdIsPrintedTwice A = (site : List At) (rans : List (Ran A)) → MeetsPremises site rans → Each IsFirstOfItsId [] rans
+NoIdIsPrintedTwice A = (site : List StoreAt) (rans : List (Ran A)) → MeetsPremises site rans → Each IsFirstOfItsId [] rans
 
 -- What is delivered at chosen paths was printed, if what these took in was printed too. So a misread elsewhere does not
--- matter, unless a copy or an export comes from there.
+-- matter, unless a copy, an export or a file comes from there.
 abbrev pub WhatIsDeliveredWasPrinted : Type 0 → Type 0
-WhatIsDeliveredWasPrinted A = (among : List ℕ → Bool) (site : List At) (rans : List (Ran A)) → MeetsPremises site rans →
-    Each (TakesPrinted (λ path. IsTrue (among path))) [] rans → Each (DeliversPrinted (λ path. IsTrue (among path))) [] rans
+WhatIsDeliveredWasPrinted A = (among : List ℕ → Bool) (site : List StoreAt) (rans : List (Ran A)) →
+    MeetsPremises site rans → AreVouchedFor (λ path. IsTrue (among path)) rans →
+    Each (DeliversPrinted (λ path. IsTrue (among path))) [] rans
 
 -- each ID has one document
 abbrev pub EachIdHasOneDocument : Type 0 → Type 0
-EachIdHasOneDocument A = (site : List At) (rans : List (Ran A)) → MeetsPremises site rans → HaveOneDocument rans
+EachIdHasOneDocument A = (site : List StoreAt) (rans : List (Ran A)) → MeetsPremises site rans → HaveOneDocument rans
 
 -- What is delivered at chosen paths is that document. So two that deliver an ID with the status 0 write the same.
 abbrev pub WhatIsDeliveredIsTheDocument : Type 0 → Type 0
-WhatIsDeliveredIsTheDocument A = (among : List ℕ → Bool) (site : List At) (rans : List (Ran A)) → MeetsPremises site rans →
-    Each (TakesPrinted (λ path. IsTrue (among path))) [] rans →
+WhatIsDeliveredIsTheDocument A = (among : List ℕ → Bool) (site : List StoreAt) (rans : List (Ran A)) →
+    MeetsPremises site rans → AreVouchedFor (λ path. IsTrue (among path)) rans →
     Each (DeliversTheDocument (λ path. IsTrue (among path)) rans) [] rans

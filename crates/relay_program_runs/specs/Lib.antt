@@ -3,3 +3,4 @@ pub mod Law
 pub mod Written
 pub mod Worked
 pub mod Lines
+pub mod InTurn

@@ -1,6 +1,7 @@
 -- The laws of commands, said of the program: of lines that ran one after another on the places of one system.
 use Rattle.std.specs.Prelude.{◌≡◌, ◌≢◌, ◌++◌, ◌∷◌, ◌⊎◌, ℕ, AllPairs, Bool, IfSome, List, MatchOption, [], None, Option, Some, IsTrue, map}
 use Rattle.std.specs.{Borrow.Bor, List.AllByRecursion, Io.KnownBytes.Appends, Io.KnownBytes.Keeps, Io.KnownBytes.append_known}
+use Rattle.dm_store.specs.Saved.{SavedIn}
 use Rattle.dm_assembly_desk.specs.Documents.{Documents}
 use Rattle.relay_shared.specs.Lines.{id_text}
 use Rattle.relay_command.specs.declared.command.Command.{Command}
@@ -8,9 +9,9 @@ use Rattle.relay_desk_commands.specs.{Desks.ids_given, declared.documents.Given.
 use Rattle.relay_buffers.specs.Buffers.{IsPartOut}
 use Rattle.relay.specs.{Places.PlacesView, Program.named_path, Program.path_of, Program.DoesAll, Program.DoesAt, Program.GivesEach, Program.GivesHeld, Program.SystemView, Program.does, Program.does_all, Program.does_and_saves, Program.does_here, Program.gives_each, Program.has_none, Program.next_id, Program.no_id, Program.opens_desk, Program.opens_none, Program.shows, Program.streams_over}
 use Rattle.relay.specs.Program as program
-use Rattle.relay_program_runs.specs.Law.{AreApart, DeliversPrinted, DeliversTheDocument, Each, IsBlank, HaveOneDocument, IsDocumentOf, IsFirstOfItsId, Ran, SomeRan, TakesGiven, TakesPrinted, all_made, exited}
+use Rattle.relay_program_runs.specs.Law.{AreApart, AreVouchedFor, DeliversPrinted, DeliversTheDocument, Each, IsBlank, HaveOneDocument, IsDocumentOf, IsFirstOfItsId, Ran, SomeRan, TakesGiven, all_made, exited, store_of}
 use Rattle.relay_program_runs.specs.Passed.{text_of}
-use Rattle.relay_shared.specs.Command.{FileView}
+use Rattle.relay_shared.specs.{Command.FileView, Files.DeskFiles}
 
 -- A line that ran: what is known of the files that it was to read, by their names; its words; the system before and after
 -- it; and its status. If the machine cut it short, nobody saw that, and the line left what it may leave if,
@@ -93,19 +94,19 @@ module _ {A : Type 0} where
   abbrev pub IsNamedBy : List (LineRan A) → List ℕ → Type 0
   IsNamedBy lines path = SomeRan (λ ran. path_of ran.command ≡ path) (all_commands lines)
 
-  -- the lines ran one after another, the oldest first: each found, at each of these paths, what the one before left
-  abbrev pub Follow : (List ℕ → Type 0) → PlacesView → List (LineRan A) → Type 0
-  Follow IsOurs places [] = Unit {0}
-  Follow IsOurs places (line ∷ later) =
-      ((path : List ℕ) → IsOurs path → line.before.places path ≡ places path) × Follow IsOurs line.after.places later
+  -- The lines ran one after another, the oldest first. At each of these paths each found, as the store or as the set, what
+  -- the one before left.
+  abbrev pub Follow : {X : Type 0} → (DeskFiles → SavedIn X) → (List ℕ → Type 0) → PlacesView → List (LineRan A) → Type 0
+  Follow of IsOurs places [] = Unit {0}
+  Follow of IsOurs places (line ∷ later) = ((path : List ℕ) → IsOurs path → of (line.before.places path) ≡ of (places path))
+      × Follow of IsOurs line.after.places later
 
-  -- At the paths that their commands name there is nothing at first, and only these lines change what there is;
-  -- elsewhere may be anything. No output is saved at such a path, ledgers are made apart, and tickets are taken as they
-  -- were given.
+  -- The stores at the paths that their commands name hold nothing at first, and only these lines change them; elsewhere
+  -- may be anything. No output is saved at such a path, ledgers are made apart, and tickets are taken as they were given.
   pub record LinesAsk (lines : List (LineRan A)) : Type 0 where
     pub places : PlacesView
-    pub is_new : (path : List ℕ) → IsNamedBy lines path → IsBlank (record { path = path; files = places path })
-    pub follow : Follow (IsNamedBy lines) places lines
+    pub is_new : (path : List ℕ) → IsNamedBy lines path → IsBlank None (store_of (places path))
+    pub follow : Follow store_of (IsNamedBy lines) places lines
     pub saved_apart : AllByRecursion (λ line. AllByRecursion (λ path.
         AllByRecursion (λ ran. path ≢ path_of ran.command) (all_commands lines)) (saved_as line.runs)) lines
     pub apart : AllPairs AreApart (all_made (all_commands lines))
@@ -150,7 +151,7 @@ NoLinePrintsAnIdAgain A = (lines : List (LineRan A)) → LinesAsk lines → Each
 -- What lines deliver at chosen paths was printed, if what was taken in there was printed too.
 abbrev pub WhatLinesDeliverWasPrinted : Type 0 → Type 0
 WhatLinesDeliverWasPrinted A = (among : List ℕ → Bool) (lines : List (LineRan A)) → LinesAsk lines →
-    Each (TakesPrinted (λ path. IsTrue (among path))) [] (all_commands lines) →
+    AreVouchedFor (λ path. IsTrue (among path)) (all_commands lines) →
     Each (DeliversPrinted (λ path. IsTrue (among path))) [] (all_commands lines)
 
 -- Each ID has one document.
@@ -160,14 +161,14 @@ EachIdOfLinesHasOneDocument A = (lines : List (LineRan A)) → LinesAsk lines �
 -- What lines deliver at chosen paths is that document.
 abbrev pub WhatLinesDeliverIsTheDocument : Type 0 → Type 0
 WhatLinesDeliverIsTheDocument A = (among : List ℕ → Bool) (lines : List (LineRan A)) → LinesAsk lines →
-    Each (TakesPrinted (λ path. IsTrue (among path))) [] (all_commands lines) →
+    AreVouchedFor (λ path. IsTrue (among path)) (all_commands lines) →
     Each (DeliversTheDocument (λ path. IsTrue (among path)) (all_commands lines)) [] (all_commands lines)
 
 -- What comes out of a line `deliver` at a chosen path is that document: what the system has got, not just the command.
 abbrev pub WhatLinesLetOutIsTheDocument : Type 0 → Type 0
 WhatLinesLetOutIsTheDocument A = (among : List ℕ → Bool) (before after : List (LineRan A)) (line : LineRan A) →
     let lines : List (LineRan A) = before ++ line ∷ after in LinesAsk lines →
-    Each (TakesPrinted (λ path. IsTrue (among path))) [] (all_commands lines) →
+    AreVouchedFor (λ path. IsTrue (among path)) (all_commands lines) →
     LetsOutTheDocument (λ path. IsTrue (among path)) (IsDocumentOf (all_commands before) (all_commands lines)) line.runs
 
 -- If a line whose command is done here exits with 0, so did the command, and all of its output is out.

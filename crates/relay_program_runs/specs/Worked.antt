@@ -5,7 +5,7 @@ use Rattle.std.specs.FinMap as finite
 use Rattle.dm_finder_frame.specs.Frame.{GridView}
 use Rattle.dm_symbol.specs.Correction.{IsNear}
 use Rattle.dm_store.specs.declared.mem_store.NextSave.TheVariants.{Fine}
-use Rattle.dm_store.specs.Saved.{with_open_plans, Saved, SavedSet, in_memory}
+use Rattle.dm_store.specs.Saved.{with_open_plans, Contents, Saved, SavedSet, in_memory}
 use Rattle.dm_print_ledger.specs.{Ledger.JobView, Ledger.TicketView, declared.fault.TakeFault.TakeFault}
 use Rattle.dm_print_ledger.specs.declared.fault.TakeFault.TheVariants as takes
 use Rattle.dm_assembly_desk.specs.declared.fault.{ScanFault.ScanFault, ImportFault.ImportFault}
@@ -21,7 +21,8 @@ use Rattle.relay_shared.specs.Files.{DeskFiles}
 use Rattle.relay_desk_commands.specs.Desks.{IsTextOfId, OnDesk}
 use Rattle.relay.specs.Program.{Does, path_of}
 use Rattle.relay_program_runs.specs.Passed.{Made, made_where, text_of}
-use Rattle.relay_program_runs.specs.Law.{AreApart, MeetsPremises, At, DeliversPrinted, Each, IsBlank, IsFirstOfItsId, IsNew, LeavesFile, LetsOut, NoIdIsPrintedTwice, PrintsUnder, Ran, RunInTurn, SomeRan, TakesGiven, TakesPrinted, WhatIsDeliveredWasPrinted, WritesPrinted, all_made, at_its_path, passed, status_of}
+use Rattle.relay_program_runs.specs.Law.{AreApart, AreVouchedFor, At, MeetsPremises, DeliversPrinted, Each, IsBlank, IsFirstOfItsId, IsNew, LeavesFile, LetsOut, NoIdIsPrintedTwice, PrintsUnder, Ran, RunInTurn, SomeRan, StoreAt, TakesGiven, TakesPrinted, WhatIsDeliveredWasPrinted, WritesPrinted, all_made, at_its_path, passed, status_of, store_of}
+use Rattle.relay_program_runs.specs.InTurn.{set_of}
 
 -- an input with these bytes, and outputs to which nothing was written
 abbrev pub streams_of_input : List ℕ → StreamsView
@@ -67,11 +68,11 @@ IsLost ran = (status_of ran.ends ≡ Some 1) × IsSomeAnd ran.after.streams.outp
 -- Fourteen commands that meet all premises of the laws, at all paths. One took a ticket, one was cut short, the
 -- output of one was lost, one copied a label, and two desks delivered what was printed.
 pub record IsWorked (A : Type 0) (written : List ℕ) : Type 0 where
-  pub site : List At
+  pub site : List StoreAt
   pub rans : List (Ran A)
   pub count : length rans ≡ 14
   pub asks : MeetsPremises site rans
-  pub printed : Each (TakesPrinted (λ path. IsTrue true)) [] rans
+  pub vouched : AreVouchedFor (λ path. IsTrue true) rans
   pub takes : SomeRan (λ ran. IsSome (passed ran).taken) rans
   pub cut : SomeRan (λ ran. status_of ran.ends ≡ None) rans
   pub lost : SomeRan IsLost rans
@@ -107,7 +108,7 @@ pub record RefusalsCountNot : Type 0 where
 -- printed again, and its document was read. However a `deliver` ended, and whatever is known of its output, what it
 -- delivered was printed. A grid near one that was let out may be taken in, and so may files that were exported or kept.
 pub record SayAtLeast (A : Type 0) : Type 0 where
-  pub place : (ran : Ran A) (files : DeskFiles) → (at_its_path ran files).path ≡ path_of ran.command
+  pub place : (ran : Ran A) (saved : Saved) → (at_its_path ran saved).path ≡ path_of ran.command
   pub label : (among : List ℕ → Bool) (ran : Ran A) (job : JobView) (i : ℕ) (grid : GridView) →
       (passed ran).printed ≡ Some job → slice_get job.labels i ≡ Some grid → LetsOut (λ path. IsTrue (among path)) grid ran
   pub near : (among : List ℕ → Bool) (earlier : List (Ran A)) (ran : Ran A) (own grid : GridView) → IsNear grid own →
@@ -132,11 +133,11 @@ pub record SayAtLeast (A : Type 0) : Type 0 where
 -- ---- each premise is needed
 
 -- A list that meets the premises of a law, one of them in a weaker form, and for which its conclusion fails.
-pub record Breaks (A : Type 0) (Run : List At → List (Ran A) → Type 0) (Apart : Made → Made → Type 0)
+pub record Breaks (A : Type 0) (Run : List StoreAt → List (Ran A) → Type 0) (Apart : Made → Made → Type 0)
     (Takes So : List (Ran A) → Ran A → Type 0) : Type 0 where
-  pub site : List At
+  pub site : List StoreAt
   pub rans : List (Ran A)
-  pub is_new : IsNew site
+  pub is_new : IsNew None site
   pub runs : Run site rans
   pub apart : AllPairs Apart (all_made rans)
   pub tickets : Each Takes [] rans
@@ -144,31 +145,41 @@ pub record Breaks (A : Type 0) (Run : List At → List (Ran A) → Type 0) (Apar
 
 -- two ledgers have one range
 abbrev pub NeedsRanges : Type 0 → Type 0
-NeedsRanges A = Breaks A RunInTurn (λ one other. one.number ≢ other.number) TakesGiven IsFirstOfItsId
+NeedsRanges A = Breaks A (RunInTurn store_of) (λ one other. one.number ≢ other.number) TakesGiven IsFirstOfItsId
 
 -- two ledgers have one number
 abbrev pub NeedsNumbers : Type 0 → Type 0
-NeedsNumbers A = Breaks A RunInTurn (λ one other. IsApart one.range other.range) TakesGiven IsFirstOfItsId
+NeedsNumbers A = Breaks A (RunInTurn store_of) (λ one other. IsApart one.range other.range) TakesGiven IsFirstOfItsId
 
 -- a ticket is taken that nobody gave
 abbrev pub NeedsTickets : Type 0 → Type 0
-NeedsTickets A = Breaks A RunInTurn AreApart (λ earlier ran. Unit {0}) IsFirstOfItsId
+NeedsTickets A = Breaks A (RunInTurn store_of) AreApart (λ earlier ran. Unit {0}) IsFirstOfItsId
 
--- What it found at its path is nothing, or what some command once left there.
+-- The store that it found at its path holds nothing, or what some command once left there.
 abbrev pub FindsOld : {A : Type 0} → List (Ran A) → Ran A → Type 0
-FindsOld earlier ran = IsBlank (at_its_path ran ran.before.files)
-    ⊎ SomeRan (λ other. at_its_path other other.after.files ≡ at_its_path ran ran.before.files) earlier
+FindsOld earlier ran = IsBlank None ran.before.files.joint
+    ⊎ SomeRan (λ other. at_its_path other other.after.files.joint ≡ at_its_path ran ran.before.files.joint) earlier
 
 -- a ledger is put back
 abbrev pub NeedsFiles : Type 0 → Type 0
 NeedsFiles A = Breaks A (λ site. Each FindsOld []) AreApart TakesGiven IsFirstOfItsId
 
+-- each found, as its store and as its set, what the last one at its path left
+abbrev pub BothInTurn : {A : Type 0} → List StoreAt → List (Ran A) → Type 0
+BothInTurn site rans = RunInTurn store_of site rans
+    × (sets : List (At Contents)) × IsNew finite.empty sets × RunInTurn set_of sets rans
+
 -- a label is taken in that no print or copy of the list let out, but no file is
 abbrev pub NeedsLabels : Type 0 → Type 0
-NeedsLabels A = Breaks A RunInTurn AreApart (λ earlier ran. TakesGiven earlier ran × ((passed ran).imported ≡ []))
+NeedsLabels A = Breaks A BothInTurn AreApart (λ earlier ran. TakesGiven earlier ran × ((passed ran).imported ≡ []))
     (DeliversPrinted (λ path. IsTrue true))
 
 -- a file is taken in that no command of the list left, but no label is
 abbrev pub NeedsExports : Type 0 → Type 0
-NeedsExports A = Breaks A RunInTurn AreApart (λ earlier ran. TakesGiven earlier ran × ((passed ran).scanned ≡ []))
+NeedsExports A = Breaks A BothInTurn AreApart (λ earlier ran. TakesGiven earlier ran × ((passed ran).scanned ≡ []))
     (DeliversPrinted (λ path. IsTrue true))
+
+-- a folder has a file that no command of the list left there, and nothing is taken in
+abbrev pub NeedsFolders : Type 0 → Type 0
+NeedsFolders A = Breaks A (RunInTurn store_of) AreApart (λ earlier ran. TakesGiven earlier ran
+    × ((passed ran).scanned ≡ []) × ((passed ran).imported ≡ [])) (DeliversPrinted (λ path. IsTrue true))

@@ -2,6 +2,7 @@
 
 ghost use Rattle.relay_program_runs.specs.Law.{EachIdHasOneDocument, NoIdIsPrintedTwice, WhatIsDeliveredIsTheDocument, WhatIsDeliveredWasPrinted};
 ghost use Rattle.relay_program_runs.specs.Lines.{AllIsOut, EachIdOfLinesHasOneDocument, NoLinePrintsAnIdAgain, WhatLinesDeliverIsTheDocument, WhatLinesDeliverWasPrinted, WhatLinesLetOutIsTheDocument};
+ghost use Rattle.relay_program_runs.specs.InTurn.{WhatLinesRunInTurnFindWhatWasLeft, WhatRunsInTurnFindsWhatWasLeft};
 ghost use Rattle.relay_program_runs.specs.Written.{WhatIsOutCounts, WhatIsWrittenWasPrinted};
 ghost use Rattle.relay_program_runs.specs.Worked.{RefusalsCountNot, SayAtLeast};
 ghost use Rattle.dm_size.specs.declared.size.Size.{Size};
@@ -94,6 +95,16 @@ pub fn what_lines_let_out_is_the_document<A: Allocator>()
 {
     each_grid_carries_its_words();
 }
+
+/// Commands that run one after another find what was left.
+pub fn what_runs_in_turn_finds_what_was_left<A: Allocator>()
+    ensures { WhatRunsInTurnFindsWhatWasLeft A }
+{}
+
+/// And so do lines of the program.
+pub fn what_lines_run_in_turn_find_what_was_left<A: Allocator>()
+    ensures { WhatLinesRunInTurnFindWhatWasLeft A }
+{}
 
 /// The output of a command is out where its line exits with 0.
 pub fn all_is_out<A: Allocator>()

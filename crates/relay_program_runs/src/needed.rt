@@ -2,8 +2,8 @@
 //! went well; it does not where memory is refused.
 
 ghost use Rattle.std.specs.Prelude.{IsTrue};
-ghost use Rattle.relay_program_runs.specs.Worked.{NeedsExports, NeedsFiles, NeedsLabels, NeedsNumbers, NeedsRanges};
-ghost use Rattle.relay_program_runs.specs.Worked.{NeedsTickets};
+ghost use Rattle.relay_program_runs.specs.Worked.{NeedsExports, NeedsFiles, NeedsFolders, NeedsLabels, NeedsNumbers};
+ghost use Rattle.relay_program_runs.specs.Worked.{NeedsRanges, NeedsTickets};
 
 use crate::worked::{all_well, are_documents, done, nothing};
 use dm_encodation::Scheme;
@@ -74,11 +74,13 @@ pub fn needs_files<A: Allocator + Copy>(alloc: A) -> bool
     all_well(&[one.status, backup.status, two.status, three.status])
 }
 
-/// Labels and a file of a print before the list are taken in by its commands: they deliver its document.
+/// Labels and a file of a print before the list are taken in by its commands, or its file is in a folder: they deliver
+/// its document.
 #[rattlefmt::skip] // a command a line
 pub fn needs_labels_and_exports<A: Allocator + Copy>(alloc: A) -> bool
     ensures labels { IsTrue result → NeedsLabels A }
     ensures exports { IsTrue result → NeedsExports A }
+    ensures folders { IsTrue result → NeedsFolders A }
 {
     let made = done(alloc, nothing(alloc), &[], Command::Ledger { file: "a", number: 0, first: 0, last: 99 });
     let print = Command::Print { file: "a", number: 0, labels: Labels::OfSide(12), scheme: Scheme::Ascii };
