@@ -2,7 +2,7 @@
 use Rattle.std.proofs.Common.{◌≡◌, ◌⊎◌, ◌++◌, inl, inr, ℕ, zero, suc, List, [], ◌∷◌, Some, slice_get, refl, sym, ap, subst, ◌∙◌, length, append-nil, append_assoc}
 use Rattle.std.specs.List.{AllByRecursion}
 use Rattle.dm_event_history.proofs.Gotten.{get_more, in_either}
-use Rattle.relay_program_runs.specs.{Law.Ran, Law.SomeRan, Law.all_made, Passed.Made, Passed.made_by}
+use Rattle.relay_program_runs.specs.{Law.Each, Law.Ran, Law.SomeRan, Law.all_made, Passed.Made, Passed.made_by}
 
 pub all_so : {X : Type 0} (P Q : X → Type 0) (xs : List X) → ((x : X) → P x → Q x) → AllByRecursion P xs → AllByRecursion Q xs
 all_so P Q [] each all = tt
@@ -29,6 +29,16 @@ module _ {A : Type 0} (P : Ran A → Type 0) (earlier : List (Ran A)) (ran : Ran
     | inl old ↦ inl (s.0, s.1, old, s.3)
     | inr new ↦ inr (subst P (sym (only_one ran s.1 new.0 new.2)) s.3)
   ]
+
+-- one more of which it holds
+pub each_more : {A : Type 0} (P : List (Ran A) → Ran A → Type 0) (earlier later : List (Ran A)) (ran : Ran A) →
+    Each P earlier later → P (earlier ++ later) ran → Each P earlier (later ++ ran ∷ [])
+each_more P earlier [] ran each so = (subst (λ (rans : List (Ran _)). P rans ran) (append-nil earlier) so, tt)
+each_more P earlier (one ∷ later) ran each so = (
+  each.0,
+  each_more P (earlier ++ one ∷ []) later ran each.1
+      (subst (λ (rans : List (Ran _)). P rans ran) (sym (append_assoc earlier (one ∷ []) later)) so),
+)
 
 pub made_all : {A : Type 0} (earlier later : List (Ran A)) →
     all_made (earlier ++ later) ≡ all_made earlier ++ all_made later

@@ -1,25 +1,29 @@
 -- The premises of the laws, of the commands of the worked list.
 use Rattle.std.proofs.Common.{◌≡◌, ◌≤◌, ◌<◌, ◌++◌, inl, inr, ℕ, List, [], ◌∷◌, None, Option, Some, length, slice_get, refl, sym, ap, subst, ◌∙◌, arith}
 use Rattle.std.specs.Prelude.{AllPairs, IsSomeAnd, IsTrue, codes, is_some, true}
-use Rattle.std.specs.{Borrow.Bor, List.AllByRecursion}
+use Rattle.std.specs.{Borrow.Bor, List.AllByRecursion, Ordering.nat_cmp}
 use Rattle.std.specs.FinMap as finite
 use Rattle.dm_gf256.proofs.OneBlockWord.{differ-self}
 use Rattle.dm_check_blocks.specs.Blocks.{block_of}
 use Rattle.dm_encodation.specs.declared.scheme.Scheme.TheVariants.{Ascii}
 use Rattle.dm_finder_frame.specs.Frame.{GridView}
 use Rattle.dm_symbol.specs.Correction.{IsNear, words_of_grid}
+use Rattle.dm_store.specs.Saved.{Saved}
 use Rattle.dm_print_ledger.specs.Ledger.{JobView}
+use Rattle.dm_assembly_desk.specs.declared.limits.TheConstants.{MOST_CAPACITY}
+use Rattle.dm_event_history.specs.Relay.{start}
 use Rattle.relay_command.specs.declared.command.Command.TheVariants.{Copy, Deliver, Export, Give, Import, Ledger, Print, Scan, Take}
 use Rattle.relay_command.specs.declared.command.Labels.TheVariants.{OfSide}
 use Rattle.relay_printer_commands.specs.Printers.{IsTextOf, images_of}
 use Rattle.relay_shared.specs.Files.{DeskFiles}
 use Rattle.relay_runs.proofs.TicketTexts.{ten_ticket}
-use Rattle.relay_desk_runs.specs.Answered.{grids_scanned}
+use Rattle.relay_desk_runs.specs.Answered.{HasNoDocuments, grids_scanned}
+use Rattle.relay_desk_runs.proofs.Opened.{at_desk_joint, on_id_joint}
 use Rattle.relay.specs.Program.{path_of}
-use Rattle.relay_program_runs.specs.Law.{AreApart, AreVouchedFor, MeetsPremises, Each, LeavesFile, LetsOut, Ran, SomeRan, TakesPrinted, passed}
-use Rattle.relay_program_runs.specs.Worked.{Delivers, IsDone, IsWorked, given, no_files}
-use Rattle.relay_program_runs.proofs.{Images.Is12, Images.scanned_so, Lists.all_so, Walk.what_runs_in_turn_finds_what_was_left}
-use Rattle.relay_program_runs.proofs.Steps.{Rise, Step, also, and_made, blank_set, blank_store, cut, exits, new, no_sets, no_stores, pairs_so, ran, rans_of, sets_so, stops, stores_so, takes_given}
+use Rattle.relay_program_runs.specs.Law.{AreApart, AreVouchedFor, MeetsPremises, Each, FindsLeft, LeavesFile, LetsOut, Ran, SomeRan, TakesGiven, TakesPrinted, passed, store_of}
+use Rattle.relay_program_runs.specs.Worked.{Delivers, IsDone, IsReadBeside, IsWorked, given, no_files}
+use Rattle.relay_program_runs.proofs.{Effects.no_documents, Images.Is12, Images.scanned_so, Lists.all_so, Lists.each_more, Walk.what_runs_in_turn_finds_what_was_left}
+use Rattle.relay_program_runs.proofs.Steps.{Rise, Step, there, also, and_made, blank_set, blank_store, cut, exits, new, no_sets, no_stores, pairs_so, ran, rans_of, sets_so, stops, stores_so, takes_given}
 use Rattle.relay_program_runs.proofs.WorkedFacts.{IsIn, PrintedWell, copy_done, export_done, gave, import_of_all, its_made, keeps_fresh, one_made, print_done, took}
 
 near_itself : (grid : GridView) → IsNear grid grid
@@ -93,9 +97,9 @@ module _ {A : Type 0} {f1 f2 f3 f4 f5 f6 f7 f8 f9 f10 f11 f12 f13 f14 t i9 i10 i
   abbrev before_scan : List (Ran A)
   before_scan = ran r1 ∷ ran r2 ∷ ran r3 ∷ ran r4 ∷ ran r5 ∷ cut r6 ∷ ran r7 ∷ []
 
-  scans : AllByRecursion (λ grid. (own : GridView) × IsNear grid own × SomeRan (LetsOut IsAmong own) before_scan)
-      (grids_scanned r8.does)
-  scans = all_so (IsIn printed.it.labels) _ (grids_scanned r8.does) (λ grid is_in. near_one IsAmong before_scan 4 refl
+  scans_after : (earlier : List (Ran A)) → slice_get earlier 4 ≡ Some (ran r5) → AllByRecursion (λ grid.
+      (own : GridView) × IsNear grid own × SomeRan (LetsOut IsAmong own) earlier) (grids_scanned r8.does)
+  scans_after earlier at = all_so (IsIn printed.it.labels) _ (grids_scanned r8.does) (λ grid is_in. near_one IsAmong earlier 4 at
       (inl (subst (λ (o : Option JobView). IsSomeAnd o (λ job. IsIn job.labels grid)) (sym printed.job_is) is_in)))
       (scanned_so (IsIn printed.it.labels) 10 (given no_files o5) 0 r8.after r8.does printed.it.labels printed.labels
       (ap Some printed.written))
@@ -125,20 +129,23 @@ module _ {A : Type 0} {f1 f2 f3 f4 f5 f6 f7 f8 f9 f10 f11 f12 f13 f14 t i9 i10 i
   rise : Rise 0 paths
   rise = (omega arith, (omega arith, (omega arith, (omega arith, tt))))
 
+  gives_ticket : TakesGiven (ran r1 ∷ ran r2 ∷ ran r3 ∷ []) (ran r4)
+  gives_ticket = takes_given (ran r1 ∷ ran r2 ∷ ran r3 ∷ []) (ran r4) 2 refl (gave (keeps_fresh r1) r3)
+      (took ten_ticket text refl (keeps_fresh r2) r4).0
+
   asks : MeetsPremises (no_stores paths) (rans_of steps)
   asks = record {
     is_new = new no_files.joint None blank_store paths rise;
     runs = stores_so paths steps (also refl (also refl (also refl (also refl (also refl (also refl (also refl (also refl
         (also refl (also refl (also refl (also refl (also refl (also refl tt))))))))))))));
     apart = subst (AllPairs AreApart) (sym (and_made (one_made r1) (and_made (one_made r2) refl))) apart;
-    tickets = also tt (also tt (also tt (also (takes_given (ran r1 ∷ ran r2 ∷ ran r3 ∷ []) (ran r4) 2 refl
-        (gave (keeps_fresh r1) r3) (took ten_ticket text refl (keeps_fresh r2) r4).0) (tt, (tt, (tt, (tt, (tt, (tt, (tt, (tt, (tt, (tt, tt)))))))))))));
+    tickets = also tt (also tt (also tt (also gives_ticket (tt, (tt, (tt, (tt, (tt, (tt, (tt, (tt, (tt, (tt, tt)))))))))))));
   }
 
   all_printed : Each (TakesPrinted IsAmong) [] (rans_of steps)
   all_printed = also (takes_none refl refl) (also (takes_none refl refl) (also (takes_none refl refl)
       (also (takes_none refl refl) (also (takes_none refl refl) (also (takes_none refl refl)
-      (also (takes_none refl refl) (also (record { scans = λ among. scans; imports = λ among. tt })
+      (also (takes_none refl refl) (also (record { scans = λ among. scans_after before_scan refl; imports = λ among. tt })
       (also (takes_none refl refl) (also (takes_none refl refl) (also (takes_none refl refl)
       (also (record { scans = λ among. scans_copy; imports = λ among. tt })
       (also (record { scans = λ among. tt; imports = λ among. imports })
@@ -149,6 +156,70 @@ module _ {A : Type 0} {f1 f2 f3 f4 f5 f6 f7 f8 f9 f10 f11 f12 f13 f14 t i9 i10 i
       all_printed (new no_files.set finite.empty blank_set paths rise)
       (sets_so paths steps (also refl (also refl (also refl (also refl (also refl (also refl (also refl (also refl
       (also refl (also refl (also refl (also refl (also refl (also refl tt)))))))))))))))
+
+  -- ---- the scan, read while it ran
+
+  abbrev until_read : List (Step A)
+  until_read = exits 0 r1 n1 ∷ exits 1 r2 n2 ∷ exits 0 r3 n3 ∷ exits 1 r4 n4 ∷ exits 0 r5 n5 ∷ stops 2 r8 n8
+      ∷ exits 2 r9 n9 ∷ []
+
+  abbrev with_whole : List (Step A)
+  with_whole = until_read ++ exits 2 r8 n8 ∷ []
+
+  no_joint : HasNoDocuments no_files.joint
+  no_joint = no_documents (start [] []) no_files.joint None (refl, refl)
+
+  store_scanned : d1.joint ≡ no_files.joint
+  store_scanned = sym (ap store_of r8.files_are) ∙ at_desk_joint 10 (given no_files o5) 0 r8.after no_joint r8.does
+
+  store_read : d2.joint ≡ no_files.joint
+  store_read = sym (ap store_of r9.files_are) ∙ on_id_joint i9.now (given d1 []) 0 r9.after
+      (λ id at. at_desk_joint MOST_CAPACITY (given d1 []) 0 r9.after (subst HasNoDocuments (sym store_scanned) no_joint) at)
+      r9.does ∙ store_scanned
+
+  asks_until_read : MeetsPremises (no_stores paths) (rans_of until_read)
+  asks_until_read = record {
+    is_new = new no_files.joint None blank_store paths rise;
+    runs = stores_so paths until_read (also refl (also refl (also refl (also refl (also refl (also refl (also refl tt)))))));
+    apart = subst (AllPairs AreApart) (sym (and_made (one_made r1) (and_made (one_made r2) refl))) apart;
+    tickets = also tt (also tt (also tt (also gives_ticket (tt, (tt, (tt, tt))))));
+  }
+
+  vouched_until_read : AreVouchedFor IsAmong (rans_of until_read)
+  vouched_until_read = what_runs_in_turn_finds_what_was_left A (λ path. true) (no_stores paths) (no_sets paths)
+      (rans_of until_read) asks_until_read (also (takes_none refl refl) (also (takes_none refl refl)
+      (also (takes_none refl refl) (also (takes_none refl refl) (also (takes_none refl refl)
+      (also (record { scans = λ among. scans_after (ran r1 ∷ ran r2 ∷ ran r3 ∷ ran r4 ∷ ran r5 ∷ []) refl; imports = λ among. tt })
+      (also (takes_none refl refl) tt)))))))
+      (new no_files.set finite.empty blank_set paths rise)
+      (sets_so paths until_read (also refl (also refl (also refl (also refl (also refl (also refl (also refl tt))))))))
+
+  beside : IsReadBeside A
+  beside = record {
+    site = no_stores paths;
+    earlier = ran r1 ∷ ran r2 ∷ ran r3 ∷ ran r4 ∷ ran r5 ∷ [];
+    moment = cut r8;
+    reader = ran r9;
+    whole = ran r8;
+    one_scan = (refl, refl, refl);
+    was_empty = refl;
+    delivers = delivered r9 n9 one;
+    asks = record {
+      is_new = new no_files.joint None blank_store paths rise;
+      runs = stores_so paths with_whole (also refl (also refl (also refl (also refl (also refl (also refl (also refl
+          (also (ap (λ (s : Saved). Some (there (codes "d") s)) store_read) tt))))))));
+      apart = subst (AllPairs AreApart) (sym (and_made (one_made r1) (and_made (one_made r2) refl))) apart;
+      tickets = also tt (also tt (also tt (also gives_ticket (tt, (tt, (tt, (tt, tt)))))));
+    };
+    vouched = record {
+      takes = each_more (TakesPrinted IsAmong) [] (rans_of until_read) (ran r8) vouched_until_read.takes
+          (record { scans = λ among. scans_after (rans_of until_read) refl; imports = λ among. tt });
+      finds = each_more (FindsLeft IsAmong) [] (rans_of until_read) (ran r8) vouched_until_read.finds (record {
+        honest = λ among. refl;
+        files = λ among key bytes is. absurd (let none = finite.get-empty {X = List ℕ} nat_cmp key in cc (none, is));
+      });
+    };
+  }
 
   pub worked : IsWorked A o14
   worked = record {
@@ -164,6 +235,7 @@ module _ {A : Type 0} {f1 f2 f3 f4 f5 f6 f7 f8 f9 f10 f11 f12 f13 f14 t i9 i10 i
     copies = (10, ran r11, refl, ap is_some copied.1);
     there = (13, ran r14, refl, delivered r14 n14 refl);
     written_is = other;
+    beside = beside;
     once = λ law. law (no_stores paths) (rans_of steps) asks;
     delivered = λ law. law (λ path. true) (no_stores paths) (rans_of steps) asks vouched;
   }

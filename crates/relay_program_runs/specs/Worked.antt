@@ -1,6 +1,6 @@
 -- Worked lists: commands over stores in memory and streams whose bytes are known. One list meets all premises of the
 -- laws. Each of the short ones meets all but one, and the conclusion fails.
-use Rattle.std.specs.Prelude.{◌≡◌, ◌≢◌, ◌⊎◌, ◌≤◌, ◌<◌, ℕ, All, AllPairs, Bool, Err, IsSome, IsSomeAnd, IsTrue, List, [], ◌∷◌, None, Option, Some, codes, false, length, slice_get, true}
+use Rattle.std.specs.Prelude.{◌≡◌, ◌≢◌, ◌⊎◌, ◌≤◌, ◌<◌, ℕ, All, AllPairs, Bool, Err, IsSome, IsSomeAnd, IsTrue, List, [], ◌∷◌, ◌++◌, None, Option, Some, codes, false, length, slice_get, true}
 use Rattle.std.specs.FinMap as finite
 use Rattle.dm_finder_frame.specs.Frame.{GridView}
 use Rattle.dm_symbol.specs.Correction.{IsNear}
@@ -65,6 +65,20 @@ pub record Delivers {A : Type 0} (path written : List ℕ) (ran : Ran A) : Type 
 abbrev pub IsLost : {A : Type 0} → Ran A → Type 0
 IsLost ran = (status_of ran.ends ≡ Some 1) × IsSomeAnd ran.after.streams.output.contents (λ bytes. 0 < length bytes)
 
+-- A `deliver` read a desk while a scan ran. What the scan had left by then stands before it, cut short; the whole scan,
+-- which had found an empty folder, stands after it.
+pub record IsReadBeside (A : Type 0) : Type 0 where
+  pub site : List StoreAt
+  pub earlier : List (Ran A)
+  pub moment : Ran A
+  pub reader : Ran A
+  pub whole : Ran A
+  pub one_scan : (moment.command ≡ whole.command) × (moment.before ≡ whole.before) × (status_of moment.ends ≡ None)
+  pub was_empty : whole.before.files.set.content ≡ finite.empty
+  pub delivers : Delivers (codes "d") (codes "1234") reader
+  pub asks : MeetsPremises site (earlier ++ moment ∷ reader ∷ whole ∷ [])
+  pub vouched : AreVouchedFor (λ path. IsTrue true) (earlier ++ moment ∷ reader ∷ whole ∷ [])
+
 -- Fourteen commands that meet all premises of the laws, at all paths. One took a ticket, one was cut short, the
 -- output of one was lost, one copied a label, and two desks delivered what was printed.
 pub record IsWorked (A : Type 0) (written : List ℕ) : Type 0 where
@@ -80,6 +94,7 @@ pub record IsWorked (A : Type 0) (written : List ℕ) : Type 0 where
   pub here : SomeRan (Delivers (codes "d") (codes "1234")) rans
   pub there : SomeRan (Delivers (codes "e") written) rans
   pub written_is : written ≡ codes "1234"
+  pub beside : IsReadBeside A
   -- the laws apply to it, and ask nothing else
   pub once : NoIdIsPrintedTwice A → Each IsFirstOfItsId [] rans
   pub delivered : WhatIsDeliveredWasPrinted A → Each (DeliversPrinted (λ path. IsTrue true)) [] rans
