@@ -380,8 +380,8 @@ pub data Says (set : SavedSet) (joint : SeenJoint) : Option ℕ → List ℕ →
   no_keys : (why : StoreFault) → ListsKeys (λ (keys : List ℕ). keys) set 65536 (Err why) set
       → Says set joint None (refused_line (move_fault_name (move_fault_of why))) 1
 
--- What was seen was settled, and this was written. Or it could not be settled, or memory was refused for the text: then
--- the line of that refusal alone was.
+-- This was written. Or what was seen could not be settled, or memory was refused for the text: then the line of that
+-- refusal alone was.
 pub data TellsHeld (set : SavedSet) (joint : SeenJoint) (id : Option ℕ) (old : OutputView) (status : ℕ) (new : OutputView)
     : Type 0 where
   told : (text : List ℕ) (wanted : ℕ) → Says set joint id text wanted → Tells text wanted old status new

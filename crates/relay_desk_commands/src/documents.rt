@@ -101,6 +101,13 @@ pub fn export_command<A: Allocator + Copy, S: Store, T: StoreSet, R: Read, W: Wr
     give_out(alloc, store, set, streams, text, Given::File)
 }
 
+// Says that no page of a document is held.
+fn tell_not_held<W: Write>(_settled: &Settled, output: &mut Output<W>) -> u8
+    ensures { TellsRefusal (forget_fault_name ForgetFault.NotHeld) output.old result output.new }
+{
+    refuse(output, ForgetFault::NotHeld.name())
+}
+
 // Says that no page of a document is held, once what was found is settled; or why that can't be. A document that was held
 // is forgotten by a save of its own, so its desk needs no settling.
 fn refuse_not_held<A: Allocator + Copy, S: Store, T: StoreSet, W: Write>(
@@ -115,7 +122,7 @@ fn refuse_not_held<A: Allocator + Copy, S: Store, T: StoreSet, W: Write>(
 {
     match opened.settle() {
         Ok(opened) => {
-            let status = refuse(output, ForgetFault::NotHeld.name());
+            let status = tell_not_held(&opened.settled, output);
             opened.end(status)
         }
         Err(unopened) => unopened.refuse(output),

@@ -7,8 +7,8 @@ use dm_assembly_desk::Desk;
 use dm_store::{StoreFault, StoreSet};
 use std::alloc::Allocator;
 
-/// That what was found is settled. Only the calls of this module make one, where a settle was done; and what tells what
-/// is held, or that it isn't, wants one.
+/// That what was found is settled. Only the calls of this module make one, where a settle was done; and what tells of
+/// what was found wants one. It doesn't say of which files, nor when.
 #[derive(Drop)]
 pub(crate) struct Settled(());
 

@@ -1,15 +1,13 @@
 -- What `held` gathers in memory before it settles what it has seen.
-use Rattle.std.specs.Prelude.{◌≡◌, ◌≤◌, ℕ, Bool, List, Option, None, true}
+use Rattle.std.specs.Prelude.{◌≡◌, ℕ, List, Option, None, true}
 use Rattle.dm_store.specs.Saved.{SavedSet}
-use Rattle.relay_streams.specs.Streams.{AppendsPart, OutputView}
+use Rattle.relay_streams.specs.Streams.{OutputView}
 use Rattle.relay_shared.specs.Command.{Tells}
-use Rattle.relay_desk_commands.specs.Desks.{Lists, Says, SeenJoint}
+use Rattle.relay_desk_commands.specs.Desks.{Says, SeenJoint}
 
--- this was gathered; or memory was refused in the list of all documents, and a part of its first lines was
+-- this was gathered; or memory was refused in the list of all documents
 pub data GathersHeld (set : SavedSet) (joint : SeenJoint) (old : OutputView) (status : ℕ) (new : OutputView) : Option ℕ → Type 0
   where
     whole : {id : Option ℕ} (text : List ℕ) (wanted : ℕ) → Says set joint id text wanted → Tells text wanted old status new
         → GathersHeld set joint old status new id
-    cut_off : {number : ℕ} {text : List ℕ} {unsound : Bool} → Lists set joint number text unsound → number ≤ 65536
-        → new.has_failed ≡ true → AppendsPart old.contents new.contents text → status ≡ 1
-        → GathersHeld set joint old status new None
+    cut_off : new.has_failed ≡ true → GathersHeld set joint old status new None

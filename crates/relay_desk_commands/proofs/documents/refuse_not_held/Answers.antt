@@ -4,7 +4,7 @@ use Rattle.relay_desk_commands.proofs.documents.refuse_not_held.Goals as goal
 pub returns-in-Ok : goal.returns-in-Ok
 returns-in-Ok g c =
     rw (c.end.ensures.status, c.end.ensures.store, c.end.ensures.set, c.in-Ok.ensures.0, c.in-Ok.ensures.1)
-    (inl (refl, refl, rw c.name.ensures at c.refuse-status.ensures))
+    (inl (refl, refl, c.tell_not_held-status.ensures))
 
 pub returns-in-Err : goal.returns-in-Err
 returns-in-Err g c =

@@ -19,7 +19,7 @@ said : {set : SavedSet} {joint : SeenJoint} {id : Option ℕ} {empty out : Outpu
 said items none fine is (whole text wanted says (inl (appends, same))) =
     rw (all_of items text _ is (rw none at appends), same) says
 said items none fine is (whole text wanted says (inr failed)) = absurd (false≢true (sym fine ∙ failed.0))
-said items none fine is (cut_off lists low failed part one) = absurd (false≢true (sym fine ∙ failed))
+said items none fine is (cut_off failed) = absurd (false≢true (sym fine ∙ failed))
 
 pub returns-then-has_failed : goal.returns-then-has_failed
 returns-then-has_failed g c = λ set joint id empty none gathers. no_memory (rw c.name.ensures at c.refuse.ensures)

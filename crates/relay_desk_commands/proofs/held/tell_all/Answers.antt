@@ -5,7 +5,7 @@ use Rattle.relay_desk_commands.specs.Desks.{joint_line, seen_line, Lists.begun, 
 use Rattle.relay_desk_commands.specs.inner.Gathered.GathersHeld.{cut_off, whole}
 use Rattle.relay_shared.proofs.Telling.{told, told_else}
 use Rattle.relay_shared.specs.Command.{PutsText}
-use Rattle.relay_streams.specs.{Streams.AppendsPart, Streams.OutputView, declared.fault.WriteFault.WriteFault}
+use Rattle.relay_streams.specs.{Streams.OutputView, declared.fault.WriteFault.WriteFault}
 use Rattle.relay_desk_commands.proofs.held.tell_all.Goals.{then-unsound, else-unsound}
 use Rattle.relay_desk_commands.proofs.held.tell_all.Goals as goal
 
@@ -40,16 +40,15 @@ returns-in-Err-clause-tells g c =
     whole _ _ none (rw (c.name.ensures, c.from.ensures) at c.refuse.ensures)
 
 -- the output has refused a line
-cut_by : {text : List ℕ} {old new : OutputView} (put : Result (Unit {0}) WriteFault) → is_err put ≡ true
-    → PutsText text old put new → (new.has_failed ≡ true) × AppendsPart old.contents new.contents text
-cut_by (Ok x) is puts = cc
-cut_by (Err e) is puts = (puts.failed, puts.part)
+failed_by : {text : List ℕ} {old new : OutputView} (put : Result (Unit {0}) WriteFault) → is_err put ≡ true
+    → PutsText text old put new → new.has_failed ≡ true
+failed_by (Ok x) is puts = cc
+failed_by (Err e) is puts = puts.failed
 
 pub returns-then-is_err-clause-tells : goal.returns-then-is_err-clause-tells
 returns-then-is_err-clause-tells g c =
     let i = c.loop-number.invariant in
-    let cut = cut_by c.loop-number.put (sym c.is_err.ensures.value ∙ c.if-is_err.true) i.puts in
-    cut_off i.lists (omega arith) cut.0 cut.1 refl
+    cut_off (failed_by c.loop-number.put (sym c.is_err.ensures.value ∙ c.if-is_err.true) i.puts)
 
 -- the status says whether the lines were written
 by_put : (put : Result (Unit {0}) WriteFault) (status : ℕ) → status ≡ bool_byte (is_err put)
