@@ -201,7 +201,9 @@ module _ {A : Type 0} {f1 f2 f3 f4 f5 f6 f7 f8 f9 f10 f11 f12 f13 f14 t i9 i10 i
     moment = cut r8;
     reader = ran r9;
     whole = ran r8;
+    is_scan = (_, _, refl);
     one_scan = (refl, refl, refl);
+    same_desk = n8 ∙ sym n9;
     was_empty = refl;
     delivers = delivered r9 n9 one;
     asks = record {

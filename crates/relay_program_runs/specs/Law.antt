@@ -1,10 +1,10 @@
--- The commands of the program, one after another: what each found and left, and laws. No ID is printed twice, and
--- what is delivered is the one document printed under its ID. None says that any command succeeds.
+-- The commands of the program: what each found and left, and laws. No ID is printed twice, and what is delivered is the
+-- one document printed under its ID. None says that any command succeeds.
 --
 -- The stores and sets are honest: each holds what was last saved or, after a save that failed, that or what it held
--- before. Files on a disk that keeps its promise are such; that a system's disk keeps it is trusted. A command has the
--- store at its path to itself. Others may run beside it at the set there. What it had left there at some moment is what
--- it would have left, had it been cut short then: so it stands in the list once more, cut short, before them.
+-- before. Files on a disk that keeps its promise are such; that a system's disk keeps it is trusted. No other saves to the
+-- store at a command's path meanwhile, but others may run beside it at the set there. What it had left by then is what it
+-- would have left, had it been cut short then: so it stands in the list once more, cut short, before them.
 use Rattle.std.specs.Prelude.{◌≡◌, ◌≢◌, ◌+◌, ◌++◌, ◌∷◌, ◌⊎◌, ℕ, length, AllPairs, Bool, IfSome, IsSomeAnd, IsTrue, List, [], None, Option, Some, slice_get, slice_set}
 use Rattle.std.specs.{List.AllByRecursion, Io.KnownBytes.Appends}
 use Rattle.std.specs.FinMap as finite

@@ -1,4 +1,4 @@
--- The laws of commands, said of the program: of lines that ran one after another on the places of one system.
+-- The laws of commands, said of the program: of lines that ran on the places of one system.
 use Rattle.std.specs.Prelude.{◌≡◌, ◌≢◌, ◌++◌, ◌∷◌, ◌⊎◌, ℕ, AllPairs, Bool, IfSome, List, MatchOption, [], None, Option, Some, IsTrue, map}
 use Rattle.std.specs.{Borrow.Bor, List.AllByRecursion, Io.KnownBytes.Appends, Io.KnownBytes.Keeps, Io.KnownBytes.append_known}
 use Rattle.dm_store.specs.Saved.{SavedIn}

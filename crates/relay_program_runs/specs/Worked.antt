@@ -2,6 +2,7 @@
 -- laws. Each of the short ones meets all but one, and the conclusion fails.
 use Rattle.std.specs.Prelude.{◌≡◌, ◌≢◌, ◌⊎◌, ◌≤◌, ◌<◌, ℕ, All, AllPairs, Bool, Err, IsSome, IsSomeAnd, IsTrue, List, [], ◌∷◌, ◌++◌, None, Option, Some, codes, false, length, slice_get, true}
 use Rattle.std.specs.FinMap as finite
+use Rattle.std.specs.Borrow.{Bor}
 use Rattle.dm_finder_frame.specs.Frame.{GridView}
 use Rattle.dm_symbol.specs.Correction.{IsNear}
 use Rattle.dm_store.specs.declared.mem_store.NextSave.TheVariants.{Fine}
@@ -13,7 +14,7 @@ use Rattle.dm_assembly_desk.specs.declared.fault.ScanFault.TheVariants as scans
 use Rattle.dm_assembly_desk.specs.declared.fault.ImportFault.TheVariants as imports
 use Rattle.relay_runs.specs.Runs.{if_taken}
 use Rattle.relay_desk_runs.specs.Answered.{if_imported, if_saved}
-use Rattle.relay_command.specs.declared.command.Command.{Command}
+use Rattle.relay_command.specs.declared.command.Command.{Command, TheVariants.Scan}
 use Rattle.relay_streams.specs.Streams.{AppendsPart, InputView}
 use Rattle.relay_shared.specs.Command.{ReadsDocument, StreamsView}
 use Rattle.dm_event_history.specs.Headline.{IsApart}
@@ -65,15 +66,17 @@ pub record Delivers {A : Type 0} (path written : List ℕ) (ran : Ran A) : Type 
 abbrev pub IsLost : {A : Type 0} → Ran A → Type 0
 IsLost ran = (status_of ran.ends ≡ Some 1) × IsSomeAnd ran.after.streams.output.contents (λ bytes. 0 < length bytes)
 
--- A `deliver` read a desk while a scan ran. What the scan had left by then stands before it, cut short; the whole scan,
--- which had found an empty folder, stands after it.
+-- A `deliver` read a desk while a scan ran there. What the scan had left by then, here all, stands before it, cut short;
+-- the whole scan, which had found an empty folder, stands after it.
 pub record IsReadBeside (A : Type 0) : Type 0 where
   pub site : List StoreAt
   pub earlier : List (Ran A)
   pub moment : Ran A
   pub reader : Ran A
   pub whole : Ran A
+  pub is_scan : (file : Bor (List ℕ)) × (capacity : ℕ) × (whole.command ≡ Scan file capacity)
   pub one_scan : (moment.command ≡ whole.command) × (moment.before ≡ whole.before) × (status_of moment.ends ≡ None)
+  pub same_desk : path_of whole.command ≡ path_of reader.command
   pub was_empty : whole.before.files.set.content ≡ finite.empty
   pub delivers : Delivers (codes "d") (codes "1234") reader
   pub asks : MeetsPremises site (earlier ++ moment ∷ reader ∷ whole ∷ [])

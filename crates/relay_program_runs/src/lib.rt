@@ -1,5 +1,5 @@
-//! The commands of the program, one after another: no ID is printed twice, and what is delivered was
-//! printed. Read `specs/Law.antt` from top to bottom. The contracts of [`laws`] are what it says.
+//! The commands of the program: no ID is printed twice, and what is delivered is the one document printed under its ID.
+//! Read `specs/Law.antt` from top to bottom. The contracts of [`laws`] are what it says.
 #![tactic(auto)]
 
 pub mod laws;
