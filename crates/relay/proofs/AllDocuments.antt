@@ -1,5 +1,5 @@
 -- What is given of all documents of a desk: the opening, and for each document a command that gives it alone.
-use Rattle.std.proofs.Common.{◌≡◌, ◌≢◌, ◌<◌, ◌+◌, ◌-◌, ◌++◌, ◌∷◌, ◌∙◌, Global, String, ℕ, List, [], Option, None, Some, Result, Ok, length, get_or, drop, map, max, inl, inr, refl, sym, ap, subst, append-nil, arith}
+use Rattle.std.proofs.Common.{◌≡◌, ◌<◌, ◌+◌, ◌-◌, ◌++◌, ◌∷◌, ◌∙◌, false, Global, String, ℕ, List, [], Option, None, Some, Result, Ok, length, get_or, drop, map, max, inl, inr, refl, sym, ap, subst, append-nil, arith}
 use Rattle.std.proofs.lemmas.{List.drop_more, List.length-map, List.Elements.All-get_or}
 use Rattle.std.specs.{Borrow.Bor, Io.KnownBytes.Keeps, Prelude.All, Prelude.IfSome, Prelude.MatchOption, Prelude.string_bytes}
 use Rattle.std.proofs.KnownBytes.{Keeps-refl}
@@ -33,23 +33,23 @@ others_stay path bytes old answer new (inr saved) = saved.3
 
 module _ (A : Type 0) (file folder : Bor (List ℕ)) where
   does_opening : (what : Given) (old : OnDesk) (status : ℕ) (new : OnDesk) → EndsOpening old status new →
-      Does A (all_command what file folder) [] old status new
+      Does A (all_command what false file folder) [] old status new
   does_opening Document old status new ends = ends
   does_opening File old status new ends = ends
 
   at_file : (what : Given) (before : DeskFiles) (old : PlacesView) (after : DeskFiles) (new : PlacesView) →
-      IsAt (Some file.now) before old after new → IsAt (named_path (all_command what file folder)) before old after new
+      IsAt (Some file.now) before old after new → IsAt (named_path (all_command what false file folder)) before old after new
   at_file Document before old after new is = is
   at_file File before old after new is = is
 
   module _ (what : Given) (before after : DeskFiles) (old : SystemView) (places : PlacesView)
       (there : before ≡ old.places file.now) (left : places file.now ≡ after) (others : KeepsOthers file.now old.places places)
     where
-      is_at : IsAt (named_path (all_command what file folder)) before old.places after places
+      is_at : IsAt (named_path (all_command what false file folder)) before old.places after places
       is_at = at_file what before old.places after places (there, left, others)
 
       pub opened_at : (desk : DeskView) (seen : StandardView) → OpensBetween desk before after → Notes old.standard seen →
-          (at : DoesAt A (all_command what file folder) [] old 0 (system_at seen places)) × OpensBetween desk at.before at.after
+          (at : DoesAt A (all_command what false file folder) [] old 0 (system_at seen places)) × OpensBetween desk at.before at.after
       opened_at desk seen opens notes = (
         record {
           before = before;
@@ -68,7 +68,7 @@ module _ (A : Type 0) (file folder : Bor (List ℕ)) where
       )
 
       pub refused_at : (name : List ℕ) (status : ℕ) (new : StandardView) → HasNoDesk before MOST_CAPACITY name after →
-          RefusesNoted name old.standard status new → DoesAt A (all_command what file folder) [] old status (system_at new places)
+          RefusesNoted name old.standard status new → DoesAt A (all_command what false file folder) [] old status (system_at new places)
       refused_at name status new none (told, puts, notes) = record {
         before = before;
         after = after;
@@ -129,14 +129,21 @@ module _ (A : Type 0) (from id : Bor (List ℕ)) where
 abbrev text_of : ℕ → Bor (List ℕ)
 text_of id = record { ref_ptr = (0, 0); now = id_text id }
 
+-- the texts of the IDs from a place on
+abbrev pub texts_from : {B : Type 0} → List (GivenDocument B) → ℕ → List (List ℕ)
+texts_from documents place = map (λ given. id_text given.id) (drop place documents)
+
+pub texts_from-next : {B : Type 0} (documents : List (GivenDocument B)) (place : ℕ) (document : GivenDocument B) →
+    place < length documents → document ≡ get_or documents place document →
+    texts_from documents place ≡ id_text document.id ∷ texts_from documents (place + 1)
+texts_from-next {B} documents place document within is =
+    ap (map (λ (given : GivenDocument B). id_text given.id)) (drop_more documents place document within)
+    ∙ ap (λ (given : GivenDocument B). id_text given.id ∷ texts_from documents (place + 1)) (sym is)
+
 module _ (A : Type 0) {B : Type 0} (what : Given) (from : Bor (List ℕ)) (folder : List ℕ)
     (documents : List (GivenDocument B)) (desk : DeskView) where
   abbrev IsYielded : GivenDocument B → Type 0
   IsYielded given = Yields what given.id desk.held (Ok given.bytes.items)
-
-  -- the texts of the IDs from a place on
-  abbrev texts_from : ℕ → List (List ℕ)
-  texts_from place = map (λ given. id_text given.id) (drop place documents)
 
   module _ (place : ℕ) (document : GivenDocument B) (old : SystemView) (one : ℕ) (now : SystemView)
       (within : place < length documents) (is : document ≡ get_or documents place document) (yields : All IsYielded documents)
@@ -147,13 +154,10 @@ module _ (A : Type 0) {B : Type 0} (what : Given) (from : Bor (List ℕ)) (folde
     gives = gives_one A from (text_of document.id) what document.id desk _ _ old one now text opens
         (subst IsYielded (sym is) (All-get_or IsYielded documents place document within yields)) saves
 
-    at_place : texts_from place ≡ id_text document.id ∷ texts_from (place + 1)
-    at_place = ap (map (λ (given : GivenDocument B). id_text given.id)) (drop_more documents place document within)
-        ∙ ap (λ (given : GivenDocument B). id_text given.id ∷ texts_from (place + 1)) (sym is)
-
-    pub given_next : (others : ℕ) (new : SystemView) → GivesEach A what from.now folder (texts_from (place + 1)) now others new →
-        GivesEach A what from.now folder (texts_from place) old (max one others) new
-    given_next others new later = rw at_place (next_id from (text_of document.id) refl gives later)
+    pub given_next : (others : ℕ) (new : SystemView) →
+        GivesEach A what from.now folder (texts_from documents (place + 1)) now others new →
+        GivesEach A what from.now folder (texts_from documents place) old (max one others) new
+    given_next others new later = rw (texts_from-next documents place document within is) (next_id from (text_of document.id) refl gives later)
 
 -- what is given in the order of its IDs
 both_texts : {B : Type 0} (documents : List (GivenDocument B)) →

@@ -9,12 +9,12 @@ use Rattle.relay_streams.specs.{Streams.TakesPart, Streams.AppendsPart, Streams.
 use Rattle.relay_shared.specs.{Command.FileView, Command.StreamsView, Command.TellsRefusal, Lines.id_text, declared.command.TheConstants.DOCUMENT_BYTES}
 use Rattle.dm_assembly_desk.specs.{Documents.DeskView, Documents.Documents, declared.limits.TheConstants.MOST_CAPACITY}
 use Rattle.relay_shared.specs.Files.{DeskFiles}
-use Rattle.relay_desk_commands.specs.{declared.import.TheConstants.IMPORT_BYTES, Desks.OnDesk, Desks.EndsDeliver, Desks.EndsExport, Desks.EndsForget, Desks.EndsImport, Desks.EndsOpening, Desks.EndsScan, Desks.EndsCopy, Desks.EndsHeld, Desks.OpensDesk, Desks.ids_given}
+use Rattle.relay_desk_commands.specs.{declared.import.TheConstants.IMPORT_BYTES, Desks.OnDesk, Desks.EndsDeliver, Desks.EndsExport, Desks.EndsForget, Desks.EndsImport, Desks.EndsOpening, Desks.EndsScan, Desks.EndsCopy, Desks.EndsHeld, Desks.EndsHeldLong, Desks.OpensDesk, Desks.ids_given}
 use Rattle.relay_desk_commands.specs.declared.documents.Given.{Given, TheVariants.Document, TheVariants.File}
 use Rattle.relay_printer_commands.specs.{declared.audit.TheConstants.TICKETS_BYTES, Printers.EndsLeft, Printers.OnLedger, Printers.EndsLedger, Printers.EndsAudit, Printers.EndsGive, Printers.EndsGiveLast, Printers.EndsTake, Printers.ledger_at, Printers.EndsPlan, Printers.EndsPrint, Printers.EndsTicket}
 use Rattle.relay_world_command.specs.{declared.world.TheConstants.INPUT_BYTES, World.EndsWorld}
 use Rattle.relay_symbol_commands.specs.Symbols.{EndsWords, EndsDraw, EndsRead}
-use Rattle.relay_places.specs.Places.{KeepsOthers, PlacesView, SavesNew}
+use Rattle.relay_places.specs.Places.{HoldNothing, KeepsOthers, PlacesView, SavesNew}
 use Rattle.dm_store.specs.declared.store.StoreFault.{StoreFault}
 use Rattle.relay_line.specs.{Line.EndsAmong, Line.named_images, Line.IsLineOf, Rules.endings, Line.saved_path, Line.saves_output, declared.line.CommandLine.CommandLine, declared.fault.LineFault.LineFault, declared.fault.LineFault.TheVariants.Line, declared.fault.LineFault.TheVariants.Memory}
 use Rattle.relay_buffers.specs.Buffers.{IsPartOut}
@@ -62,13 +62,14 @@ Does A (Left file) inputs old status new = OnFile EndsLeft old status new
 Does A Audit inputs old status new = OnStreams (EndsAudit inputs) old status new × ReadsPart TICKETS_BYTES old.streams new.streams
 Does A (Scan file capacity) inputs old status new = EndsScan capacity inputs old status new
 Does A (Deliver file id) inputs old status new = EndsDeliver id.now old status new
-Does A (DeliverAll file folder) inputs old status new = EndsOpening old status new
+Does A (DeliverAll file folder forgets) inputs old status new = EndsOpening old status new
 Does A (Forget file id) inputs old status new = EndsForget id.now old status new
 Does A (Export file id) inputs old status new = EndsExport id.now old status new
 Does A (ExportAll file folder) inputs old status new = EndsOpening old status new
 Does A (Import file capacity) inputs old status new =
     EndsImport capacity inputs old status new × ReadsPart IMPORT_BYTES old.streams new.streams
-Does A (Held file id) inputs old status new = EndsHeld (option_copied id) old status new
+Does A (Held file id false) inputs old status new = EndsHeld (option_copied id) old status new
+Does A (Held file id true) inputs old status new = EndsHeldLong (option_copied id) old status new
 Does A (Copy file id page side scheme) inputs old status new =
     EndsCopy (record { id = id; page = page; side = side; scheme = scheme }) old status new
 
@@ -82,12 +83,12 @@ named_path (Take file number ticket) = Some file.now
 named_path (Left file) = Some file.now
 named_path (Scan file capacity) = Some file.now
 named_path (Deliver file id) = Some file.now
-named_path (DeliverAll file folder) = Some file.now
+named_path (DeliverAll file folder forgets) = Some file.now
 named_path (Forget file id) = Some file.now
 named_path (Export file id) = Some file.now
 named_path (ExportAll file folder) = Some file.now
 named_path (Import file capacity) = Some file.now
-named_path (Held file id) = Some file.now
+named_path (Held file id is_long) = Some file.now
 named_path (Copy file id page side scheme) = Some file.now
 named_path other = None
 
@@ -100,7 +101,7 @@ abbrev pub refuses_on_errors : Command → Bool
 refuses_on_errors (Draw side scheme plain) = true
 refuses_on_errors (Print file number labels scheme) = true
 refuses_on_errors (Copy file id page side scheme) = true
-refuses_on_errors (DeliverAll file folder) = true
+refuses_on_errors (DeliverAll file folder forgets) = true
 refuses_on_errors (ExportAll file folder) = true
 refuses_on_errors other = saves_output other
 
@@ -227,10 +228,11 @@ pub record DoesAndSaves (A : Type 0) (command : Command) (path : List ℕ) (old 
 
 -- ---- all documents of a desk
 
--- the command that gives this of all documents, each as a file of its own in a folder; and the one that gives it of one
-abbrev pub all_command : Given → Bor (List ℕ) → Bor (List ℕ) → Command
-all_command Document file folder = DeliverAll file folder
-all_command File file folder = ExportAll file folder
+-- the command that gives this of all documents, each as a file of its own in a folder, and may forget the documents that it
+-- gives; and the one that gives it of one
+abbrev pub all_command : Given → Bool → Bor (List ℕ) → Bor (List ℕ) → Command
+all_command Document forgets file folder = DeliverAll file folder forgets
+all_command File forgets file folder = ExportAll file folder
 
 abbrev pub one_command : Given → Bor (List ℕ) → Bor (List ℕ) → Command
 one_command Document file id = Deliver file id
@@ -270,11 +272,43 @@ OpensBetween desk before after = OpensDesk before MOST_CAPACITY after.joint desk
 -- What a command for all documents does: it opens the desk, and gives what that holds; or it is refused.
 pub data DoesAll (A : Type 0) (what : Given) (file folder : Bor (List ℕ)) (old : SystemView) (status : ℕ) (new : SystemView)
     : Type 0 where
-  opens_desk : (seen : SystemView) (desk : DeskView) (at : DoesAt A (all_command what file folder) [] old 0 seen) →
+  opens_desk : (seen : SystemView) (desk : DeskView) (at : DoesAt A (all_command what false file folder) [] old 0 seen) →
       OpensBetween desk at.before at.after → GivesHeld A what file.now folder.now desk.held seen status new →
       DoesAll A what file folder old status new
-  opens_none : status ≢ 0 → DoesAt A (all_command what file folder) [] old status new →
+  opens_none : status ≢ 0 → DoesAt A (all_command what false file folder) [] old status new →
       DoesAll A what file folder old status new
+
+-- the IDs of the documents that were to be saved
+abbrev pub ids_of_all : {A : Type 0} {what : Given} {file folder : Bor (List ℕ)} {old new : SystemView} {status : ℕ} →
+    DoesAll A what file folder old status new → List (List ℕ)
+ids_of_all {A} {what} (opens_desk seen desk at between gives) = map id_text (ids_given what desk.held)
+ids_of_all (opens_none refused at) = []
+
+-- the document with this ID is forgotten by a command of its own; or memory was refused for that
+pub data ForgetsOne (A : Type 0) (file id : List ℕ) (old : SystemView) (status : ℕ) (new : SystemView) : Type 0 where
+  forgets_it : (from text : Bor (List ℕ)) → from.now ≡ file → text.now ≡ id →
+      DoesAt A (Forget from text) [] old status new → ForgetsOne A file id old status new
+  lacks_its_memory : new.places ≡ old.places → PutsRefusal false (codes "Memory") old.standard status new.standard →
+      ForgetsOne A file id old status new
+
+-- the documents with these IDs are forgotten in turn
+pub data ForgetsEach (A : Type 0) (file : List ℕ) : List (List ℕ) → SystemView → ℕ → SystemView → Type 0 where
+  none_left : {now : SystemView} → ForgetsEach A file [] now 0 now
+  forgets_next : {id : List ℕ} {later : List (List ℕ)} {old now new : SystemView} {one others : ℕ} →
+      ForgetsOne A file id old one now → ForgetsEach A file later now others new →
+      ForgetsEach A file (id ∷ later) old (max one others) new
+
+-- What a command for all documents does that forgets them: if all that it gives was saved, it forgets each of these.
+pub data DoesAndForgets (A : Type 0) (what : Given) (file folder : Bor (List ℕ)) (old : SystemView) (status : ℕ)
+    (new : SystemView) : Type 0 where
+  forgets_each : (saved : SystemView) (all : DoesAll A what file folder old 0 saved) →
+      ForgetsEach A file.now (ids_of_all all) saved status new → DoesAndForgets A what file folder old status new
+  forgets_none : status ≢ 0 → DoesAll A what file folder old status new → DoesAndForgets A what file folder old status new
+
+-- what a command for all documents does, which forgets them or doesn't
+abbrev pub DoesForAll : Type 0 → Bool → Given → Bor (List ℕ) → Bor (List ℕ) → SystemView → ℕ → SystemView → Type 0
+DoesForAll A false what file folder = DoesAll A what file folder
+DoesForAll A true what file folder = DoesAndForgets A what file folder
 
 -- ---- what a line names
 
@@ -282,17 +316,35 @@ pub data DoesAll (A : Type 0) (what : Given) (file folder : Bor (List ℕ)) (old
 abbrev pub NamesFiles : CommandLine → Type 0
 NamesFiles line = IsSome (named_path line.command) ⊎ (named_images line ≢ [])
 
+-- the command gives nothing of all documents of a desk
+abbrev pub IsNotOfAll : Command → Type 0
+IsNotOfAll command = (what : Given) (forgets : Bool) (file folder : Bor (List ℕ)) → command ≢ all_command what forgets file folder
+
+abbrev pub is_held : Command → Bool
+is_held (Held file id is_long) = true
+is_held other = false
+
+-- What a command does; but `held` that ended with 0, where nothing is at its path, may be refused after all.
+pub data DoesOrFindsNothing (A : Type 0) (command : Command) (inputs : List FileView) (old : SystemView) (status : ℕ)
+    (new : SystemView) : Type 0 where
+  finds : DoesAt A command inputs old status new → DoesOrFindsNothing A command inputs old status new
+  finds_nothing : (seen : SystemView) → is_held command ≡ true → DoesAt A command inputs old 0 seen → HoldNothing (seen.places (path_of command)) →
+      new.places ≡ seen.places → PutsRefusal (refuses_on_errors command) (codes "Absent") seen.standard status new.standard →
+      DoesOrFindsNothing A command inputs old status new
+
 -- What a line does: its command, with the files that it names to be read and, if it names one, the file for its output;
 -- or what is given of all documents of a desk; or nothing, since memory is refused.
 pub data DoesFor (A : Type 0) (inputs : List ℕ → FileView) (line : CommandLine) (old : SystemView) (status : ℕ)
     (new : SystemView) : Type 0 where
-  does_here : saved_path line ≡ None →
-      ((what : Given) (file folder : Bor (List ℕ)) → line.command ≢ all_command what file folder) →
-      DoesAt A line.command (map inputs (named_images line)) old status new → DoesFor A inputs line old status new
+  does_here : saved_path line ≡ None → IsNotOfAll line.command →
+      DoesOrFindsNothing A line.command (map inputs (named_images line)) old status new →
+      DoesFor A inputs line old status new
   does_and_saves : (path : List ℕ) → saved_path line ≡ Some path → DoesAndSaves A line.command path old status new →
       DoesFor A inputs line old status new
-  does_all : (what : Given) (file folder : Bor (List ℕ)) → line.command ≡ all_command what file folder →
+  does_all : (what : Given) (file folder : Bor (List ℕ)) → line.command ≡ all_command what false file folder →
       DoesAll A what file folder old status new → DoesFor A inputs line old status new
+  does_and_forgets : (file folder : Bor (List ℕ)) → line.command ≡ all_command Document true file folder →
+      DoesAndForgets A Document file folder old status new → DoesFor A inputs line old status new
   lacks_memory : NamesFiles line → new.places ≡ old.places → PutsRefusal (refuses_on_errors line.command) (codes "Memory")
       old.standard status new.standard → DoesFor A inputs line old status new
 

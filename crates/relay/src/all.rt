@@ -4,8 +4,9 @@ ghost use Rattle.std.specs.Prelude.{◌≡◌, ◌≢◌, ◌<◌, ◌++◌, ◌
 ghost use Rattle.dm_assembly_desk.specs.Documents.{DeskView};
 ghost use Rattle.relay_shared.specs.Lines.{id_text};
 ghost use Rattle.relay_desk_commands.specs.Desks.{GivesAll, IsTextOfId, Yields};
-ghost use Rattle.relay.specs.Program.{DoesAll, GivesEach, GivesHeld, Notes, OpensBetween, OrNothing};
+ghost use Rattle.relay.specs.Program.{DoesForAll, ForgetsEach, GivesEach, GivesHeld, Notes, OpensBetween, OrNothing};
 ghost use Rattle.relay.specs.Program.{RefusesNoted, SavesOutput, StandardView, incomplete_note, system_at};
+ghost use Rattle.relay.specs.inner.Given.{GivesThese};
 
 use crate::named::ForAll;
 use crate::system::System;
@@ -110,12 +111,30 @@ impl<I: Read + Drop, O: Write + Drop, E: Write + Drop, P: Places> System<I, O, E
         (status, System { standard, places })
     }
 
-    /// Gives what is asked for of all documents of a desk, as files in a folder, unless memory is refused for the
-    /// paths.
-    pub(crate) fn do_all(self, alloc: Global, all: ForAll<'_>) -> (Result<u8, AllocError>, Self)
-        ensures { OrNothing (DoesAll Global all.entry.given all.entry.file all.entry.folder) (Unit {0})
+    // Forgets these documents, one after another, and gives the greatest exit status.
+    fn forget_each(self, alloc: Global, file: &str, documents: &[GivenDocument]) -> (u8, Self)
+        ensures { ForgetsEach Global file.now (map (λ given. id_text given.id) documents.now)
             (system_at self.standard (P.state self.places)) result.0
             (system_at result.1.standard (P.state result.1.places)) }
+    {
+        let (mut status, mut system) = (0, self);
+        for given in documents {
+            let (one, left) = system.forget_one(alloc, file, given);
+            (status, system) = (greater(status, one), left);
+        }
+        (status, system)
+    }
+
+    // Gives what is asked for of all documents of a desk, as files in a folder, unless memory is refused for the paths.
+    // Of the documents that were given these are left, if the exit status is 0.
+    fn give_all_of(
+        self,
+        alloc: Global,
+        all: ForAll<'_>,
+    ) -> (Result<u8, AllocError>, Vec<GivenDocument>, Self)
+        ensures { GivesThese Global all.entry.given all.entry.file all.entry.folder
+            (map (λ given. id_text given.id) result.1.items) (system_at self.standard (P.state self.places)) result.0
+            (system_at result.2.standard (P.state result.2.places)) }
     {
         let System {
             standard,
@@ -127,15 +146,45 @@ impl<I: Read + Drop, O: Write + Drop, E: Write + Drop, P: Places> System<I, O, E
             access: Access::Reads,
         };
         let Ok((file, folder)) = places.open(named) else {
-            return (Err(AllocError), System { standard, places });
+            return (
+                Err(AllocError),
+                Vec::new(alloc),
+                System { standard, places },
+            );
         };
         let EndedAll { answer, store, set } = give_all(alloc, file, folder, all.given);
         let closed = places.close(named, store, set, u8::from(answer.is_err()));
         let system = System { standard, places };
-        let (status, system) = match answer {
-            Ok(given) => system.save_all(alloc, all, &given, closed),
-            Err(name) => system.refuse_noted(alloc, name, closed.note),
+        match answer {
+            Ok(given) => {
+                let (status, system) = system.save_all(alloc, all, &given, closed);
+                (Ok(status), given.documents, system)
+            }
+            Err(name) => {
+                let (status, system) = system.refuse_noted(alloc, name, closed.note);
+                (Ok(status), Vec::new(alloc), system)
+            }
+        }
+    }
+
+    /// Gives what is asked for of all documents of a desk, as files in a folder, unless memory is refused for the
+    /// paths; and forgets the documents that were given, if that is asked for and all were saved.
+    pub(crate) fn do_all(self, alloc: Global, all: ForAll<'_>) -> (Result<u8, AllocError>, Self)
+        ensures { OrNothing (DoesForAll Global all.entry.forgets all.entry.given all.entry.file all.entry.folder) (Unit {0})
+            (system_at self.standard (P.state self.places)) result.0
+            (system_at result.1.standard (P.state result.1.places)) }
+    {
+        let (ended, documents, system) = self.give_all_of(alloc, all);
+        let Ok(status) = ended else {
+            return (Err(AllocError), system);
         };
+        if !all.forgets {
+            return (Ok(status), system);
+        }
+        if status != 0 {
+            return (Ok(status), system);
+        }
+        let (status, system) = system.forget_each(alloc, all.file, documents.as_slice());
         (Ok(status), system)
     }
 }

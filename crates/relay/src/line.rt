@@ -1,19 +1,21 @@
 //! What the words of a line say, done on a system.
 
-ghost use Rattle.std.specs.Prelude.{◌≡◌, ◌≢◌, [], true, IfOk, IsSome, MatchOption, OnErr, Some};
-ghost use Rattle.std.specs.Prelude.{codes, map, string_bytes};
-ghost use Rattle.relay_places.specs.Places.{KeepsOthers};
-ghost use Rattle.relay.specs.Program.{DoesAndSaves, DoesAt, DoesFor, Helps, NamesFiles, Notes, OrNothing, RefusesNoted};
-ghost use Rattle.relay.specs.Program.{Runs, SavesOutput, ShowsOnErrors, Informs, PutsRefusal, named_path};
-ghost use Rattle.relay.specs.Program.{refuses_on_errors, save_fault_name, system_at, with_output};
+ghost use Rattle.std.specs.Prelude.{◌≡◌, ◌≢◌, [], true, IfOk, IsSome, IsTrue, MatchOption, OnErr, Some};
+ghost use Rattle.std.specs.Prelude.{map, string_bytes};
+ghost use Rattle.relay_shared.specs.Lines.{id_text};
+ghost use Rattle.relay_places.specs.Places.{HoldNothing, KeepsOthers};
+ghost use Rattle.relay.specs.Program.{DoesAndSaves, DoesAt, DoesFor, DoesOrFindsNothing, ForgetsOne, Helps, Informs, NamesFiles};
+ghost use Rattle.relay.specs.Program.{Notes, OrNothing, PutsRefusal, RefusesNoted, Runs, SavesOutput, ShowsOnErrors, named_path};
+ghost use Rattle.relay.specs.Program.{path_of, save_fault_name, system_at, with_output};
 
-use crate::named::{for_all, named_by, refuses_on_errors};
+use crate::named::{for_all, is_held, named_by, refuses_on_errors};
 use crate::standard::{Done, StandardStreams, do_between, show, tell};
 use crate::system::System;
 use dm_store::{MemSet, MemStore, StoreFault};
 use relay_command::Command;
+use relay_desk_commands::GivenDocument;
 use relay_line::{CommandLine, LineFault, command_line};
-use relay_places::{Places, SavedNew, note_of_input};
+use relay_places::{Closed, Places, SavedNew, note_of_input};
 use relay_shared::NamedFile;
 use std::alloc::{AllocError, Global};
 use std::convert::AsStr;
@@ -114,11 +116,13 @@ impl<I: Read + Drop, O: Write + Drop, E: Write + Drop> StandardStreams<I, O, E> 
 
 #[rattlefmt::skip] // a pattern a line
 impl<I: Read + Drop, O: Write + Drop, E: Write + Drop, P: Places> System<I, O, E, P> {
-    // Does a command that writes to the output, unless memory is refused for the paths that it names.
-    fn do_here<F: NamedFile>(self, alloc: Global, inputs: &[F], command: Command) -> (Result<u8, AllocError>, Self)
-        ensures { OrNothing (DoesAt Global command.entry (map F.known inputs.now))
+    // Does a command that writes to the output, unless memory is refused for the paths that it names; and says whether
+    // nothing was there of a desk that it was to read.
+    fn do_here<F: NamedFile>(self, alloc: Global, inputs: &[F], command: Command) -> (Result<u8, AllocError>, bool, Self)
+        ensures does { OrNothing (DoesAt Global command.entry (map F.known inputs.now))
             (IsSome (named_path command.entry)) (system_at self.standard (P.state self.places)) result.0
-            (system_at result.1.standard (P.state result.1.places)) }
+            (system_at result.2.standard (P.state result.2.places)) }
+        ensures absent { IsTrue result.1 → HoldNothing (P.state result.2.places (path_of command.entry)) }
     {
         let System { standard, mut places } = self;
         let Some(named) = named_by(command) else {
@@ -126,32 +130,30 @@ impl<I: Read + Drop, O: Write + Drop, E: Write + Drop, P: Places> System<I, O, E
             let done = do_between(alloc, file, folder, inputs, standard, command);
             let Done { status, standard, has_no_image, .. } = done;
             let standard = standard.noted(alloc, note_of_input(alloc, has_no_image));
-            return (Ok(status), System { standard, places });
+            return (Ok(status), false, System { standard, places });
         };
         let Ok((file, folder)) = places.open(named) else {
-            return (Err(AllocError), System { standard, places });
+            return (Err(AllocError), false, System { standard, places });
         };
         let done = do_between(alloc, file, folder, inputs, standard, command);
         let Done { status, store, set, standard, has_no_image } = done;
-        let closed = places.close(named, store, set, status);
-        let note = closed.note.or(note_of_input(alloc, has_no_image));
-        let standard = standard.noted(alloc, note);
-        (Ok(status), System { standard, places })
+        let Closed { note, is_absent } = places.close(named, store, set, status);
+        let standard = standard.noted(alloc, note.or(note_of_input(alloc, has_no_image)));
+        (Ok(status), is_absent, System { standard, places })
     }
 
-    // Refuses memory where the refusals of a command go, and gives the exit status.
-    fn refuse_memory(self, alloc: Global, command: Command) -> (u8, Self)
-        ensures told { PutsRefusal (refuses_on_errors command.entry) (codes "Memory")
-            self.standard result.0 result.1.standard }
+    // Writes the line of a refusal to the standard error, or to the output, and gives the exit status.
+    fn refuse(self, alloc: Global, is_on_errors: bool, name: &str) -> (u8, Self)
+        ensures told { PutsRefusal is_on_errors name.now self.standard result.0 result.1.standard }
         ensures places { P.state result.1.places ≡ P.state self.places }
     {
         let System { standard, places } = self;
-        if refuses_on_errors(command) {
-            let (status, standard) = standard.refuse_on_errors(alloc, "Memory");
+        if is_on_errors {
+            let (status, standard) = standard.refuse_on_errors(alloc, name);
             return (status, System { standard, places });
         }
         let StandardStreams(input, output, errors) = standard;
-        let (status, output) = tell(alloc, output, "Memory");
+        let (status, output) = tell(alloc, output, name);
         let standard = StandardStreams(input, output, errors);
         (status, System { standard, places })
     }
@@ -185,7 +187,7 @@ impl<I: Read + Drop, O: Write + Drop, E: Write + Drop, P: Places> System<I, O, E
         let output = Vec::new(alloc);
         let standard = StandardStreams(input, output, errors);
         let inputs: [P::Input; 0] = [];
-        let (ended, system) = System { standard, places }.do_here(alloc, &inputs, command);
+        let (ended, _, system) = System { standard, places }.do_here(alloc, &inputs, command);
         let System { standard, places } = system;
         let StandardStreams(input, bytes, errors) = standard;
         let standard = StandardStreams(input, own, errors);
@@ -209,6 +211,46 @@ impl<I: Read + Drop, O: Write + Drop, E: Write + Drop, P: Places> System<I, O, E
         (Ok(status), system)
     }
 
+    // Does a command with the files that it is to read. If `held` ends well where nothing is, it is refused after all.
+    fn do_found<F: NamedFile>(self, alloc: Global, inputs: &[F], command: Command) -> (Result<u8, AllocError>, Self)
+        ensures { OrNothing (DoesOrFindsNothing Global command.entry (map F.known inputs.now))
+            (IsSome (named_path command.entry)) (system_at self.standard (P.state self.places)) result.0
+            (system_at result.1.standard (P.state result.1.places)) }
+    {
+        let (ended, finds_nothing, system) = self.do_here(alloc, inputs, command);
+        if !finds_nothing {
+            return (ended, system);
+        }
+        if !is_held(command) {
+            return (ended, system);
+        }
+        let Ok(status) = ended else {
+            return (Err(AllocError), system);
+        };
+        if status != 0 {
+            return (Ok(status), system);
+        }
+        let (status, system) = system.refuse(alloc, refuses_on_errors(command), "Absent");
+        (Ok(status), system)
+    }
+
+    /// Forgets a document, unless memory is refused, and gives the exit status.
+    pub(crate) fn forget_one(self, alloc: Global, file: &str, document: &GivenDocument) -> (u8, Self)
+        ensures { ForgetsOne Global file.now (id_text document.now.id) (system_at self.standard (P.state self.places)) result.0
+            (system_at result.1.standard (P.state result.1.places)) }
+    {
+        let Ok(id) = document.id_text(alloc) else {
+            return self.refuse(alloc, false, "Memory");
+        };
+        let command = Command::Forget { file, id: id.as_str() };
+        let inputs: [P::Input; 0] = [];
+        let (ended, _, system) = self.do_here(alloc, &inputs, command);
+        match ended {
+            Ok(status) => (status, system),
+            Err(AllocError) => system.refuse(alloc, false, "Memory"),
+        }
+    }
+
     // Does the command of a line with the other files of the line.
     fn do_with(self, alloc: Global, line: &CommandLine<'_>) -> (Result<u8, AllocError>, Self)
         ensures { OrNothing (DoesFor Global (P.known self.places) line.now)
@@ -222,11 +264,10 @@ impl<I: Read + Drop, O: Write + Drop, E: Write + Drop, P: Places> System<I, O, E
             return self.do_all(alloc, all);
         }
         match inputs_of(alloc, &self.places, line.images.as_slice()) {
-            Ok(inputs) => self.do_here(alloc, inputs.as_slice(), line.command),
+            Ok(inputs) => self.do_found(alloc, inputs.as_slice(), line.command),
             Err(AllocError) => (Err(AllocError), self),
         }
     }
-
 
     // Does what a line says, and gives the exit status.
     fn do_line(self, alloc: Global, line: &CommandLine<'_>) -> (u8, Self)
@@ -237,7 +278,7 @@ impl<I: Read + Drop, O: Write + Drop, E: Write + Drop, P: Places> System<I, O, E
         let (ended, system) = self.do_with(alloc, line);
         match ended {
             Ok(status) => (status, system),
-            Err(AllocError) => system.refuse_memory(alloc, line.command),
+            Err(AllocError) => system.refuse(alloc, refuses_on_errors(line.command), "Memory"),
         }
     }
 

@@ -1,9 +1,8 @@
 //! The files that a command names, and where its refusals go.
 
-ghost use Rattle.std.specs.Prelude.{◌≡◌, ◌≢◌, ℕ, IfSome, IsTrue, List, MatchOption, option_map};
-ghost use Rattle.std.specs.Borrow.{Bor};
-ghost use Rattle.relay.specs.Program.{all_command, named_path, refuses_on_errors};
-ghost use Rattle.relay_desk_commands.specs.declared.documents.Given.{Given};
+ghost use Rattle.std.specs.Prelude.{◌≡◌, IfSome, IsTrue, MatchOption, option_map};
+ghost use Rattle.relay.specs.Program.{IsNotOfAll, all_command, is_held, named_path, refuses_on_errors};
+ghost use Rattle.relay_desk_commands.specs.declared.documents.Given.TheVariants.{Document};
 ghost use Rattle.relay_places.specs.declared.place.Access.TheVariants.{Makes};
 
 use dm_assembly_desk::MOST_CAPACITY;
@@ -37,6 +36,7 @@ pub(crate) fn named_by<'a>(command: Command<'a>) -> Option<Named<'a>>
         Command::Forget { file, .. } => (file, true, Access::Saves),
         Command::Deliver { file, .. } | Command::DeliverAll { file, .. } | Command::Export { file, .. }
         | Command::ExportAll { file, .. } | Command::Copy { file, .. } => (file, true, Access::Reads),
+        Command::Held { file, is_long: true, .. } => (file, true, Access::Reads),
         Command::Held { file, .. } => (file, true, Access::Looks),
     };
     Some(Named { file, is_desk, access })
@@ -51,23 +51,32 @@ pub(crate) struct ForAll<'a> {
     pub(crate) file: &'a str,
     /// The folder of the files that it makes.
     pub(crate) folder: &'a str,
+    /// Whether it forgets the documents that it gives.
+    pub(crate) forgets: bool,
 }
 
 /// What a command gives of all documents of a desk, if it is such a command.
 pub(crate) fn for_all<'a>(command: Command<'a>) -> Option<ForAll<'a>>
-    ensures { MatchOption result ((what : Given) (file folder : Bor (List ℕ)) → command.entry ≢ all_command what file folder)
-        (λ all. command.entry ≡ all_command all.given all.file all.folder) }
+    ensures all { MatchOption result (IsNotOfAll command.entry)
+        (λ all. command.entry ≡ all_command all.given all.forgets all.file all.folder) }
+    ensures forgets { IfSome result (λ all. IsTrue all.forgets → all.given ≡ Document) }
 {
     match command {
-        Command::DeliverAll { file, folder } => Some(ForAll {
+        Command::DeliverAll {
+            file,
+            folder,
+            forgets,
+        } => Some(ForAll {
             given: Given::Document,
             file,
             folder,
+            forgets,
         }),
         Command::ExportAll { file, folder } => Some(ForAll {
             given: Given::File,
             file,
             folder,
+            forgets: false,
         }),
         _ => None,
     }
@@ -88,4 +97,11 @@ pub(crate) fn refuses_on_errors(command: Command) -> bool
             | Command::ExportAll { .. }
             | Command::Copy { .. }
     )
+}
+
+/// Whether a command says what a desk holds.
+pub(crate) fn is_held(command: Command) -> bool
+    ensures { result ≡ is_held command.entry }
+{
+    matches!(command, Command::Held { .. })
 }

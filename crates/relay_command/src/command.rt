@@ -43,8 +43,9 @@ pub enum Command<'a> {
     Scan { file: &'a str, capacity: u16 },
     /// Gives the document of an ID, whose two codewords are in hexadecimal, back.
     Deliver { file: &'a str, id: &'a str },
-    /// Gives each complete document that a desk holds back, as a file of its own in a folder.
-    DeliverAll { file: &'a str, folder: &'a str },
+    /// Gives each complete document that a desk holds back, as a file of its own in a folder; and, if it `forgets`, lets
+    /// these documents go once all of the files are saved.
+    DeliverAll { file: &'a str, folder: &'a str, forgets: bool },
     /// Lets a document go.
     Forget { file: &'a str, id: &'a str },
     /// Gives the pages that are held of a document, for another desk.
@@ -53,8 +54,8 @@ pub enum Command<'a> {
     ExportAll { file: &'a str, folder: &'a str },
     /// Takes in the pages that another desk has given.
     Import { file: &'a str, capacity: u16 },
-    /// Says what the files of a desk hold: of each document, or of the one of an ID.
-    Held { file: &'a str, id: Option<&'a str> },
+    /// Says what the files of a desk hold: of each document, or of the one of an ID. If it `is_long`, it says more.
+    Held { file: &'a str, id: Option<&'a str>, is_long: bool },
     /// Draws again the label of a page, 1 to 16, that a desk holds.
     Copy { file: &'a str, id: &'a str, page: u16, side: u16, scheme: Scheme },
     /// Plays a world of printers and desks by a script.

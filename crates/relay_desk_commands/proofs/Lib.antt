@@ -3,3 +3,4 @@ pub mod LoadedJoint
 pub mod CopiedPages
 pub mod Reopened
 pub mod AllDocuments
+pub mod LongLines

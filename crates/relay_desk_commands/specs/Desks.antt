@@ -1,11 +1,11 @@
 -- What the commands of desks do to files and streams, and the lines that they write, which are this project's own.
-use Rattle.std.specs.Prelude.{ℕ, List, [], ◌∷◌, ◌++◌, codes, zero, suc, take, ◌+◌, ◌^◌, ◌==◌, Bool, if◌then◌else◌, ◌≡◌, ◌<◌, Option, None, IfSome, Result, Ok, Err, MatchResult, true, false, ◌⊎◌, ◌||◌, Some, is_err, IsOk, IsTrue, IsSomeAnd, IsSome, IfOk, All, filter, is_some, length, nat_lt, map as each}
-use Rattle.std.specs.{Fmt.decimal, List.list_all}
-use Rattle.dm_assembly_desk.specs.Documents.{names, Documents, DeskView, KeepsPages, DeskIsInOrder, Pages, summaries, summary, count_at, page_at}
+use Rattle.std.specs.Prelude.{ℕ, List, [], ◌∷◌, ◌++◌, codes, zero, suc, take, ◌+◌, ◌^◌, ◌==◌, Bool, if◌then◌else◌, ◌≡◌, ◌<◌, Option, None, IfSome, Result, Ok, Err, MatchResult, true, false, ◌⊎◌, ◌||◌, Some, is_err, IsOk, IsTrue, IsSomeAnd, IsSome, IfOk, All, filter, is_some, length, nat_lt, nat_le, not, ◌&&◌, option_map, map as each}
+use Rattle.std.specs.{Fmt.decimal, List.count_by, List.flat_map, List.list_all}
+use Rattle.dm_assembly_desk.specs.Documents.{names, Documents, DeskView, KeepsPages, DeskIsInOrder, Pages, summaries, summary, count_at, document_of, page, page_at}
 use Rattle.dm_assembly_desk.specs.declared.{reply.Held.Held, limits.TheConstants.MOST_CAPACITY, reply.Accepted.Accepted, reply.Imported.Imported}
 use Rattle.relay_shared.specs.Files.{DeskFiles}
 use Rattle.relay_shared.specs.Lines.{id_text, word_text, accepted_line, imported_line}
-use Rattle.hex.specs.Hex.{decode_sized}
+use Rattle.hex.specs.Hex.{decode_sized, encode_lower}
 use Rattle.dm_store.specs.Saved.{Saved, SavedSet, ListsKeys, LoadsOpen, Settles}
 use Rattle.dm_append_label.specs.Labels.{id_words, PageView, Carries, Fits, IsTooLong, Seals}
 use Rattle.dm_append_label.specs.{Opening.OpensAs, declared.fault.LabelFault.LabelFault, declared.opening.Opened.Opened}
@@ -53,14 +53,42 @@ is_complete held = held.mask + 1 == 2 ^ held.n
 abbrev pub held_word : Held → List ℕ
 held_word held = if is_complete held then codes " complete" else codes " lacks"
 
--- the ID, n, whether the document is complete, and the pages that are missing
-abbrev pub held_line : Held → List ℕ
-held_line held =
-    id_text held.id ++ (32 ∷ (decimal held.n ++ (held_word held ++ (missing_pages held.mask held.n ++ 10 ∷ []))))
+-- the ID, n, whether the document is complete, and the pages that are missing; and what follows
+abbrev pub held_and : List ℕ → Held → List ℕ
+held_and more held =
+    id_text held.id ++ (32 ∷ (decimal held.n ++ (held_word held ++ (missing_pages held.mask held.n ++ more))))
 
--- the file of a key, by its name, and why it is not sound
+abbrev pub held_line : Held → List ℕ
+held_line = held_and (10 ∷ [])
+
+-- a byte as it is shown: a printing character of ASCII, but a quote or a backslash, as it is; a line feed as `\n`; each
+-- other as `\x` and its two digits in hexadecimal
+abbrev pub shown_byte : ℕ → List ℕ
+shown_byte byte = if byte == 10 then codes "\\n" else
+    if nat_le 32 byte && nat_le byte 126 && not (byte == 34) && not (byte == 92) then byte ∷ [] else
+    (codes "\\x" ++ encode_lower (byte ∷ []))
+
+-- how page 1 begins, in quotes, if it is held
+abbrev pub beginning : Option (List ℕ) → List ℕ
+beginning None = []
+beginning (Some bytes) = codes ", \"" ++ (flat_map shown_byte (take 40 bytes) ++ codes "\"")
+
+-- how many labels and bytes are held of a document with these pages, and how it begins
+abbrev pub amount_text : Pages → List ℕ
+amount_text pages = codes ", " ++ (decimal (count_by is_some pages) ++ (codes " of " ++ (decimal (length pages)
+    ++ (codes " labels, " ++ (decimal (length (document_of pages)) ++ (codes " bytes" ++ beginning (page pages 1)))))))
+
+-- the line of a document, with these
+abbrev pub long_line : ℕ × Pages → List ℕ
+long_line e = held_and (amount_text e.1 ++ 10 ∷ []) (summary e)
+
+-- the ID whose number a key is, after a space, if there is one
+abbrev pub id_of_key : ℕ → List ℕ
+id_of_key key = if nat_lt key 64516 then 32 ∷ id_text key else []
+
+-- the file of a key, by its name, why it is not sound, and the ID of its document
 abbrev pub unsound_line : ℕ → List ℕ → List ℕ
-unsound_line key name = codes "file " ++ (word_text key ++ (32 ∷ (name ++ 10 ∷ [])))
+unsound_line key name = codes "file " ++ (word_text key ++ (32 ∷ (name ++ (id_of_key key ++ 10 ∷ []))))
 
 -- the joint file, and why it is not sound
 abbrev pub unsound_joint_line : List ℕ → List ℕ
@@ -402,6 +430,31 @@ pub record EndsHeldOf (id : Option ℕ) (old : OnDesk) (status : ℕ) (new : OnD
 abbrev pub EndsHeld : Option (List ℕ) → OnDesk → ℕ → OnDesk → Type 0
 EndsHeld None = EndsHeldOf None
 EndsHeld (Some text) = EndsOnId RefusesOnOutput text (λ id. EndsHeldOf (Some id))
+
+-- ---- held --long
+
+-- the line of the document of an ID, if it is held, or those of all documents, by rising ID
+abbrev pub long_text : Option ℕ → Documents → Option (List ℕ)
+long_text None held = Some (flat_map long_line (map.entries held))
+long_text (Some id) held = option_map (λ pages. long_line (id, pages)) (map.get held id)
+
+-- That was written. Or the document is not held, or memory was refused for the text, and that was said.
+pub data TellsLong (id : Option ℕ) (held : Documents) (old : OutputView) (status : ℕ) (new : OutputView) : Type 0 where
+  tells : (text : List ℕ) → long_text id held ≡ Some text → Tells text 0 old status new → TellsLong id held old status new
+  tells_none : long_text id held ≡ None → TellsRefusal (ask_fault_name asks.NotHeld) old status new
+      → TellsLong id held old status new
+  lacks_memory : TellsRefusal (refusal_name refusals.Memory) old status new → TellsLong id held old status new
+
+-- how `held --long` ends for an ID, or for all
+abbrev pub EndsHeldLongOf : Option ℕ → OnDesk → ℕ → OnDesk → Type 0
+EndsHeldLongOf id = EndsAtDesk RefusesOnOutput MOST_CAPACITY (λ desk old status new.
+    TellsLong id desk.held old.output status new.streams.output × OnlyOutput old new.streams
+    × (new.files.set ≡ desk.saved))
+
+-- how it ends, with the text of an ID or without
+abbrev pub EndsHeldLong : Option (List ℕ) → OnDesk → ℕ → OnDesk → Type 0
+EndsHeldLong None = EndsHeldLongOf None
+EndsHeldLong (Some text) = EndsOnId RefusesOnOutput text (λ id. EndsHeldLongOf (Some id))
 
 -- ---- copy
 

@@ -13,6 +13,7 @@ mod copy;
 mod desk_opening;
 mod documents;
 mod held;
+mod held_long;
 mod import;
 pub mod laws;
 mod lines;
@@ -23,5 +24,6 @@ pub use all_documents::{EndedAll, GivenAll, GivenDocument, give_all, opening_com
 pub use copy::{CopyOptions, copy_command};
 pub use documents::{Given, deliver_command, export_command, forget_command};
 pub use held::held_command;
+pub use held_long::held_long_command;
 pub use import::{IMPORT_BYTES, import_command};
 pub use scan::scan_command;

@@ -68,9 +68,9 @@ fn push_missing(text: &mut ArrayString<73>, mask: u16, m: u8)
     }
 }
 
-// Whether the document is complete, and the numbers of the pages that are missing, each after a space. There is room
-// for a word of nine bytes, and for a space and three digits for each of sixteen pages.
-fn held_end(held: Held) -> ArrayString<73>
+/// Whether the document is complete, and the numbers of the pages that are missing, each after a space. There is room
+/// for a word of nine bytes, and for a space and three digits for each of sixteen pages.
+pub(crate) fn held_end(held: Held) -> ArrayString<73>
     requires { held.n ≤ 16 }
     ensures { result.bytes ≡ held_word held ++ missing_pages held.mask held.n }
 {
@@ -95,7 +95,7 @@ pub(crate) fn put_held<W: Write>(output: &mut Output<W>, held: Held) -> Result<(
     output.put_all(&[&id, b" ", n, end.as_bytes(), b"\n"])
 }
 
-/// Writes that the file of a key is not sound, and why.
+/// Writes that the file of a key is not sound, why, and the ID of its document, if the key is the number of one.
 pub(crate) fn put_unsound<W: Write>(
     output: &mut Output<W>,
     key: u16,
@@ -103,7 +103,11 @@ pub(crate) fn put_unsound<W: Write>(
 ) -> Result<(), WriteFault>
     ensures { PutsText (unsound_line key name.now) output.old result output.new }
 {
-    output.put_all(&[b"file ", &word_digits(key), b" ", name.as_bytes(), b"\n"])
+    let (file, name) = (word_digits(key), name.as_bytes());
+    match FileId::of_number(key) {
+        Some(id) => output.put_all(&[b"file ", &file, b" ", name, b" ", &id_digits(id), b"\n"]),
+        None => output.put_all(&[b"file ", &file, b" ", name, b"\n"]),
+    }
 }
 
 /// Writes that the file of an older version is not sound, and why.

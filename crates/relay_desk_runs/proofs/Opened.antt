@@ -8,7 +8,7 @@ use Rattle.dm_assembly_desk.proofs.Reopening.{one_held}
 use Rattle.dm_event_history.specs.{Relay.Label, Headline.HaveLeft}
 use Rattle.relay_shared.specs.Command.{FileView, StreamsView}
 use Rattle.relay_shared.specs.Files.{DeskFiles}
-use Rattle.relay_desk_commands.specs.Desks.{EndsCopy, EndsCopyOf, EndsHeld, EndsAtDesk, EndsImport, EndsOnId, HasNoDesk, OnDesk, OpensDesk, EndsCopyOf.no_side, EndsCopyOf.of_side, EndsOnId.no_id, EndsOnId.of_id, EndsImport.not_read, EndsImport.read, EndsImport.read_files, EndsAtDesk.no_desk, EndsAtDesk.opened, HasNoDesk.not_moved, HasNoDesk.not_opened}
+use Rattle.relay_desk_commands.specs.Desks.{EndsCopy, EndsCopyOf, EndsHeld, EndsHeldLong, EndsAtDesk, EndsImport, EndsOnId, HasNoDesk, OnDesk, OpensDesk, EndsCopyOf.no_side, EndsCopyOf.of_side, EndsOnId.no_id, EndsOnId.of_id, EndsImport.not_read, EndsImport.read, EndsImport.read_files, EndsAtDesk.no_desk, EndsAtDesk.opened, HasNoDesk.not_moved, HasNoDesk.not_opened}
 use Rattle.relay_desk_commands.specs.declared.copy.CopyOptions.{CopyOptions}
 use Rattle.relay_desk_runs.specs.Answered.{HasNoDocuments, HoldsPrinted, HasPrinted}
 use Rattle.relay_desk_runs.proofs.Saving.{ShowsPrinted}
@@ -131,6 +131,21 @@ pub held_same : (text : Option (List ℕ)) (old : OnDesk) (status : ℕ) (new : 
 held_same None old status new ends = ends.same
 held_same (Some text) old status new (no_id isnt same refuses) = same
 held_same (Some text) old status new (of_id id text_is rest) = rest.same
+
+-- what is held is told at length by a desk that is opened for that
+pub held_long_joint : (text : Option (List ℕ)) (old : OnDesk) (status : ℕ) (new : OnDesk) → HasNoDocuments old.files.joint →
+    EndsHeldLong text old status new → new.files.joint ≡ old.files.joint
+held_long_joint None old status new none ends = at_desk_joint MOST_CAPACITY old status new none ends
+held_long_joint (Some text) old status new none ends =
+    on_id_joint text old status new (λ id at. at_desk_joint MOST_CAPACITY old status new none at) ends
+
+pub held_long_keeps : (labels : List Label) (text : Option (List ℕ)) (old : OnDesk) (status : ℕ) (new : OnDesk) →
+    HasPrinted labels old → EndsHeldLong text old status new → HasPrinted labels new
+held_long_keeps labels None old status new clean ends = at_desk_keeps labels MOST_CAPACITY old status new clean
+    (λ desk o rest. subst (HoldsPrinted labels) (sym rest.2) o.shows.set) ends
+held_long_keeps labels (Some text) old status new clean ends = on_id_keeps labels text old status new clean
+    (λ id at. at_desk_keeps labels MOST_CAPACITY old status new clean
+    (λ desk o rest. subst (HoldsPrinted labels) (sym rest.2) o.shows.set) at) ends
 
 pub copy_joint : (options : CopyOptions) (old : OnDesk) (status : ℕ) (new : OnDesk) → HasNoDocuments old.files.joint →
     EndsCopy options old status new → new.files.joint ≡ old.files.joint

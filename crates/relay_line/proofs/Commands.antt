@@ -1,13 +1,16 @@
 -- What the options of each command are, where its line keeps the rules.
-use Rattle.std.proofs.Common.{arith, ◌≡◌, ◌&&◌, ◌||◌, ◌∙◌, ℕ, Bool, List, [], ◌∷◌, Some, None, ap, map, find, option_map, true, false, not, refl, subst, sym, if◌then◌else◌, codes}
+use Rattle.std.proofs.Common.{arith, ◌≡◌, ◌&&◌, ◌||◌, ◌∙◌, ℕ, Bool, List, [], ◌∷◌, Some, None, ap, map, find, option_map, true, false, not, refl, subst, sym, if◌then◌else◌, codes, unwrap_or}
 use Rattle.std.specs.Option.{option_map_or}
 use Rattle.std.specs.Str.{bytes_eq}
 use Rattle.std.proofs.lemmas.Bool.{true≢false, false≢true}
-use Rattle.clap.specs.Words.{Row}
+use Rattle.clap.specs.Words.{Row, all_of}
 use Rattle.clap.proofs.WalkLemmas.{both}
 use Rattle.relay_line.specs.Listed.{Argument, Listing, the_commands}
-use Rattle.relay_line.specs.Rules.{arguments_of, has, is_among, keeps_all, keeps_rules, meets}
-use Rattle.relay_line.specs.declared.options.Values.TheVariants.{Text, Path, Number, Scheme, Truth}
+use Rattle.relay_line.specs.Rules.{arguments_of, has, is_among, keeps_all, keeps_rules, meets, takes}
+use Rattle.relay_line.specs.declared.options.Values.TheVariants.{Text, Path, NoDash, Number, Scheme, Truth}
+use Rattle.relay_line.specs.declared.options.Values.{Values}
+use Rattle.std.specs.List.{list_all}
+use Prim.Native.String.{String}
 
 -- both tests pass
 pub all_of_two : (a b : Bool) → a ≡ true → b ≡ true → (a && b) ≡ true
@@ -128,24 +131,38 @@ module _ (found : List Row) where
       let file = both _ _ (both _ _ kept).0 in
       (file.0, (both _ _ file.1).0)
 
-  one_or_all : (id all to : Bool) → ((if id then not all else all) && not (all && to)) ≡ true → id ≡ false → all ≡ true
-  one_or_all true all to form missing = absurd (true≢false missing)
-  one_or_all false true to form missing = refl
-  one_or_all false false to form missing = absurd (false≢true form)
+  one_or_all : (id all to more : Bool) → (((if id then not all else all) && not (all && to)) && more) ≡ true → id ≡ false → all ≡ true
+  one_or_all true all to more form missing = absurd (true≢false missing)
+  one_or_all false true to more form missing = refl
+  one_or_all false false to more form missing = absurd (false≢true form)
+
+  -- each value of an option, if it has any, is taken
+  abbrev fits : String → Values → Bool
+  fits name values = list_all (takes values) (unwrap_or (all_of (codes name) found) [])
+
+  fifth : (a b c d e : Bool) → (a && (b && (c && (d && (e && true))))) ≡ true → e ≡ true
+  fifth true true true true true kept = refl
+  fifth true true true true false kept = absurd (false≢true kept)
+  fifth true true true false e kept = absurd (false≢true kept)
+  fifth true true false d e kept = absurd (false≢true kept)
+  fifth true false c d e kept = absurd (false≢true kept)
+  fifth false b c d e kept = absurd (false≢true kept)
 
   pub deliver_kept : keeps_rules (codes "deliver") found ≡ true
       → (meets found (codes "file") Path ≡ true) × (has found (codes "id") ≡ false → has found (codes "all") ≡ true)
+      × (meets found (codes "forget") Truth ≡ true)
   unfolding keeps_rules arguments_of the_commands
   deliver_kept kept =
       let parts = both _ _ kept in
-      ((both _ _ parts.0).0, one_or_all _ _ _ parts.1)
+      let forget = fifth (meets found (codes "file") Path) (fits "id" Text) (fits "to" NoDash) (fits "all" NoDash) _ parts.0 in
+      ((both _ _ parts.0).0, one_or_all _ _ _ _ parts.1, forget)
 
   pub export_kept : keeps_rules (codes "export") found ≡ true
       → (meets found (codes "file") Path ≡ true) × (has found (codes "id") ≡ false → has found (codes "all") ≡ true)
   unfolding keeps_rules arguments_of the_commands
   export_kept kept =
       let parts = both _ _ kept in
-      ((both _ _ parts.0).0, one_or_all _ _ _ parts.1)
+      ((both _ _ parts.0).0, one_or_all _ _ _ true (all_of_two _ _ parts.1 refl))
 
   pub forget_kept : keeps_rules (codes "forget") found ≡ true
       → (meets found (codes "file") Path ≡ true) × (meets found (codes "id") Text ≡ true)
@@ -154,9 +171,13 @@ module _ (found : List Row) where
       let file = both _ _ (both _ _ kept).0 in
       (file.0, (both _ _ file.1).0)
 
-  pub held_kept : keeps_rules (codes "held") found ≡ true → meets found (codes "file") Path ≡ true
+  pub held_kept : keeps_rules (codes "held") found ≡ true
+      → (meets found (codes "file") Path ≡ true) × (meets found (codes "long") Truth ≡ true)
   unfolding keeps_rules arguments_of the_commands
-  held_kept kept = (both _ _ (both _ _ kept).0).0
+  held_kept kept =
+      let file = both _ _ (both _ _ kept).0 in
+      let id = both _ _ file.1 in
+      (file.0, (both _ _ id.1).0)
 
   pub copy_kept : keeps_rules (codes "copy") found ≡ true
       → (meets found (codes "file") Path ≡ true) × (meets found (codes "id") Text ≡ true)

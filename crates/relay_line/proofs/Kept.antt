@@ -5,7 +5,9 @@ use Rattle.std.proofs.lemmas.Slice.Eq.{bytes_eq-Decides}
 use Rattle.std.specs.Prelude.{nat_le, nat_lt}
 use Rattle.std.specs.Str.Parse.{IsNumeral, digits_value, without_leading_plus}
 use Rattle.std.proofs.lemmas.Bool.{true≢false, false≢true}
+use Rattle.std.specs.Option.{option_map_or}
 use Rattle.std.specs.Prelude.{option_and_then}
+use Prim.Native.String.{String}
 use Rattle.std.specs.List.{list_all}
 use Rattle.std.specs.Str.{bytes_eq}
 use Rattle.clap.specs.Words.{Row, first_of}
@@ -18,7 +20,7 @@ use Rattle.dm_encodation.specs.declared.scheme.Scheme.{Scheme}
 use Rattle.dm_encodation.specs.declared.scheme.Scheme.TheVariants as schemes
 use Rattle.relay_command.specs.Schemes.{scheme_name}
 use Rattle.relay_line.specs.Line.{HasFlag, HasText, number_at}
-use Rattle.relay_line.specs.Rules.{has, is_among, meets, takes}
+use Rattle.relay_line.specs.Rules.{has, is_among, is_set, meets, takes}
 use Rattle.relay_line.specs.declared.options.Values.{Values}
 use Rattle.relay_line.specs.declared.options.Values.TheVariants.{Number, Truth}
 use Rattle.relay_line.specs.declared.options.Values.TheVariants.{Scheme as TakesScheme}
@@ -118,14 +120,20 @@ module _ (found : List Row) (text : List ℕ) where
   scheme_there first kept none =
       true≢false (sym (taken_text found (codes "scheme") text TakesScheme first kept) ∙ no_scheme text none)
 
-  pub flag_read : (has found (codes "plain") ≡ true → first_of (codes "plain") found ≡ Some text)
-      → meets found (codes "plain") Truth ≡ true → (is_there : Bool) → is_there ≡ bytes_eq text (codes "true")
-      → HasFlag found "plain" is_there
-  flag_read first kept true is =
-      first (both _ _ kept).0 ∙ ap (λ (t : List ℕ). Some t) ((bytes_eq-Decides _ _).0 (sym is))
-  flag_read first kept false is =
-      first (both _ _ kept).0 ∙ ap (λ (t : List ℕ). Some t) ((bytes_eq-Decides _ _).0
-      (subst (λ b. (b || bytes_eq text (codes "false")) ≡ true) (sym is) (taken_text found (codes "plain") text Truth first kept)))
+-- a flag that is looked at is there, or not
+module _ (found : List Row) (name : String) (kept : meets found (codes name) Truth ≡ true) where
+  is_text : (b : Bool) → b ≡ is_set found (codes name) → b ≡ bytes_eq (first_taken found (codes name) Truth kept).0 (codes "true")
+  is_text b is = is ∙ ap (λ (o : Option (List ℕ)). option_map_or (λ text. bytes_eq text (codes "true")) o false)
+      (first_taken found (codes name) Truth kept).1
+
+  pub flag_read : (is_there : Bool) → is_there ≡ is_set found (codes name) → HasFlag found name is_there
+  flag_read true is =
+      let taken = first_taken found (codes name) Truth kept in
+      taken.1 ∙ ap (λ (t : List ℕ). Some t) ((bytes_eq-Decides _ _).0 (sym (is_text true is)))
+  flag_read false is =
+      let taken = first_taken found (codes name) Truth kept in
+      taken.1 ∙ ap (λ (t : List ℕ). Some t) ((bytes_eq-Decides _ _).0
+      (subst (λ b. (b || bytes_eq taken.0 (codes "false")) ≡ true) (sym (is_text false is)) taken.2))
 
 regroup : (a b c : Bool) → (a && (b && c)) ≡ ((a && b) && c)
 regroup true b c = refl

@@ -1,5 +1,5 @@
 -- What the parser met on a line, and the line of it.
-use Rattle.std.proofs.Common.{◌≡◌, ◌∙◌, ℕ, List, [], Option, Some, None, true, map, refl, sym, ap, ap₂, is_some, option_map, slice_get, unwrap_or, subst}
+use Rattle.std.proofs.Common.{◌≡◌, ◌∙◌, ℕ, List, [], Option, Some, None, true, refl, sym, ap, ap₂, is_some, option_map, slice_get, unwrap_or, subst}
 use Rattle.std.proofs.lemmas.Bool.{true≢false, false≢true}
 use Rattle.std.specs.Borrow.{Bor}
 use Rattle.std.specs.Box.{box_value}

@@ -31,12 +31,12 @@ command_name (Left file) = codes "left"
 command_name Audit = codes "audit"
 command_name (Scan file capacity) = codes "scan"
 command_name (Deliver file id) = codes "deliver"
-command_name (DeliverAll file folder) = codes "deliver"
+command_name (DeliverAll file folder forgets) = codes "deliver"
 command_name (Forget file id) = codes "forget"
 command_name (Export file id) = codes "export"
 command_name (ExportAll file folder) = codes "export"
 command_name (Import file capacity) = codes "import"
-command_name (Held file id) = codes "held"
+command_name (Held file id is_long) = codes "held"
 command_name (Copy file id page side scheme) = codes "copy"
 command_name World = codes "world"
 
@@ -98,12 +98,13 @@ module _ (found : List Row) where
   HasValues Audit = Unit {0}
   HasValues (Scan file capacity) = HasText "file" file.now × HasNumber "capacity" capacity
   HasValues (Deliver file id) = HasText "file" file.now × HasText "id" id.now
-  HasValues (DeliverAll file folder) = HasText "file" file.now × HasText "all" folder.now
+  HasValues (DeliverAll file folder forgets) = HasText "file" file.now × HasText "all" folder.now × HasFlag "forget" forgets
   HasValues (Forget file id) = HasText "file" file.now × HasText "id" id.now
   HasValues (Export file id) = HasText "file" file.now × HasText "id" id.now
   HasValues (ExportAll file folder) = HasText "file" file.now × HasText "all" folder.now
   HasValues (Import file capacity) = HasText "file" file.now × HasNumber "capacity" capacity
-  HasValues (Held file id) = HasText "file" file.now × (first_of (codes "id") found ≡ option_map (λ id. id.now) id)
+  HasValues (Held file id is_long) = HasText "file" file.now × (first_of (codes "id") found ≡ option_map (λ id. id.now) id)
+      × HasFlag "long" is_long
   HasValues (Copy file id page side scheme) = HasText "file" file.now × HasText "id" id.now × HasSide side
       × (1 ≤ page) × (page ≤ 16) × HasNumber "page" page × HasText "scheme" (scheme_name scheme)
   HasValues World = Unit {0}

@@ -74,11 +74,12 @@ the_commands =
     ∷ command "left" (file ∷ [])
     ∷ command "audit" (argument "images" any_words NoDash ∷ [])
     ∷ command "scan" (file ∷ capacity ∷ argument "images" any_words Path ∷ [])
-    ∷ command "deliver" (file ∷ any_id ∷ argument "to" optional NoDash ∷ argument "all" optional NoDash ∷ [])
+    ∷ command "deliver" (file ∷ any_id ∷ argument "to" optional NoDash ∷ argument "all" optional NoDash
+    ∷ argument "forget" flag Truth ∷ [])
     ∷ command "forget" (file ∷ id ∷ [])
     ∷ command "export" (file ∷ any_id ∷ argument "to" optional NoDash ∷ argument "all" optional NoDash ∷ [])
     ∷ command "import" (file ∷ capacity ∷ argument "images" any_words Path ∷ [])
-    ∷ command "held" (file ∷ any_id ∷ [])
+    ∷ command "held" (file ∷ any_id ∷ argument "long" flag Truth ∷ [])
     ∷ command "copy" (file ∷ id ∷ argument "page" required (Number 1 16) ∷ argument "side" required side ∷ scheme ∷ [])
     ∷ command "world" []
     ∷ command "explain" (argument "name" one_word Text ∷ [])

@@ -39,6 +39,10 @@ module _ (found : List Row) where
   abbrev pub has : List ℕ → Bool
   has name = is_some (first_of name found)
 
+  -- The flag stands on the line: for one that does not, the parser writes "false".
+  abbrev pub is_set : List ℕ → Bool
+  is_set name = option_map_or (λ text. bytes_eq text (codes "true")) (first_of name found) false
+
   -- an argument that has no value where it may, and else takes each value that it has
   abbrev pub is_kept : Argument → Bool
   is_kept argument = (may_lack argument.standing || has argument.name)
@@ -59,7 +63,7 @@ module _ (found : List Row) where
   has_form command =
       if bytes_eq command (codes "print") then has_one (codes "side") (codes "labels")
       else if bytes_eq command (codes "give") then not (has_one (codes "first") (codes "last")) && has_one (codes "first") (codes "count")
-      else if bytes_eq command (codes "deliver") then has_all_or_id
+      else if bytes_eq command (codes "deliver") then has_all_or_id && (has (codes "all") || not (is_set (codes "forget")))
       else if bytes_eq command (codes "export") then has_all_or_id
       else true
 

@@ -5,7 +5,7 @@ ghost use Rattle.std.specs.List.{list_all};
 ghost use Rattle.clap.specs.Words.{found_of, rows_of};
 ghost use Rattle.relay_line.specs.Parsed.{argument_of, standing_of};
 ghost use Rattle.relay_line.specs.declared.options.Values.TheVariants.{Number, Scheme as TakesScheme};
-ghost use Rattle.relay_line.specs.Rules.{has, has_form, has_one, is_kept, keeps_all, may_lack, takes};
+ghost use Rattle.relay_line.specs.Rules.{has, has_all_or_id, has_form, has_one, is_kept, is_set, keeps_all, may_lack, takes};
 
 use crate::help::{Page, said_of};
 use crate::options::{Kind, Row, Values};
@@ -21,6 +21,9 @@ const ALL_DASH: &str = "--all takes no `-`: it saves in a folder, and `./-` name
 
 const LEDGER_DASH: &str =
     "`audit` takes no `-`: it reads tickets from the standard input, and `./-` names a file";
+
+const DELIVER_FORM: &str =
+    "--id IIII, with or without --to FILE, or --all DIR, with or without --forget";
 
 // Whether a number is one from `least` to `most`.
 fn is_between(least: u16, most: u16, number: u16) -> bool
@@ -152,6 +155,17 @@ pub fn has(options: &ArgMatches<'_>, name: &str) -> bool
     options.get_str(name).is_some()
 }
 
+/// Whether a flag stands on a line. For one that does not, the parser writes "false".
+#[tactic(auto, using(crate::proofs::Found::first_value_of))]
+pub fn is_set(options: &ArgMatches<'_>, name: &str) -> bool
+    ensures { result ≡ is_set (rows_of (found_of options.now)) name.now }
+{
+    match options.get_str(name) {
+        Some(text) => text == "true",
+        None => false,
+    }
+}
+
 // Whether it has just one of two.
 fn has_one(options: &ArgMatches<'_>, one: &str, other: &str) -> bool
     ensures { result ≡ has_one (rows_of (found_of options.now)) one.now other.now }
@@ -163,6 +177,13 @@ fn has_one(options: &ArgMatches<'_>, one: &str, other: &str) -> bool
     }
 }
 
+// Whether a line is of one document, or of all.
+fn has_all_or_id(options: &ArgMatches<'_>) -> bool
+    ensures { result ≡ has_all_or_id (rows_of (found_of options.now)) }
+{
+    has_one(options, "id", "all") && !(has(options, "all") && has(options, "to"))
+}
+
 // Whether the options that exclude or need each other are such as the usage of a command has them.
 fn has_form(command: &str, options: &ArgMatches<'_>) -> bool
     ensures { result ≡ has_form (rows_of (found_of options.now)) command.now }
@@ -170,9 +191,10 @@ fn has_form(command: &str, options: &ArgMatches<'_>) -> bool
     match command {
         "print" => has_one(options, "side", "labels"),
         "give" => !has_one(options, "first", "last") && has_one(options, "first", "count"),
-        "deliver" | "export" => {
-            has_one(options, "id", "all") && !(has(options, "all") && has(options, "to"))
+        "deliver" => {
+            has_all_or_id(options) && (has(options, "all") || !is_set(options, "forget"))
         }
+        "export" => has_all_or_id(options),
         _ => true,
     }
 }
@@ -182,6 +204,7 @@ fn form_of(command: &str) -> &'static str {
     match command {
         "print" => "--side SIDE or --labels K, and not both",
         "give" => "--first N and --last N, or --count N alone",
+        "deliver" => DELIVER_FORM,
         _ => "--id IIII, with or without --to FILE, or --all DIR alone",
     }
 }

@@ -3,11 +3,11 @@
 ghost use Rattle.std.specs.Prelude.{◌≡◌, ◌<◌, ◌≤◌, ◌∷◌, [], ℕ, codes, false, true, option_map, IfSome, IsNone};
 ghost use Rattle.clap.specs.Words.{first_of, found_of, rows_of};
 ghost use Rattle.relay_command.specs.Schemes.{scheme_name};
-ghost use Rattle.relay_line.specs.Line.{HasFlag, HasLabels, HasText, HasValues, command_name, number_at};
-ghost use Rattle.relay_line.specs.declared.options.Values.TheVariants.{Number, Truth, Scheme as TakesScheme};
+ghost use Rattle.relay_line.specs.Line.{HasLabels, HasText, HasValues, command_name, number_at};
+ghost use Rattle.relay_line.specs.declared.options.Values.TheVariants.{Number, Scheme as TakesScheme};
 ghost use Rattle.relay_line.specs.Rules.{has, is_among, keeps_rules, meets};
 
-use crate::check::has;
+use crate::check::{has, is_set};
 use clap::ArgMatches;
 use dm_encodation::Scheme;
 use relay_command::{Command, Labels, scheme_of};
@@ -54,14 +54,6 @@ fn encodation_of(options: &ArgMatches<'_>) -> Scheme
     }
 }
 
-// Whether the flag of plain images stands on the line.
-fn is_plain(options: &ArgMatches<'_>) -> bool
-    ensures { meets (rows_of (found_of options.now)) (codes "plain") Truth ≡ true
-        → HasFlag (rows_of (found_of options.now)) "plain" result }
-{
-    text_of(options, "plain") == "true"
-}
-
 // Which labels a print has.
 fn labels_of(options: &ArgMatches<'_>) -> Labels
     requires { keeps_rules (codes "print") (rows_of (found_of options.now)) ≡ true }
@@ -101,7 +93,12 @@ fn deliver_of<'a>(options: &ArgMatches<'a>) -> Command<'a>
         Command::Deliver { file, id }
     } else {
         let folder = text_of(options, "all");
-        Command::DeliverAll { file, folder }
+        let forgets = is_set(options, "forget");
+        Command::DeliverAll {
+            file,
+            folder,
+            forgets,
+        }
     }
 }
 
@@ -135,7 +132,10 @@ fn desk_command_of<'a>(name: &str, options: &ArgMatches<'a>) -> Option<Command<'
     match name {
         "scan" => Some(Command::Scan { file, capacity: number_of(options, "capacity") }),
         "import" => Some(Command::Import { file, capacity: number_of(options, "capacity") }),
-        "held" => Some(Command::Held { file, id: some_text_of(options, "id") }),
+        "held" => {
+            let (id, is_long) = (some_text_of(options, "id"), is_set(options, "long"));
+            Some(Command::Held { file, id, is_long })
+        }
         "forget" => Some(Command::Forget { file, id: text_of(options, "id") }),
         "deliver" => Some(deliver_of(options)),
         "export" => Some(export_of(options)),
@@ -186,7 +186,7 @@ fn plain_command_of<'a>(name: &str, options: &ArgMatches<'a>) -> Option<Command<
         "words" => Some(Command::Words { side: number_of(options, "side"), scheme: encodation_of(options) }),
         "draw" => {
             let (side, scheme) = (number_of(options, "side"), encodation_of(options));
-            Some(Command::Draw { side, scheme, plain: is_plain(options) })
+            Some(Command::Draw { side, scheme, plain: is_set(options, "plain") })
         }
         "read" => Some(Command::Read),
         "audit" => Some(Command::Audit),

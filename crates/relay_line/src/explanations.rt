@@ -60,13 +60,13 @@ pub static EXPLANATIONS: [&str; 45] = [
     What to do: `deliver` and `forget` complete documents, or give a larger\n  `--capacity`, up to 1,024.\n",
     "TooMany\n  More follows in one file after 65,536 images. Or `audit` got more than\n  \
     1,048,576 bytes of tickets.\n  What to do: split the file. For `audit`, no two parts together may exceed\n  \
-    that: run it on every pair.\n\n  From: the commands of desks, except `held`.\n  \
+    that: run it on every pair.\n\n  From: the commands of desks, except `held` without `--long`.\n  \
     The desk holds more documents than its capacity. Without `--capacity`, that\n  \
     is 64 for `scan` and `import`, and 1,024 for others.\n  \
     What to do: give a larger `--capacity`, up to 1,024. Beyond that, while no\n  \
     command runs, move files to another desk's folder that has none of these\n  names.\n",
-    "Absent\n  From: `print`, `give`, `take`, `left`, `--all`.\n  There is no ledger, or no desk, at this path.\n  \
-    What to do: check `--file`, or make a ledger with `ledger`.\n",
+    "Absent\n  From: `print`, `give`, `take`, `left`, `held`, `--all`.\n  \
+    There is no ledger, or no desk, at this path.\n  What to do: check `--file`, or make a ledger with `ledger`.\n",
     "Exists\n  From: `ledger`.\n  A file is at this path already.\n  \
     What to do: a ledger is made only once; use another path.\n",
     "Device\n  From: mostly commands with `--file`.\n  \
@@ -82,7 +82,9 @@ pub static EXPLANATIONS: [&str; 45] = [
     may be (LIMITS.md). Nothing was printed or given. But the ID or the range\n  \
     may be used up, the ticket taken, the page held, or the document forgotten.\n  \
     What to do: read the line `relay: PATH: WHY`, and correct what it names.\n  \
-    Then run the command again. Before you repeat a `give`, look with `left`:\n  its IDs may be lost.\n",
+    Then run the command again. Before you repeat a `give`, look with `left`:\n  \
+    its IDs may be lost. Repeat `--all --forget` with another folder, and keep\n  \
+    the first: it has what was forgotten.\n",
     "Write\n  From: all (`read` and `scan` say nothing).\n  \
     The output refused a write. What was saved stays saved: the ledger is made,\n  \
     the ID used, the range given or taken, the pages held, or the document\n  forgotten.\n  \

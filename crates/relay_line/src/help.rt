@@ -1,9 +1,9 @@
 //! The helps of the commands, whose lines have at most 80 columns.
 
 use crate::said::{
-    ALL, ALL_PAGES, CAPACITY, COUNT, DESK, FIRST, ID, IMAGES, LABELS, LAST, LEAST_SIDE, LEDGER,
-    LEDGERS, NUMBER, OWN_NUMBER, PAGE, PAGES, PLAIN, REFUSAL, SAVED, SCHEME, SIDE, Said, TICKET,
-    TO,
+    ALL, ALL_PAGES, CAPACITY, COUNT, DESK, FIRST, FORGET, ID, IMAGES, LABELS, LAST, LEAST_SIDE,
+    LEDGER, LEDGERS, LONG, NUMBER, OWN_NUMBER, PAGE, PAGES, PLAIN, REFUSAL, SAVED, SCHEME, SIDE,
+    Said, TICKET, TO,
 };
 
 /// A command, what its help says above and below its arguments, and of each of them, in the order of `COMMANDS`.
@@ -255,8 +255,8 @@ Example:
     Page {
         name: "deliver",
         about: "Gives back a document when all its pages are held",
-        usage: "relay deliver --file DESK (--id IIII [--to FILE] | --all DIR)",
-        said: &[DESK, ID, SAVED, ALL],
+        usage: "relay deliver --file DESK (--id IIII [--to FILE] | --all DIR [--forget])",
+        said: &[DESK, ID, SAVED, ALL, FORGET],
         more: "\
 Writes just the document, which stays at the desk. If a page is missing, nothing
 is written but `refused Incomplete`, to standard error. With `--to` the document
@@ -267,6 +267,10 @@ DIR must be there. A file that is there already stays as it was, its document is
 refused `Save`, and the next ones are saved all the same. At the end standard
 error says how many documents are incomplete. If the desk can't be opened,
 nothing is saved. All other refusals go to standard error too.
+
+With `--forget` the desk drops these documents once all of them are saved, as
+`relay forget` does, and a line `forgotten IIII` is printed for each. If one of
+them can't be saved, none is forgotten. Incomplete documents stay.
 
 Examples:
   relay deliver --file desk --id 0101 > letter
@@ -323,16 +327,23 @@ Example:
     Page {
         name: "held",
         about: "Prints which pages a desk holds",
-        usage: "relay held --file DESK [--id IIII]",
-        said: &[DESK, ID],
+        usage: "relay held --file DESK [--id IIII] [--long]",
+        said: &[DESK, ID, LONG],
         more: "\
 Prints a line for each document of which a page is held: `IIII n complete`, or
 `IIII n lacks 3 7 12`: its ID, its number of pages, and which are missing. With
 --id it prints the line of that document alone, or a refusal. A file that can't
-be used doesn't hide the others: `file FILE NAME` comes in its place, and the
-exit status is 1. FILE is its name in the folder DESK.pages, or `joint` for an
-old file at DESK, which may hold the document of --id. Nothing is saved, and
-another program may save meanwhile. A refusal goes to standard output.
+be used doesn't hide the others: `file FILE NAME ID` comes in its place, and the
+exit status is 1. FILE is its name in the folder DESK.pages, which goes with ID,
+or `joint` for an old file at DESK, which may hold the document of --id. Nothing
+is saved, and another program may save meanwhile. A refusal goes to standard
+output: `refused Absent` where no desk is.
+
+With --long each line says more:
+  0101 3 lacks 2, 2 of 3 labels, 512 bytes, \"Dear Sir,\\n\"
+It has how many labels and bytes are held, and how page 1 begins, if that is
+held: at most 40 bytes, escaped where they aren't printable ASCII. The desk is
+opened as by `deliver`, so a file that can't be used is refused.
 
 Example:
   relay held --file desk",

@@ -84,11 +84,11 @@ pub static COMMANDS: [Listed; 21] = [
     Listed { name: "left", rows: &[FILE] },
     Listed { name: "audit", rows: &[Row("images", Words, NoDash)] },
     Listed { name: "scan", rows: &[FILE, CAPACITY, IMAGES] },
-    Listed { name: "deliver", rows: &[FILE, ANY_ID, SAVED, ALL] },
+    Listed { name: "deliver", rows: &[FILE, ANY_ID, SAVED, ALL, Row("forget", Flag, Truth)] },
     Listed { name: "forget", rows: &[FILE, ID] },
     Listed { name: "export", rows: &[FILE, ANY_ID, SAVED, ALL] },
     Listed { name: "import", rows: &[FILE, CAPACITY, IMAGES] },
-    Listed { name: "held", rows: &[FILE, ANY_ID] },
+    Listed { name: "held", rows: &[FILE, ANY_ID, Row("long", Flag, Truth)] },
     Listed { name: "copy", rows: &[
         FILE, ID, Row("page", Required, Number(1, 16)), Row("side", Required, Number(10, 132)), SCHEME,
     ] },

@@ -72,7 +72,11 @@ pub const SAVED: Said = Said("FILE", SAVED_HELP);
 
 pub const ALL: Said = Said("DIR", "save each complete document in this folder, by ID");
 
+pub const FORGET: Said = Said("", "with --all, forget them once all are saved");
+
 pub const ALL_PAGES: Said = Said("DIR", "save each document's pages in this folder, by ID");
+
+pub const LONG: Said = Said("", "also say how much is held, and how page 1 begins");
 
 pub const IMAGES: Said = Said("IMAGES", IMAGES_HELP);
 

@@ -1,8 +1,8 @@
 //! What is at the paths that a line names.
 
-ghost use Rattle.std.specs.Prelude.{◌≡◌, ℕ, List, IfOk, OnErr, OnOk};
+ghost use Rattle.std.specs.Prelude.{◌≡◌, ℕ, List, IfOk, IsTrue, OnErr, OnOk};
 ghost use Rattle.relay_shared.specs.Command.{FileView};
-ghost use Rattle.relay_places.specs.Places.{PlacesView, KeepsOthers, SavesNew, files_of};
+ghost use Rattle.relay_places.specs.Places.{HoldNothing, PlacesView, KeepsOthers, SavesNew, files_of};
 
 use crate::place::Named;
 use dm_store::{Store, StoreFault, StoreSet};
@@ -58,13 +58,14 @@ pub trait Places: Drop {
         ensures is_open { OnOk result (is_open self.new named.entry.file.now) }
         ensures refused { OnErr result (state self.new ≡ state self.old) };
 
-    /// Takes them back after a command of this status, and ends their lock.
+    /// Takes them back after a command of this status, and ends their lock. Where nothing was there, they hold nothing.
     #[rattlefmt::skip] // a signature a line
     fn close(&mut self, named: Named<'_>, file: Self::File, folder: Self::Folder, status: u8) -> Closed
         requires { is_open self.old named.file.now }
         ensures there { state self.new named.entry.file.now
             ≡ files_of (Self.File.state file) (Self.Folder.state folder) }
-        ensures others { KeepsOthers named.entry.file.now (state self.old) (state self.new) };
+        ensures others { KeepsOthers named.entry.file.now (state self.old) (state self.new) }
+        ensures absent { IsTrue result.is_absent → HoldNothing (state self.new named.entry.file.now) };
 
     /// The file to be read of a name.
     ///

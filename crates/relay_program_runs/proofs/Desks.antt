@@ -1,5 +1,5 @@
 -- The desks at some paths, once commands ran: they hold pages of printed labels alone, and so does what they let out.
-use Rattle.std.proofs.Common.{◌≡◌, ◌++◌, inl, inr, ℕ, List, [], ◌∷◌, None, Option, Some, slice_get, slice_set, refl, sym, ap, subst, ◌∙◌}
+use Rattle.std.proofs.Common.{◌≡◌, ◌++◌, inl, inr, true, false, ℕ, List, [], ◌∷◌, None, Option, Some, slice_get, slice_set, refl, sym, ap, subst, ◌∙◌}
 use Rattle.std.specs.{Prelude.IfSome, Prelude.option_map, Io.KnownBytes.Appends}
 use Rattle.std.specs.{List.AllByRecursion, Option.option_copied}
 use Rattle.std.specs.FinMap as finite
@@ -22,7 +22,7 @@ use Rattle.relay_desk_runs.specs.Answered.{GivesPrinted, HoldsPrinted, HasPrinte
 use Rattle.relay_desk_runs.specs.Answered.GivesPrinted.{nothing as gives_nothing, document as gives_document}
 use Rattle.relay_desk_runs.proofs.{Scanning.each_scan_keeps, Importing.each_forget_keeps, Importing.each_import_keeps}
 use Rattle.relay_desk_runs.proofs.Giving.{each_copy_is_printed, each_deliver_is_printed, each_export_is_printed, export_clean}
-use Rattle.relay_desk_runs.proofs.Opened.{at_desk_keeps, held_same}
+use Rattle.relay_desk_runs.proofs.Opened.{at_desk_keeps, held_long_keeps, held_same}
 use Rattle.relay.specs.Program.{Does, path_of}
 use Rattle.relay_program_runs.specs.Law.{DeliversPrinted, FindsLeft, Halts, IsBlank, LeavesAs, LeavesFile, LetsOut, PrintsUnder, Ran, SomeRan, StoreAt, TakesPrinted, WritesPrinted, at_its_path, cut_short, exited, passed, passed_at, status_of, writes, writes_nothing}
 use Rattle.relay_program_runs.specs.Passed.{Passed, passed_by, text_of}
@@ -125,13 +125,19 @@ module _ (A : Type 0) (labels : List Label) (printed : ArePrinted labels) (one :
   effect (Deliver file id) does near sent =
       let d = each_deliver_is_printed labels id.now before status after printed one clean does in
       record { set = d.0.set; exported = tt; copied = tt; delivered = d.1 }
-  effect (Held file id) does near sent = record {
+  effect (Held file id false) does near sent = record {
     set = same_files (held_same (option_copied id) before status after does);
     exported = tt;
     copied = tt;
     delivered = tt;
   }
-  effect (DeliverAll file folder) does near sent =
+  effect (Held file id true) does near sent = record {
+    set = (held_long_keeps labels (option_copied id) before status after clean does).set;
+    exported = tt;
+    copied = tt;
+    delivered = tt;
+  }
+  effect (DeliverAll file folder forgets) does near sent =
       record { set = opening_keeps does; exported = tt; copied = tt; delivered = tt }
   effect (ExportAll file folder) does near sent =
       record { set = opening_keeps does; exported = tt; copied = tt; delivered = tt }

@@ -1,5 +1,5 @@
 -- What a command does to the store at its path: nothing, what its printer does in the machine, or it makes a ledger.
-use Rattle.std.proofs.Common.{◌≡◌, ◌<◌, inl, inr, ℕ, List, [], ◌∷◌, None, Option, Some, slice_get, refl, sym, ap, subst, ◌∙◌, arith}
+use Rattle.std.proofs.Common.{◌≡◌, ◌<◌, inl, inr, true, false, ℕ, List, [], ◌∷◌, None, Option, Some, slice_get, refl, sym, ap, subst, ◌∙◌, arith}
 use Rattle.std.specs.{Prelude.IfSome, Prelude.IsTrue, Option.option_copied, Ordering.nat_cmp}
 use Rattle.std.specs.FinMap as finite
 use Rattle.dm_store.specs.Saved.{Saved}
@@ -19,7 +19,7 @@ use Rattle.relay_runs.proofs.{EachGive.give_follows, EachGive.give_last_follows,
 use Rattle.relay_runs.proofs.{EachTake.take_follows, PrintTold.print_out}
 use Rattle.relay_runs.proofs.Ledgers.{give_idle, give_last_idle, is_made, made_same, print_idle, shown_same, take_idle}
 use Rattle.relay_desk_runs.specs.Answered.{HasNoDocuments}
-use Rattle.relay_desk_runs.proofs.Opened.{at_desk_joint, copy_joint, held_same, import_joint, on_id_joint}
+use Rattle.relay_desk_runs.proofs.Opened.{at_desk_joint, copy_joint, held_long_joint, held_same, import_joint, on_id_joint}
 use Rattle.relay.specs.Program.{Does}
 use Rattle.relay_program_runs.specs.Passed.{Made, Passed, made_by, made_where, passed_by}
 use Rattle.relay_shared.specs.Command.{FileView}
@@ -146,12 +146,14 @@ module _ (A : Type 0) (relay : Relay) (inputs : List FileView) (before after : O
       refl refl
   effect (Import file capacity) does o holds left = idle
       (import_joint capacity before status after (no_documents relay before.files.joint o holds) does.0) refl refl
-  effect (DeliverAll file folder) does o holds left = idle
+  effect (DeliverAll file folder forgets) does o holds left = idle
       (at_desk_joint MOST_CAPACITY before status after (no_documents relay before.files.joint o holds) does) refl refl
   effect (ExportAll file folder) does o holds left = idle
       (at_desk_joint MOST_CAPACITY before status after (no_documents relay before.files.joint o holds) does) refl refl
-  effect (Held file id) does o holds left =
+  effect (Held file id false) does o holds left =
       idle (same_joint (held_same (option_copied id) before status after does)) refl refl
+  effect (Held file id true) does o holds left = idle
+      (held_long_joint (option_copied id) before status after (no_documents relay before.files.joint o holds) does) refl refl
   effect (Copy file id page side scheme) does o holds left = idle
       (copy_joint (record { id = id; page = page; side = side; scheme = scheme }) before status after
       (no_documents relay before.files.joint o holds) does) refl refl

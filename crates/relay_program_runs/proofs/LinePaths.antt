@@ -1,5 +1,5 @@
 -- Lines that ran over the places of a system are commands that ran at a site: the paths that they name, each once.
-use Rattle.std.proofs.Common.{◌≡◌, ◌≢◌, ◌++◌, ◌⊎◌, Bor, inl, inr, ℕ, zero, suc, List, [], ◌∷◌, None, Option, Some, slice_get, slice_set, refl, sym, ap, subst, ◌∙◌, Bool, true, false}
+use Rattle.std.proofs.Common.{◌≡◌, ◌≢◌, ◌++◌, ◌⊎◌, Bor, inl, inr, ℕ, zero, suc, List, [], ◌∷◌, None, Option, Some, slice_get, slice_set, refl, sym, ap, append_assoc, subst, ◌∙◌, Bool, true, false}
 use Rattle.std.specs.{Prelude.Decides, Prelude.map, Prelude.unwrap_or, List.AllByRecursion, Str.bytes_eq}
 use Rattle.std.specs.FinMap as finite
 use Rattle.std.proofs.lemmas.Slice.Eq.{bytes_eq-Decides}
@@ -12,11 +12,11 @@ use Rattle.relay_shared.specs.Files.{DeskFiles}
 use Rattle.relay_desk_commands.specs.{declared.documents.Given.Given}
 use Rattle.relay_desk_commands.specs.declared.documents.Given.TheVariants.{Document, File}
 use Rattle.relay.specs.Places.{PlacesView}
-use Rattle.relay.specs.Program.{named_path, path_of, DoesAll, DoesAndSaves, DoesAt, GivesEach, IsAt, SystemView, all_command, does, does_all, does_and_saves, does_here, gives_each, has_none, lacks_memory, next_id, no_id, one_command, opens_desk, opens_none, shows}
+use Rattle.relay.specs.Program.{named_path, path_of, DoesAll, DoesAndSaves, DoesAt, ForgetsEach, GivesEach, IsAt, SystemView, all_command, does, does_all, does_and_forgets, does_and_saves, does_here, finds as found_there, finds_nothing, forgets_each, forgets_it, forgets_next, forgets_none, gives_each, has_none, ids_of_all, lacks_its_memory, lacks_memory, next_id, no_id, none_left, one_command, opens_desk, opens_none, shows}
 use Rattle.relay.proofs.AllDocuments.{others_stay}
 use Rattle.relay.specs.Program as program
 use Rattle.relay_program_runs.specs.Law.{At, MeetsPremises, IsBlank, IsNew, Ran, RunInTurn, SomeRan, store_of}
-use Rattle.relay_program_runs.specs.Lines.{EachIdOfLinesHasOneDocument, Follow, IsNamedBy, LineRan, LinesAsk, NoLinePrintsAnIdAgain, WhatLinesDeliverIsTheDocument, WhatLinesDeliverWasPrinted, all_commands, commands_in, commands_of, givers_in, ids_of_all, if_named, in_folder, ran_at, saved_as}
+use Rattle.relay_program_runs.specs.Lines.{EachIdOfLinesHasOneDocument, Follow, IsNamedBy, LineRan, LinesAsk, NoLinePrintsAnIdAgain, WhatLinesDeliverIsTheDocument, WhatLinesDeliverWasPrinted, all_commands, commands_in, commands_of, forgetters_in, givers_in, if_named, in_folder, ran_at, saved_as}
 use Rattle.relay_program_runs.specs.InTurn.{WhatLinesRunInTurnFindWhatWasLeft, set_of}
 use Rattle.relay_program_runs.proofs.{Lists.all_so, OneDocument.each_id_has_one_document, OneDocument.what_is_delivered_is_the_document, Walk.no_id_is_printed_twice, Walk.what_is_delivered_was_printed, Walk.what_runs_in_turn_finds_what_was_left}
 use Rattle.relay_program_runs.proofs.Steps.{Pairs, at_same, found, pairs_so, there}
@@ -249,7 +249,7 @@ module _ (A : Type 0) where
         over_one _ from id _ _ _ _ to (givers_in later ++ rans) all.1 saved.0 (over_each later rans all.1 saved.1 over)
 
     over_opening : (what : Given) (file folder : Bor (List ℕ)) (old new : SystemView) (status : ℕ)
-        (at : DoesAt A (all_command what file folder) [] old status new) (rans : List (Ran A)) → RunsOver new.places rans →
+        (at : DoesAt A (all_command what false file folder) [] old status new) (rans : List (Ran A)) → RunsOver new.places rans →
         RunsOver old.places (ran_at at ∷ rans)
     over_opening Document file folder old new status at rans over =
         over_at (Some file.now) (ran_at at) old.places new.places refl at.is_at rans over
@@ -267,17 +267,36 @@ module _ (A : Type 0) where
         over_opening _ _ _ _ seen 0 at rans (subst (λ (p : PlacesView). RunsOver p rans) same over)
     over_all (opens_none refused at) rans all saved over = over_opening _ _ _ _ _ _ at rans over
 
+    over_forgetting : {file : List ℕ} {ids : List (List ℕ)} {old new : SystemView} {status : ℕ}
+        (each : ForgetsEach A file ids old status new) (rans : List (Ran A)) → RunsOver new.places rans →
+        RunsOver old.places (forgetters_in each ++ rans)
+    over_forgetting none_left rans over = over
+    over_forgetting (forgets_next (forgets_it from id at is ran) later) rans over =
+        over_at (Some from.now) (ran_at ran) _ _ refl ran.is_at (forgetters_in later ++ rans) (over_forgetting later rans over)
+    over_forgetting (forgets_next (lacks_its_memory same told) later) rans over =
+        subst (λ (p : PlacesView). RunsOver p (forgetters_in later ++ rans)) same (over_forgetting later rans over)
+
     over_line : (inputs : List ℕ → FileView) (words : List (List ℕ)) (old new : SystemView) (status : ℕ)
         (line : program.Runs A inputs words old status new) (rans : List (Ran A)) → AllIn paths (commands_in line ++ rans) →
         AllByRecursion (IsNone paths) (saved_as line) → RunsOver new.places rans →
         RunsOver old.places (commands_in line ++ rans)
-    over_line inputs words old new status (does line right given (does_here none one at)) rans all saved over =
+    over_line inputs words old new status (does line right given (does_here none one (found_there at))) rans all saved over =
         over_at (named_path line.command) (ran_at at) old.places new.places refl at.is_at rans over
+    over_line inputs words old new status (does line right given (does_here none one (finds_nothing seen held at holds same told)))
+        rans all saved over = over_at (named_path line.command) (ran_at at) old.places seen.places refl at.is_at rans
+        (subst (λ (p : PlacesView). RunsOver p rans) same over)
     over_line inputs words old new status (does line right given (does_and_saves path is to)) rans all saved over =
         over_saved line.command path old new status to rans
         (all_later _ (if_named (named_path line.command) (ran_at to.does)) rans all) saved.0 over
     over_line inputs words old new status (does line right given (does_all what file folder is each)) rans all saved over =
         over_all each rans all saved over
+    over_line inputs words old new status
+        (does line right given (does_and_forgets file folder is (forgets_each done each forgets))) rans all saved over =
+        let are = append_assoc (commands_of each) (forgetters_in forgets) rans in
+        subst (λ (later : List (Ran A)). RunsOver old.places later) (sym are)
+        (over_all each (forgetters_in forgets ++ rans) (subst (AllIn paths) are all) saved (over_forgetting forgets rans over))
+    over_line inputs words old new status (does line right given (does_and_forgets file folder is (forgets_none fails each)))
+        rans all saved over = over_all each rans all saved over
     over_line inputs words old new status (does line right given (lacks_memory names same told)) rans all saved over =
         subst (λ (p : PlacesView). RunsOver p rans) same over
     over_line inputs words old new status (shows fault ends shown same) rans all saved over =

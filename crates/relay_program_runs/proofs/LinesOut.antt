@@ -1,5 +1,5 @@
 -- What comes out of lines that deliver: the document of the ID, or those of all IDs of the desk.
-use Rattle.std.proofs.Common.{◌≡◌, ◌≢◌, ◌++◌, ◌∷◌, inl, inr, ℕ, List, [], None, Option, Some, codes, refl, slice_get, sym, ap, subst, ◌∙◌, append-nil, append_assoc}
+use Rattle.std.proofs.Common.{◌≡◌, ◌≢◌, ◌++◌, ◌∷◌, inl, inr, true, false, ℕ, List, [], None, Option, Some, codes, refl, slice_get, sym, ap, subst, ◌∙◌, append-nil, append_assoc}
 use Rattle.std.specs.{Borrow.Bor, Prelude.IfSome, Prelude.IsTrue, Prelude.MatchOption, Prelude.map, Prelude.option_map, List.AllByRecursion}
 use Rattle.dm_size.specs.declared.size.Size.{Size}
 use Rattle.dm_symbol.specs.Correction.{CarriesItsWords}
@@ -11,11 +11,11 @@ use Rattle.relay_desk_commands.specs.Desks.{ids_given}
 use Rattle.relay_desk_commands.specs.declared.documents.Given.TheVariants.{Document, File}
 use Rattle.relay_buffers.specs.Buffers.{IsPartOut}
 use Rattle.relay.specs.Places.{PlacesView}
-use Rattle.relay.specs.Program.{DoesAll, DoesAndSaves, DoesAt, GivesHeld, PutsRefusal, SystemView, does, does_all, does_and_saves, does_here, gives_each, has_none, lacks_memory, named_path, opens_desk, opens_none, path_of, refuses_on_errors, shows}
+use Rattle.relay.specs.Program.{DoesAll, DoesAndSaves, DoesAt, ForgetsEach, GivesHeld, PutsRefusal, SystemView, does, does_all, does_and_forgets, does_and_saves, does_here, finds, finds_nothing, forgets_each, forgets_it, forgets_next, forgets_none, gives_each, has_none, ids_of_all, is_held, lacks_its_memory, lacks_memory, named_path, none_left, opens_desk, opens_none, path_of, refuses_on_errors, shows}
 use Rattle.relay.specs.Program as program
 use Rattle.relay_program_runs.specs.Passed.{text_of}
 use Rattle.relay_program_runs.specs.Law.{DeliversPrinted, Each, IsDocumentOf, PrintsUnder, Ran}
-use Rattle.relay_program_runs.specs.Lines.{LetsOutTheDocument, LineRan, PutsTheDocument, SavesTheDocument, WhatLinesLetOutIsTheDocument, all_commands, commands_in, commands_of, givers_of, ids_of_all, if_named, in_folder, ran_at, saved_as}
+use Rattle.relay_program_runs.specs.Lines.{LetsOutTheDocument, LineRan, PutsTheDocument, SavesTheDocument, WhatLinesLetOutIsTheDocument, all_commands, commands_in, commands_of, forgetters_in, givers_of, if_named, in_folder, ran_at, saved_as}
 use Rattle.relay_program_runs.proofs.DocumentOut.{PrintIt, not_zero, one_more, part_all, put_out, save_out}
 use Rattle.relay_program_runs.proofs.DocumentsOut.{comes, each_in, of_map}
 use Rattle.relay_program_runs.proofs.{GotOut.refused_one, Lists.all_so, OneDocument.in_all, Steps.found}
@@ -26,7 +26,7 @@ use Rattle.relay_program_runs.proofs.LinePaths.{all_later, each_id_of_lines_has_
 module _ (A : Type 0) (IsAmong : List ℕ → Type 0) (earlier : List (Ran A)) (IsIt : List ℕ → List ℕ → Type 0)
     (print : PrintIt IsIt earlier) where
   by_held : (file folder : Bor (List ℕ)) (old seen new : SystemView) (status : ℕ) (held : Documents)
-      (at : DoesAt A (DeliverAll file folder) [] old 0 seen)
+      (at : DoesAt A (DeliverAll file folder false) [] old 0 seen)
       (gives : GivesHeld A Document file.now folder.now held seen status new) (rest : List (Ran A)) →
       Each (DeliversPrinted IsAmong) (earlier ++ ran_at at ∷ []) (givers_of gives ++ rest) → IsAmong file.now →
       (text : List ℕ) (i : ℕ) → slice_get (map id_text (ids_given Document held)) i ≡ Some text →
@@ -68,6 +68,45 @@ module _ (A : Type 0) (IsAmong : List ℕ → Type 0) (earlier : List (Ran A)) (
       all_apart i id is).0)
   by_all file folder old new status (opens_none refused at) rest delivers apart among = tt
 
+  -- what is forgotten leaves the files that were saved
+  forgets_keep : {file : List ℕ} {ids : List (List ℕ)} {old new : SystemView} {status : ℕ}
+      (each : ForgetsEach A file ids old status new) (path : List ℕ) → path ≢ file → new.places path ≡ old.places path
+  forgets_keep none_left path apart = refl
+  forgets_keep (forgets_next (forgets_it from id at is ran) later) path apart =
+      forgets_keep later path apart ∙ ran.is_at.2 path (λ same. apart (same ∙ at))
+  forgets_keep (forgets_next (lacks_its_memory same told) later) path apart =
+      forgets_keep later path apart ∙ ap (λ (p : PlacesView). p path) same
+
+  still_saved : (IsDocument : List ℕ → Type 0) (path : List ℕ) (old saved new : SystemView) (status : ℕ) →
+      SavesTheDocument IsDocument path old 0 saved → new.places path ≡ saved.places path →
+      SavesTheDocument IsDocument path old status new
+  still_saved IsDocument path old saved new status saves kept honest = elim (saves honest) [
+    | inl (fails, same) ↦ absurd (fails refl)
+    | inr (document, it, is) ↦ inr (document, it, ap (λ (f : DeskFiles). f.joint.content) kept ∙ is)
+  ]
+
+  by_forgetting : (file folder : Bor (List ℕ)) (old saved new : SystemView) (status : ℕ)
+      (all : DoesAll A Document file folder old 0 saved)
+      (each : ForgetsEach A file.now (ids_of_all all) saved status new) (rest : List (Ran A)) →
+      Each (DeliversPrinted IsAmong) earlier (commands_of all ++ (forgetters_in each ++ rest)) →
+      AllByRecursion (λ path. AllByRecursion (λ (ran : Ran A). path ≢ path_of ran.command)
+      (commands_of all ++ (forgetters_in each ++ rest))) (map (in_folder folder.now) (ids_of_all all)) → IsAmong file.now →
+      AllByRecursion (λ id. SavesTheDocument (IsIt id) (in_folder folder.now id) old status new) (ids_of_all all)
+  by_forgetting file folder old saved new status (opens_desk seen desk at between gives) each rest delivers apart among =
+      let ids : List (List ℕ) = map id_text (ids_given Document desk.held) in
+      let rans : List (Ran A) = ran_at at ∷ (givers_of gives ++ (forgetters_in each ++ rest)) in
+      let all_apart = of_map (λ (path : List ℕ). AllByRecursion (λ (ran : Ran A). path ≢ path_of ran.command) rans)
+      (in_folder folder.now) ids apart in
+      let saves = by_all file folder old saved 0 (opens_desk seen desk at between gives) (forgetters_in each ++ rest) delivers
+      apart among in
+      each_in (λ (id : List ℕ). SavesTheDocument (IsIt id) (in_folder folder.now id) old status new) ids (λ id i is.
+      still_saved (IsIt id) (in_folder folder.now id) old saved new status
+      (found (λ (id : List ℕ). SavesTheDocument (IsIt id) (in_folder folder.now id) old 0 saved) ids saves i id is)
+      (forgets_keep each (in_folder folder.now id)
+      (found (λ (id : List ℕ). AllByRecursion (λ (ran : Ran A). in_folder folder.now id ≢ path_of ran.command) rans) ids
+      all_apart i id is).0))
+  by_forgetting file folder old saved new status (opens_none refused at) each rest delivers apart among = tt
+
   abbrev named_in : Option (Bor (List ℕ)) → Option (List ℕ)
   named_in saved = option_map (λ path. path.now) saved
 
@@ -84,6 +123,12 @@ module _ (A : Type 0) (IsAmong : List ℕ → Type 0) (earlier : List (Ran A)) (
       λ among. put_out A earlier IsIt print (Deliver file id) inputs id.now old new status at (each.0 among)
   by_here (Deliver file id) inputs (Some path) is old new status at rest each = cc (is)
   by_here other inputs saved is old new status at rest each = tt
+
+  -- `held` gives no document
+  by_nothing : (command : Command) (saved : Option (Bor (List ℕ))) → is_held command ≡ true → (old new : SystemView)
+      (status : ℕ) → Out command saved old status new
+  by_nothing (Deliver file id) saved held old new status = cc (held)
+  by_nothing other saved held old new status = tt
 
   by_saved : (command : Command) (path : List ℕ) (saved : Option (Bor (List ℕ))) → named_in saved ≡ Some path →
       (old new : SystemView) (status : ℕ) (to : DoesAndSaves A command path old status new) (rest : List (Ran A)) →
@@ -117,13 +162,24 @@ module _ (A : Type 0) (IsAmong : List ℕ → Type 0) (earlier : List (Ran A)) (
       Each (DeliversPrinted IsAmong) earlier (commands_in runs ++ rest) →
       AllByRecursion (λ path. AllByRecursion (λ (ran : Ran A). path ≢ path_of ran.command) (commands_in runs ++ rest))
       (saved_as runs) → LetsOutTheDocument IsAmong IsIt runs
-  by_runs inputs words old new status (does line right met (does_here none one at)) rest each apart =
+  by_runs inputs words old new status (does line right met (does_here none one (finds at))) rest each apart =
       by_here line.command _ line.saved_as none old new status at rest each
+  by_runs inputs words old new status (does line right met (does_here none one (finds_nothing seen held at holds same told))) rest
+      each apart = by_nothing line.command line.saved_as held old new status
   by_runs inputs words old new status (does line right met (does_and_saves path is to)) rest each apart =
       by_saved line.command path line.saved_as is old new status to rest each apart.0
   by_runs inputs words old new status (does line right met (does_all Document file folder is all)) rest each apart =
       by_all file folder old new status all rest each apart
   by_runs inputs words old new status (does line right met (does_all File file folder is all)) rest each apart = tt
+  by_runs inputs words old new status
+      (does line right met (does_and_forgets file folder is (forgets_each saved all forgets))) rest each apart =
+      let are = append_assoc (commands_of all) (forgetters_in forgets) rest in
+      by_forgetting file folder old saved new status all forgets rest
+      (subst (λ (rans : List (Ran A)). Each (DeliversPrinted IsAmong) earlier rans) are each)
+      (subst (λ (rans : List (Ran A)). AllByRecursion (λ path. AllByRecursion (λ (ran : Ran A). path ≢ path_of ran.command) rans)
+      (map (in_folder folder.now) (ids_of_all all))) are apart)
+  by_runs inputs words old new status (does line right met (does_and_forgets file folder is (forgets_none fails all))) rest
+      each apart = by_all file folder old new status all rest each apart
   by_runs inputs words old new status (does line right met (lacks_memory names same told)) rest each apart =
       by_lacks line.command line.saved_as old new status same told
   by_runs inputs words old new status (shows fault ends shown same) rest each apart = tt

@@ -3,11 +3,10 @@ use Rattle.std.specs.Prelude.{◌≡◌, ◌≢◌, ◌++◌, ◌∷◌, ◌⊎�
 use Rattle.std.specs.{Borrow.Bor, List.AllByRecursion, Io.KnownBytes.Appends, Io.KnownBytes.Keeps, Io.KnownBytes.append_known}
 use Rattle.dm_store.specs.Saved.{SavedIn}
 use Rattle.dm_assembly_desk.specs.Documents.{Documents}
-use Rattle.relay_shared.specs.Lines.{id_text}
 use Rattle.relay_command.specs.declared.command.Command.{Command}
-use Rattle.relay_desk_commands.specs.{Desks.ids_given, declared.documents.Given.Given, declared.documents.Given.TheVariants.Document, declared.documents.Given.TheVariants.File}
+use Rattle.relay_desk_commands.specs.{declared.documents.Given.Given, declared.documents.Given.TheVariants.Document, declared.documents.Given.TheVariants.File}
 use Rattle.relay_buffers.specs.Buffers.{IsPartOut}
-use Rattle.relay.specs.{Places.PlacesView, Program.named_path, Program.path_of, Program.DoesAll, Program.DoesAt, Program.GivesEach, Program.GivesHeld, Program.SystemView, Program.does, Program.does_all, Program.does_and_saves, Program.does_here, Program.gives_each, Program.has_none, Program.next_id, Program.no_id, Program.opens_desk, Program.opens_none, Program.shows, Program.streams_over}
+use Rattle.relay.specs.{Places.PlacesView, Program.named_path, Program.path_of, Program.DoesAll, Program.DoesAt, Program.ForgetsEach, Program.GivesEach, Program.GivesHeld, Program.SystemView, Program.does, Program.does_all, Program.does_and_forgets, Program.does_and_saves, Program.does_here, Program.finds, Program.finds_nothing, Program.forgets_each, Program.forgets_it, Program.forgets_next, Program.forgets_none, Program.gives_each, Program.has_none, Program.ids_of_all, Program.lacks_its_memory, Program.next_id, Program.no_id, Program.none_left, Program.opens_desk, Program.opens_none, Program.shows, Program.streams_over}
 use Rattle.relay.specs.Program as program
 use Rattle.relay_program_runs.specs.Law.{AreApart, AreVouchedFor, DeliversPrinted, DeliversTheDocument, Each, IsBlank, HaveOneDocument, IsDocumentOf, IsFirstOfItsId, Ran, SomeRan, TakesGiven, all_made, exited, store_of}
 use Rattle.relay_program_runs.specs.Passed.{text_of}
@@ -64,28 +63,38 @@ module _ {A : Type 0} where
   commands_of (opens_desk seen desk at between gives) = ran_at at ∷ givers_of gives
   commands_of (opens_none refused at) = ran_at at ∷ []
 
+  -- the commands that forget documents, in turn
+  abbrev pub forgetters_in : {file : List ℕ} {ids : List (List ℕ)} {old new : SystemView} {status : ℕ} →
+      ForgetsEach A file ids old status new → List (Ran A)
+  forgetters_in none_left = []
+  forgetters_in (forgets_next (forgets_it from id at is ran) later) = ran_at ran ∷ forgetters_in later
+  forgetters_in (forgets_next (lacks_its_memory same told) later) = forgetters_in later
+
   abbrev pub commands_in : {inputs : List ℕ → FileView} {words : List (List ℕ)} {old new : SystemView} {status : ℕ} →
       program.Runs A inputs words old status new → List (Ran A)
-  commands_in (does line right is (does_here none one at)) = if_named (named_path line.command) (ran_at at)
+  commands_in (does line right is (does_here none one (finds at))) = if_named (named_path line.command) (ran_at at)
+  commands_in (does line right is (does_here none one (finds_nothing seen held at holds same told))) =
+      if_named (named_path line.command) (ran_at at)
   commands_in (does line right is (does_and_saves path saved to)) = if_named (named_path line.command) (ran_at to.does)
   commands_in (does line right is (does_all what file folder gives all)) = commands_of all
+  commands_in (does line right is (does_and_forgets file folder gives (forgets_each saved all forgets))) =
+      commands_of all ++ forgetters_in forgets
+  commands_in (does line right is (does_and_forgets file folder gives (forgets_none fails all))) = commands_of all
   commands_in other = []
 
   abbrev pub all_commands : List (LineRan A) → List (Ran A)
   all_commands [] = []
   all_commands (line ∷ later) = commands_in line.runs ++ all_commands later
 
-  -- the IDs of the documents of a desk that were to be saved
-  abbrev pub ids_of_all : {what : Given} {file folder : Bor (List ℕ)} {old new : SystemView} {status : ℕ} →
-      DoesAll A what file folder old status new → List (List ℕ)
-  ids_of_all {what} (opens_desk seen desk at between gives) = map id_text (ids_given what desk.held)
-  ids_of_all (opens_none refused at) = []
-
   -- the paths at which a line was to save its outputs
   abbrev pub saved_as : {inputs : List ℕ → FileView} {words : List (List ℕ)} {old new : SystemView} {status : ℕ} →
       program.Runs A inputs words old status new → List (List ℕ)
   saved_as (does line right is (does_and_saves path saved to)) = path ∷ []
   saved_as (does line right is (does_all what file folder gives all)) = map (in_folder folder.now) (ids_of_all all)
+  saved_as (does line right is (does_and_forgets file folder gives (forgets_each saved all forgets))) =
+      map (in_folder folder.now) (ids_of_all all)
+  saved_as (does line right is (does_and_forgets file folder gives (forgets_none fails all))) =
+      map (in_folder folder.now) (ids_of_all all)
   saved_as other = []
 
   -- ---- premises
@@ -136,6 +145,12 @@ LetsOutTheDocument IsAmong IsIt {old} {new} {status}
     (does line right is (does_all Document file folder gives all)) = IsAmong file.now →
     AllByRecursion (λ id. SavesTheDocument (IsIt id) (in_folder folder.now id) old status new) (ids_of_all all)
 LetsOutTheDocument IsAmong IsIt (does line right is (does_all File file folder gives all)) = Unit {0}
+LetsOutTheDocument IsAmong IsIt {old} {new} {status}
+    (does line right is (does_and_forgets file folder gives (forgets_each saved all forgets))) = IsAmong file.now →
+    AllByRecursion (λ id. SavesTheDocument (IsIt id) (in_folder folder.now id) old status new) (ids_of_all all)
+LetsOutTheDocument IsAmong IsIt {old} {new} {status}
+    (does line right is (does_and_forgets file folder gives (forgets_none fails all))) = IsAmong file.now →
+    AllByRecursion (λ id. SavesTheDocument (IsIt id) (in_folder folder.now id) old status new) (ids_of_all all)
 LetsOutTheDocument IsAmong IsIt {old} {new} {status} (does line right is done) =
     IfSome (text_of line.command) (λ text. IsAmong (path_of line.command) →
     MatchOption line.saved_as (PutsTheDocument (IsIt text) old status new) (λ path.

@@ -2,7 +2,7 @@ use Rattle.std.proofs.Common.{◌≡◌, ℕ, List, true, codes, refl, subst, sy
 use Rattle.clap.specs.Words.{found_of, rows_of}
 use Rattle.clap.proofs.WalkLemmas.{both}
 use Rattle.relay_line.proofs.Commands.{scan_kept, import_kept, held_kept, forget_kept, copy_kept}
-use Rattle.relay_line.proofs.Kept.{differs}
+use Rattle.relay_line.proofs.Kept.{differs, flag_read}
 use Rattle.relay_line.specs.Rules.{keeps_rules}
 use Rattle.relay_line.proofs.command.desk_command_of.Goals as goal
 
@@ -19,7 +19,7 @@ returns-in-import-clause-values c =
 pub returns-in-held-clause-values : goal.returns-in-held-clause-values
 returns-in-held-clause-values c =
     let kept = held_kept (rows_of (found_of c.args.options.now)) (subst (λ (n : List ℕ). keeps_rules n (rows_of (found_of c.args.options.now)) ≡ true) c.in-held.is c.requires) in
-    (c.text_of-file.ensures (both _ _ kept).0, sym c.some_text_of.ensures)
+    (c.text_of-file.ensures (both _ _ kept.0).0, sym c.some_text_of-id.ensures, flag_read (rows_of (found_of c.args.options.now)) "long" kept.1 _ c.is_set-is_long.ensures)
 
 pub returns-in-forget-clause-values : goal.returns-in-forget-clause-values
 returns-in-forget-clause-values c =

@@ -2,7 +2,7 @@ use Rattle.std.proofs.Common.{◌≡◌, ℕ, List, true, codes, refl, subst, ar
 use Rattle.clap.specs.Words.{found_of, rows_of}
 use Rattle.clap.proofs.WalkLemmas.{both}
 use Rattle.relay_line.proofs.Commands.{words_kept, draw_kept, plan_kept, ticket_kept}
-use Rattle.relay_line.proofs.Kept.{differs}
+use Rattle.relay_line.proofs.Kept.{differs, flag_read}
 use Rattle.relay_line.specs.Rules.{keeps_rules}
 use Rattle.relay_line.proofs.command.plain_command_of.Goals as goal
 
@@ -14,7 +14,7 @@ returns-in-words-clause-values c =
 pub returns-in-draw-clause-values : goal.returns-in-draw-clause-values
 returns-in-draw-clause-values c =
     let kept = draw_kept (rows_of (found_of c.args.options.now)) (subst (λ (n : List ℕ). keeps_rules n (rows_of (found_of c.args.options.now)) ≡ true) c.in-draw.is c.requires) in
-    (c.number_of-side.ensures 10 132 (omega arith) kept.0, c.encodation_of-scheme.ensures kept.1, c.is_plain.ensures kept.2)
+    (c.number_of-side.ensures 10 132 (omega arith) kept.0, c.encodation_of-scheme.ensures kept.1, flag_read (rows_of (found_of c.args.options.now)) "plain" kept.2 _ c.is_set.ensures)
 
 pub returns-in-plan-clause-values : goal.returns-in-plan-clause-values
 returns-in-plan-clause-values c =

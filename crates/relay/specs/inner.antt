@@ -1,0 +1,2 @@
+-- Private: only contracts inside this crate cite what stands in this folder.
+pub mod Given
