@@ -15,11 +15,11 @@ _relay() {
     left) words='--file --help' ;;
     audit) words='--help' ;;
     scan) words='--capacity --file --help' ;;
-    deliver) words='--all --file --help --id --to' ;;
+    deliver) words='--all --file --forget --help --id --to' ;;
     forget) words='--file --help --id' ;;
     export) words='--all --file --help --id --to' ;;
     import) words='--capacity --file --help' ;;
-    held) words='--file --help --id' ;;
+    held) words='--file --help --id --long' ;;
     copy) words='--file --help --id --page --scheme --side' ;;
     world) words='--help' ;;
     explain) words='--help' ;;

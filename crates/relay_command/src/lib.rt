@@ -7,4 +7,4 @@ mod command;
 mod scheme;
 
 pub use command::{Command, Labels};
-pub use scheme::{SCHEMES, scheme_of};
+pub use scheme::scheme_of;

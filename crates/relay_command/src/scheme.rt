@@ -6,10 +6,7 @@ ghost use Rattle.relay_command.specs.Schemes.{scheme_name};
 
 use dm_encodation::Scheme;
 
-/// The names of the encodations.
-pub const SCHEMES: [&str; 4] = ["ascii", "c40", "text", "base256"];
-
-/// The encodation of a name, if it is one of `SCHEMES`.
+/// The encodation of a name, if one has it.
 pub fn scheme_of(name: &str) -> Option<Scheme>
     ensures { MatchOption result
         ((scheme : Scheme) → name.now ≢ scheme_name scheme)

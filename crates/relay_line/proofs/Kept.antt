@@ -1,14 +1,13 @@
 -- What is known of the options of a line that keeps the rules.
-use Rattle.std.proofs.Common.{◌≡◌, ◌≤◌, ◌&&◌, ℕ, Bool, List, [], ◌∷◌, Option, Some, None, true, false, refl, is_some, option_map, unwrap_or, slice_get, find, arith, ◌<◌, ◌^◌, ◌∙◌, ◌||◌, ◌++◌, ◌≢◌, ap, sym, subst, codes, map}
+use Rattle.std.proofs.Common.{◌≡◌, ◌≤◌, ◌&&◌, ℕ, Bool, List, [], ◌∷◌, Option, Some, None, true, false, refl, is_some, option_map, unwrap_or, slice_get, find, arith, ◌<◌, ◌^◌, ◌∙◌, ◌||◌, ◌≢◌, ap, sym, subst, codes, map, if◌then◌else◌}
 use Rattle.std.proofs.lemmas.Bool.{false_from_ne_true, lt-ltb}
 use Rattle.std.proofs.lemmas.Slice.Eq.{bytes_eq-Decides}
-use Rattle.std.specs.Prelude.{nat_le, nat_lt}
+use Rattle.std.specs.Prelude.{MatchOption, nat_le, nat_lt}
 use Rattle.std.specs.Str.Parse.{IsNumeral, digits_value, without_leading_plus}
-use Rattle.std.proofs.lemmas.Bool.{true≢false, false≢true}
 use Rattle.std.specs.Option.{option_map_or}
 use Rattle.std.specs.Prelude.{option_and_then}
-use Prim.Native.String.{String}
 use Rattle.std.specs.List.{list_all}
+use Rattle.std.specs.Borrow.{Bor}
 use Rattle.std.specs.Str.{bytes_eq}
 use Rattle.clap.specs.Words.{Row, first_of}
 use Rattle.clap.proofs.WalkLemmas.{both}
@@ -19,60 +18,42 @@ use Rattle.clap.specs.declared.builder.value_parser.ValueParser.TheVariants as v
 use Rattle.dm_encodation.specs.declared.scheme.Scheme.{Scheme}
 use Rattle.dm_encodation.specs.declared.scheme.Scheme.TheVariants as schemes
 use Rattle.relay_command.specs.Schemes.{scheme_name}
-use Rattle.relay_line.specs.Line.{HasFlag, HasText, number_at}
-use Rattle.relay_line.specs.Rules.{has, is_among, is_set, meets, takes}
+use Rattle.relay_line.specs.Line.{number_at}
+use Rattle.relay_line.specs.Rules.{is_among, is_set, meets, takes}
 use Rattle.relay_line.specs.declared.options.Values.{Values}
 use Rattle.relay_line.specs.declared.options.Values.TheVariants.{Number, Truth}
-use Rattle.relay_line.specs.declared.options.Values.TheVariants.{Scheme as TakesScheme}
 
--- an option that has a value, and takes each, takes its first one
-taken_in : (values : Values) (texts : List (List ℕ))
-    → (is_some (slice_get texts 0) && list_all (takes values) texts) ≡ true
-    → (text : List ℕ) × (slice_get texts 0 ≡ Some text) × (takes values text ≡ true)
-taken_in values [] kept = absurd (false≢true kept)
-taken_in values (text ∷ texts) kept = (text, refl, (both _ _ kept).0)
+some_same : {a b : List ℕ} → Some a ≡ Some b → a ≡ b
+some_same same = ap (λ (o : Option (List ℕ)). unwrap_or o []) same
 
-taken_of : (values : Values) (row : Option Row)
-    → (is_some (option_and_then (λ (r : Row). slice_get r.values 0) row)
-    && list_all (takes values) (unwrap_or (option_map (λ (r : Row). r.values) row) [])) ≡ true
-    → (text : List ℕ) × (option_and_then (λ (r : Row). slice_get r.values 0) row ≡ Some text) × (takes values text ≡ true)
-taken_of values None kept = absurd (false≢true kept)
-taken_of values (Some row) kept = taken_in values row.values kept
+-- an option that takes each of its values takes the first one
+first_in : (values : Values) (row : Option Row) (text : List ℕ) → Some text ≡ option_and_then (λ (r : Row). slice_get r.values 0) row
+    → list_all (takes values) (unwrap_or (option_map (λ (r : Row). r.values) row) []) ≡ true → takes values text ≡ true
+first_in values None text first kept = cc
+first_in values (Some row) text first kept = at row.values first kept
+  where
+    at : (texts : List (List ℕ)) → Some text ≡ slice_get texts 0 → list_all (takes values) texts ≡ true → takes values text ≡ true
+    at [] first kept = cc
+    at (t ∷ texts) first kept = subst (λ x. takes values x ≡ true) (sym (some_same first)) (both _ _ kept).0
 
-pub first_taken : (found : List Row) (name : List ℕ) (values : Values) → meets found name values ≡ true
-    → (text : List ℕ) × (first_of name found ≡ Some text) × (takes values text ≡ true)
-first_taken found name values kept = taken_of values (find (λ row. bytes_eq row.id name) found) kept
-
--- the text of an option that has a value, and takes each
-some_same : (a b : List ℕ) → Some a ≡ Some b → a ≡ b
-some_same a b same = ap (λ (o : Option (List ℕ)). unwrap_or o []) same
-
-taken_text : (found : List Row) (name text : List ℕ) (values : Values)
-    → (has found name ≡ true → first_of name found ≡ Some text) → meets found name values ≡ true → takes values text ≡ true
-taken_text found name text values first kept =
-    let taken = first_taken found name values kept in
-    subst (λ t. takes values t ≡ true) (some_same _ _ (sym taken.1 ∙ first (both _ _ kept).0)) taken.2
+pub first_taken : (found : List Row) (name : List ℕ) (values : Values) (text : List ℕ) → Some text ≡ first_of name found
+    → meets found name values ≡ true → takes values text ≡ true
+first_taken found name values text first kept = first_in values (find (λ row. bytes_eq row.id name) found) text first (both _ _ kept).1
 
 -- the number that a text writes
 abbrev written : List ℕ → ℕ
 written text = digits_value 10 (without_leading_plus text)
 
-module _ (found : List Row) (name text : List ℕ) (least most : ℕ) (first : has found name ≡ true → first_of name found ≡ Some text)
-    (kept : meets found name (Number least most) ≡ true) where
-  taken_number : IsUnsignedIn least most text
-  taken_number = accepts-Accepts false (vp.Unsigned least most) text (taken_text found name text (Number least most) first kept)
+module _ (found : List Row) (name text : List ℕ) (least most : ℕ)
+    (taken : (first_of name found ≡ Some text) × (takes (Number least most) text ≡ true)) where
+  within : IsUnsignedIn least most text
+  within = accepts-Accepts false (vp.Unsigned least most) text taken.1
 
   pub number_read : (n : ℕ) → n ≡ written text → (least ≤ n) × (n ≤ most) × (number_at found name ≡ Some n)
-  number_read n is =
-      let there = first (both _ _ kept).0 in (
-        subst (λ k. least ≤ k) (sym is) taken_number.2,
-        subst (λ k. k ≤ most) (sym is) taken_number.3,
-        ap (option_map written) there ∙ ap (λ (k : ℕ). Some k) (sym is),
-      )
+  number_read n is = rw is (within.2, within.3, ap (option_map written) taken.0)
 
   pub number_fits : most < 65536 → (IsNumeral 10 (without_leading_plus text) × (written text < 65536) → ⊥) → ⊥
   number_fits small refused =
-      let within = taken_number in
       let below : written text < 65536 = omega (arith, within.3, small) in
       refused (within.0, below)
 
@@ -94,10 +75,10 @@ out_of_range text least most small refused = false_from_ne_true _ (λ passes.
     refused (within.0, below))
 
 -- the names of encodations
-abbrev pub scheme_names : List (List ℕ)
+abbrev scheme_names : List (List ℕ)
 scheme_names = map scheme_name (schemes.Ascii ∷ schemes.C40 ∷ schemes.Text ∷ schemes.Base256 ∷ [])
 
-pub scheme_listed : (scheme : Scheme) → is_among scheme_names (scheme_name scheme) ≡ true
+scheme_listed : (scheme : Scheme) → is_among scheme_names (scheme_name scheme) ≡ true
 scheme_listed schemes.Ascii = refl
 scheme_listed schemes.C40 = refl
 scheme_listed schemes.Text = refl
@@ -109,68 +90,40 @@ no_scheme text none = rw (differs schemes.Ascii, differs schemes.C40, differs sc
     differs : (scheme : Scheme) → bytes_eq (scheme_name scheme) text ≡ false
     differs scheme = false_from_ne_true _ (λ same. none scheme (sym ((bytes_eq-Decides _ _).0 same)))
 
-module _ (found : List Row) (text : List ℕ) where
-  pub scheme_read : (has found (codes "scheme") ≡ true → first_of (codes "scheme") found ≡ Some text)
-      → meets found (codes "scheme") TakesScheme ≡ true → (scheme : Scheme) → text ≡ scheme_name scheme
-      → HasText found "scheme" (scheme_name scheme)
-  scheme_read first kept scheme is = first (both _ _ kept).0 ∙ ap (λ (t : List ℕ). Some t) is
+-- a name of an encodation, and no other, is taken
+pub scheme_taken : (text : List ℕ) (known : Option Scheme)
+    → MatchOption known ((scheme : Scheme) → text ≢ scheme_name scheme) (λ scheme. text ≡ scheme_name scheme)
+    → is_some known ≡ is_among scheme_names text
+scheme_taken text None none = sym (no_scheme text none)
+scheme_taken text (Some scheme) is = sym (subst (λ t. is_among scheme_names t ≡ true) (sym is) (scheme_listed scheme))
 
-  pub scheme_there : (has found (codes "scheme") ≡ true → first_of (codes "scheme") found ≡ Some text)
-      → meets found (codes "scheme") TakesScheme ≡ true → ((scheme : Scheme) → text ≢ scheme_name scheme) → ⊥
-  scheme_there first kept none =
-      true≢false (sym (taken_text found (codes "scheme") text TakesScheme first kept) ∙ no_scheme text none)
-
--- a flag that is looked at is there, or not
-module _ (found : List Row) (name : String) (kept : meets found (codes name) Truth ≡ true) where
-  is_text : (b : Bool) → b ≡ is_set found (codes name) → b ≡ bytes_eq (first_taken found (codes name) Truth kept).0 (codes "true")
-  is_text b is = is ∙ ap (λ (o : Option (List ℕ)). option_map_or (λ text. bytes_eq text (codes "true")) o false)
-      (first_taken found (codes name) Truth kept).1
-
-  pub flag_read : (is_there : Bool) → is_there ≡ is_set found (codes name) → HasFlag found name is_there
-  flag_read true is =
-      let taken = first_taken found (codes name) Truth kept in
-      taken.1 ∙ ap (λ (t : List ℕ). Some t) ((bytes_eq-Decides _ _).0 (sym (is_text true is)))
-  flag_read false is =
-      let taken = first_taken found (codes name) Truth kept in
-      taken.1 ∙ ap (λ (t : List ℕ). Some t) ((bytes_eq-Decides _ _).0
-      (subst (λ b. (b || bytes_eq taken.0 (codes "false")) ≡ true) (sym (is_text false is)) taken.2))
+-- a flag stands on the line, or does not
+pub flag_read : (found : List Row) (name : List ℕ) → meets found name Truth ≡ true → (is_there : Bool) → is_there ≡ is_set found name
+    → first_of name found ≡ Some (if is_there then codes "true" else codes "false")
+flag_read found name kept is_there is =
+    at (first_of name found) is_there (both _ _ kept).0 (λ text first. first_taken found name Truth text first kept) is
+  where
+    at : (first : Option (List ℕ)) (b : Bool) → is_some first ≡ true → ((text : List ℕ) → Some text ≡ first → takes Truth text ≡ true)
+        → b ≡ option_map_or (λ text. bytes_eq text (codes "true")) first false
+        → first ≡ Some (if b then codes "true" else codes "false")
+    at None b there taken is = cc
+    at (Some text) true there taken is = ap (λ (t : List ℕ). Some t) ((bytes_eq-Decides _ _).0 (sym is))
+    at (Some text) false there taken is = ap (λ (t : List ℕ). Some t) ((bytes_eq-Decides _ _).0
+        (subst (λ b. (b || bytes_eq text (codes "false")) ≡ true) (sym is) (taken text refl)))
 
 regroup : (a b c : Bool) → (a && (b && c)) ≡ ((a && b) && c)
 regroup true b c = refl
 regroup false b c = refl
 
-and_true : (b : Bool) → (b && true) ≡ b
-and_true true = refl
-and_true false = refl
+-- the values that an argument has, or none
+pub values_of : (given : Option (Bor (List (Bor (List ℕ))))) (none : Bor (List (Bor (List ℕ)))) (all : Option (List (List ℕ)))
+    → none.now ≡ [] → option_map (λ (s : Bor (List (Bor (List ℕ)))). map (λ v. v.now) s.now) given ≡ all
+    → map (λ v. v.now) (unwrap_or given none).now ≡ unwrap_or all []
+values_of None none all empty is = ap (map (λ v. v.now)) empty ∙ ap (λ (o : Option (List (List ℕ))). unwrap_or o []) is
+values_of (Some s) none all empty is = ap (λ (o : Option (List (List ℕ))). unwrap_or o []) is
 
--- a test of each element, with one more
-pub all_more : {X : Type 0} (test : X → Bool) (xs : List X) (x : X) → list_all test (xs ++ x ∷ []) ≡ (list_all test xs && test x)
-all_more test [] x = and_true (test x)
-all_more test (y ∷ ys) x = ap (λ rest. test y && rest) (all_more test ys x) ∙ regroup (test y) (list_all test ys) (test x)
-
-pub grown : {X : Type 0} (test : X → Bool) (xs more : List X) (x : X) (before after first : Bool) → more ≡ xs ++ x ∷ []
-    → after ≡ (before && test x) → before ≡ (first && list_all test xs) → after ≡ (first && list_all test more)
-grown test xs more x before after first is step so_far =
-    step ∙ (ap (λ b. b && test x) so_far ∙ (sym (regroup first (list_all test xs) (test x))
-    ∙ ap (λ b. first && b) (sym (all_more test xs x) ∙ ap (list_all test) (sym is))))
-
-pub both_parts : (after middle before one other : Bool) → after ≡ (middle && other) → middle ≡ (before && one)
-    → after ≡ (before && (one && other))
-both_parts after middle before one other last first = last ∙ (ap (λ b. b && other) first ∙ sym (regroup before one other))
-
--- an argument, by whether it may lack a value and by the values that it has, or by none
-pub kept_with : (after middle before lack : Bool) (values : Values) (texts : List (List ℕ)) (all : Option (List (List ℕ))) → Some texts ≡ all
-    → middle ≡ (before && lack) → after ≡ (middle && list_all (takes values) texts)
-    → after ≡ (before && (lack && list_all (takes values) (unwrap_or all [])))
+-- an argument, by whether it may lack a value and by those that it has
+pub kept_with : (after middle before lack : Bool) (values : Values) (texts all : List (List ℕ)) → texts ≡ all
+    → middle ≡ (before && lack) → after ≡ (middle && list_all (takes values) texts) → after ≡ (before && (lack && list_all (takes values) all))
 kept_with after middle before lack values texts all is first last =
-    subst (λ (o : Option (List (List ℕ))). after ≡ (before && (lack && list_all (takes values) (unwrap_or o [])))) is
-    (both_parts after middle before lack (list_all (takes values) texts) last first)
-
-pub kept_without : (after before lack : Bool) (values : Values) (all : Option (List (List ℕ))) → None ≡ all → after ≡ (before && lack)
-    → after ≡ (before && (lack && list_all (takes values) (unwrap_or all [])))
-kept_without after before lack values all is first =
-    subst (λ (o : Option (List (List ℕ))). after ≡ (before && (lack && list_all (takes values) (unwrap_or o [])))) is
-    (first ∙ ap (λ b. before && b) (sym (and_true lack)))
-
-pub differs : (known name : List ℕ) → name ≢ known → bytes_eq known name ≡ false
-differs known name other = false_from_ne_true _ (λ same. other (sym ((bytes_eq-Decides _ _).0 same)))
+    rw is at last ∙ (ap (λ b. b && list_all (takes values) all) first ∙ sym (regroup before lack _))

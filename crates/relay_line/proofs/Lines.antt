@@ -1,5 +1,5 @@
 -- What the parser met on a line, and the line of it.
-use Rattle.std.proofs.Common.{◌≡◌, ◌∙◌, ℕ, List, [], Option, Some, None, true, refl, sym, ap, ap₂, is_some, option_map, slice_get, unwrap_or, subst}
+use Rattle.std.proofs.Common.{◌≡◌, ◌∙◌, ◌∷◌, ℕ, List, [], Option, Some, None, Result, Ok, Err, IfOk, IfErr, true, refl, sym, ap, ap₂, is_some, option_map, slice_get, unwrap_or, subst}
 use Rattle.std.proofs.lemmas.Bool.{true≢false, false≢true}
 use Rattle.std.specs.Borrow.{Bor}
 use Rattle.std.specs.Box.{box_value}
@@ -12,9 +12,10 @@ use Rattle.clap.specs.declared.parser.matches.ArgMatches.{ArgMatches}
 use Rattle.clap.specs.declared.parser.matches.ArgMatches.TheViews.{out-SubCommand}
 use Rattle.clap.specs.declared.parser.matches.SubCommand.{SubCommand}
 use Rattle.relay_line.proofs.Endings.{ends_by_kind}
-use Rattle.relay_line.specs.Line.{EndsAmong, EndsWithStatus, met_rows}
-use Rattle.relay_line.specs.Listed.{Listing, the_commands}
-use Rattle.relay_line.specs.Parsed.{app_of_table, the_app}
+use Rattle.relay_line.specs.Line.{EndsAmong, Gives, IsLineMet, met_rows}
+use Rattle.relay_line.specs.Listed.{the_commands}
+use Rattle.relay_line.specs.Parsed.{the_app}
+use Rattle.relay_line.specs.declared.line.CommandLine.{CommandLine}
 use Rattle.relay_line.specs.Rules.{endings, endings_by, endings_met, kind_status}
 use Rattle.relay_line.specs.declared.fault.LineFault.{LineFault}
 use Rattle.relay_line.specs.declared.fault.LineFault.TheVariants.{Memory}
@@ -47,14 +48,10 @@ met_is (Some p) None both name rows = absurd (true≢false both)
 met_is (Some p) (Some b) both name rows =
     ap₂ (λ (n : List ℕ) (r : List Row). Some (n, r)) (some_text _ _ name) (some_rows _ _ rows)
 
-pub app_is : (app : App) (table : List Listing) → app ≡ app_of_table table → table ≡ the_commands → app ≡ the_app
-unfolding the_app
-app_is app table is same = is ∙ ap app_of_table same
-
 -- what a parse of the program says, by the table
 module _ (app : App) (is : app ≡ the_app) (words : List (List ℕ)) where
   pub refused_ends : (e : Error) (fault : LineFault) → (is_simple_and_free app ≡ true → HasKind (fault_of app words) e)
-      → EndsWithStatus (kind_status (kind_of e)) fault → (kind_of e ≡ OutOfMemory → fault ≡ Memory) → EndsAmong (endings words) fault
+      → EndsAmong (kind_status (kind_of e) ∷ []) fault → (kind_of e ≡ OutOfMemory → fault ≡ Memory) → EndsAmong (endings words) fault
   unfolding endings
   refused_ends e fault has ends memory = ends_by_kind e fault (fault_of the_app words) _
       (subst (λ a. is_simple_and_free a ≡ true → HasKind (fault_of a words) e) is has app_is_free) ends memory
@@ -69,3 +66,15 @@ module _ (app : App) (is : app ≡ the_app) (words : List (List ℕ)) where
       ap (λ kinds. endings_by kinds (endings_met (slice_get words 1) (subcommand_of the_app words)))
       (subst (λ a. is_simple_and_free a ≡ true → fault_of a words ≡ []) is none app_is_free)
       ∙ ap₂ endings_met (sym first) (sym second)
+
+-- the same line or fault, by other statuses and another command that are the same
+pub gives_same : (before after : List ℕ) (met same : Option (List ℕ × List Row)) (result : Result CommandLine LineFault)
+    → after ≡ before → met ≡ same → Gives before (IsLineMet met) result → Gives after (IsLineMet same) result
+gives_same before after met same result statuses is given =
+    subst (λ s. Gives s (IsLineMet same) result) (sym statuses) (subst (λ m. Gives before (IsLineMet m) result) is given)
+
+-- its parts
+pub given_parts : (statuses : List ℕ) (IsLine : CommandLine → Type 0) (result : Result CommandLine LineFault) → Gives statuses IsLine result
+    → IfOk result (λ _. statuses ≡ []) × IfOk result IsLine × IfErr result (EndsAmong statuses)
+given_parts statuses IsLine (Ok line) given = (given.0, given.1, tt)
+given_parts statuses IsLine (Err fault) given = (tt, tt, given)

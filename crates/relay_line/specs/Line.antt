@@ -1,6 +1,6 @@
 -- What a command line gives.
 use Prim.Native.String.{String}
-use Rattle.std.specs.Prelude.{◌≡◌, ℕ, ◌≤◌, List, codes, [], map, Bool, true, false, Option, Some, None, MatchOption, option_map, if◌then◌else◌, ◌==◌}
+use Rattle.std.specs.Prelude.{◌≡◌, ℕ, ◌≤◌, List, codes, [], map, Bool, true, false, Option, Some, None, MatchOption, MatchResult, Result, option_map, if◌then◌else◌, ◌==◌}
 use Rattle.std.specs.List.{list_any}
 use Rattle.std.specs.Str.Parse.{digits_value, without_leading_plus}
 use Rattle.clap.specs.Walk.{Row, all_of, first_of}
@@ -114,8 +114,9 @@ module _ (found : List Row) where
   HasFiles line = MatchOption (all_of (codes "images") found) (named_images line ≡ []) (λ names. named_images line ≡ names)
       × (saved_path line ≡ if saves_output line.command then first_of (codes "to") found else None)
 
-  abbrev pub IsFoundIn : CommandLine → Type 0
-  IsFoundIn line = HasValues line.command × HasFiles line
+  -- the command of a name, with its values
+  abbrev pub IsCommandOf : List ℕ → Command → Type 0
+  IsCommandOf name command = (name ≡ command_name command) × HasValues command
 
 -- `words` with its defaults and no other files
 abbrev pub IsDefault : CommandLine → Type 0
@@ -123,7 +124,7 @@ IsDefault line = (line.command ≡ Words 10 Ascii) × (named_images line ≡ [])
 
 -- the line of the command that the parser met, with what it found for it; or `words` with its defaults, where it met none
 abbrev pub IsLineMet : Option (List ℕ × List Row) → CommandLine → Type 0
-IsLineMet met line = MatchOption met (IsDefault line) (λ m. (m.0 ≡ command_name line.command) × IsFoundIn m.1 line)
+IsLineMet met line = MatchOption met (IsDefault line) (λ m. IsCommandOf m.1 m.0 line.command × HasFiles m.1 line)
 
 -- the line of these words, by the table of `Listed`
 abbrev pub IsLineOf : List (List ℕ) → CommandLine → Type 0
@@ -133,12 +134,11 @@ IsLineOf words line = IsLineMet (subcommand_of the_app words) line
 abbrev pub met_rows : Option (Bor (List ℕ) × Bor ArgMatches) → Option (List ℕ × List Row)
 met_rows = option_map (λ met. (met.0.now, rows_of (found_of met.1.now)))
 
--- it ends with this status, unless memory is refused
-abbrev pub EndsWithStatus : ℕ → LineFault → Type 0
-EndsWithStatus ended (Line text status) = status ≡ ended
-EndsWithStatus ended Memory = Unit {0}
-
 -- it ends with one of these, unless memory is refused
 abbrev pub EndsAmong : List ℕ → LineFault → Type 0
 EndsAmong statuses (Line text status) = list_any (λ s. s == status) statuses ≡ true
 EndsAmong statuses Memory = Unit {0}
+
+-- such a line where no status is listed, and else a fault that ends with one of those that are
+abbrev pub Gives : List ℕ → (CommandLine → Type 0) → Result CommandLine LineFault → Type 0
+Gives statuses IsLine result = MatchResult result (λ line. (statuses ≡ []) × IsLine line) (EndsAmong statuses)

@@ -1,6 +1,6 @@
 -- The arguments of each command, and what their values have to be. `COMMANDS` of options.rt is compared with this table.
 use Prim.Native.String.{String}
-use Rattle.std.specs.Prelude.{ℕ, List, [], ◌∷◌, codes}
+use Rattle.std.specs.Prelude.{ℕ, List, [], ◌∷◌, codes, take}
 use Rattle.relay_line.specs.declared.options.Values.{Values}
 use Rattle.relay_line.specs.declared.options.Values.TheVariants.{Text, Path, NoDash, Number, Scheme, Truth}
 
@@ -85,3 +85,7 @@ the_commands =
     ∷ command "explain" (argument "name" one_word Text ∷ [])
     ∷ command "version" []
     ∷ []
+
+-- those that do something: all but `explain` and `version`
+unfoldable pub doing_commands : List Listing
+doing_commands = take 19 the_commands

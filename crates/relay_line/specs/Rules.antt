@@ -1,8 +1,6 @@
 -- The rules that the parser leaves to this crate, and with which status a line ends that gives no command.
 use Rattle.std.specs.Prelude.{ℕ, ◌&&◌, ◌||◌, List, [], ◌∷◌, codes, map, Bool, true, false, not, Option, Some, None, is_some, unwrap_or, option_map, slice_get, if◌then◌else◌, find}
-use Rattle.std.specs.List.{list_all, list_any}
-use Rattle.std.specs.Option.{option_map_or}
-use Rattle.std.specs.Str.{bytes_eq}
+use Rattle.std.specs.{List.list_all, List.list_any, Option.option_map_or, Str.bytes_eq}
 use Rattle.clap.specs.ValueTests.{is_unsigned_in}
 use Rattle.clap.specs.Words.{Row, all_of, first_of, fault_of, subcommand_of}
 use Rattle.clap.specs.declared.error.kind.ErrorKind.{ErrorKind}
@@ -10,7 +8,7 @@ use Rattle.clap.specs.declared.error.kind.ErrorKind.TheVariants as kind
 use Rattle.dm_encodation.specs.declared.scheme.Scheme.TheVariants.{Ascii, C40, Base256}
 use Rattle.dm_encodation.specs.declared.scheme.Scheme.TheVariants as schemes
 use Rattle.relay_command.specs.Schemes.{scheme_name}
-use Rattle.relay_line.specs.Listed.{Argument, Standing, optional, the_commands, one_word, any_words}
+use Rattle.relay_line.specs.Listed.{Argument, Listing, Standing, optional, the_commands, one_word, any_words}
 use Rattle.relay_line.specs.Parsed.{the_app}
 use Rattle.relay_line.specs.declared.options.Values.{Values}
 use Rattle.relay_line.specs.declared.options.Values.TheVariants.{Text, Path, NoDash, Number, Scheme, Truth}
@@ -70,15 +68,16 @@ module _ (found : List Row) where
   abbrev pub keeps_all : List Argument → List ℕ → Bool
   keeps_all arguments command = list_all is_kept arguments && has_form command
 
--- the arguments of the command of a name
-unfoldable pub arguments_of : List ℕ → Option (List Argument)
-arguments_of command =
-    option_map (λ listing. listing.arguments) (find (λ listing. bytes_eq listing.name command) the_commands)
+-- a table of commands: the arguments of that of a name, and whether what was found for it breaks no rule of these
+module _ (table : List Listing) (command : List ℕ) where
+  abbrev pub arguments_in : Option (List Argument)
+  arguments_in = option_map (λ listing. listing.arguments) (find (λ listing. bytes_eq listing.name command) table)
 
--- what was found for a command breaks no rule of its arguments
-unfoldable pub keeps_rules : List ℕ → List Row → Bool
-keeps_rules command found =
-    option_map_or (λ arguments. keeps_all found arguments command) (arguments_of command) false
+  unfoldable pub keeps_rules_in : List Row → Bool
+  keeps_rules_in found = option_map_or (λ arguments. keeps_all found arguments command) arguments_in false
+
+abbrev pub keeps_rules : List ℕ → List Row → Bool
+keeps_rules command found = keeps_rules_in the_commands command found
 
 -- the status of a line that breaks a rule
 abbrev pub endings_kept : Bool → List ℕ
@@ -93,12 +92,9 @@ endings_at command found =
     else endings_kept (keeps_rules command found)
 
 -- The same, by the first word and the command that the parser met: a line has no word, or the first is its command.
-abbrev pub endings_named : List ℕ → List ℕ × List Row → List ℕ
-endings_named word met = if bytes_eq word met.0 then endings_at met.0 met.1 else 2 ∷ []
-
 abbrev pub endings_met : Option (List ℕ) → Option (List ℕ × List Row) → List ℕ
 endings_met None None = []
-endings_met (Some word) (Some met) = endings_named word met
+endings_met (Some word) (Some met) = if bytes_eq word met.0 then endings_at met.0 met.1 else 2 ∷ []
 endings_met word met = 2 ∷ []
 
 -- what the parser shows as it was asked, and what it refuses

@@ -4,14 +4,14 @@ ghost use Rattle.std.specs.Prelude.{◌≡◌, ◌&&◌, ◌||◌, ◌==◌, IfO
 ghost use Rattle.std.specs.List.{list_all};
 ghost use Rattle.clap.specs.Words.{found_of, rows_of};
 ghost use Rattle.relay_line.specs.Parsed.{argument_of, standing_of};
-ghost use Rattle.relay_line.specs.declared.options.Values.TheVariants.{Number, Scheme as TakesScheme};
+ghost use Rattle.relay_line.specs.declared.options.Values.TheVariants.{Number};
 ghost use Rattle.relay_line.specs.Rules.{has, has_all_or_id, has_form, has_one, is_kept, is_set, keeps_all, may_lack, takes};
 
 use crate::help::{Page, said_of};
 use crate::options::{Kind, Row, Values};
 use crate::said::Said;
 use clap::ArgMatches;
-use relay_command::{SCHEMES, scheme_of};
+use relay_command::scheme_of;
 use std::alloc::{AllocError, Global};
 
 const SAVED_DASH: &str =
@@ -42,16 +42,6 @@ fn is_number(least: u16, most: u16, text: &str) -> bool
     }
 }
 
-// Whether a text names an encodation.
-fn is_scheme(text: &str) -> bool
-    ensures { result ≡ takes TakesScheme text.now }
-{
-    match scheme_of(text) {
-        Some(_) => true,
-        None => false,
-    }
-}
-
 // Whether an argument takes a value.
 fn is_taken(values: Values, value: &str) -> bool
     ensures { result ≡ takes values value.now }
@@ -61,24 +51,8 @@ fn is_taken(values: Values, value: &str) -> bool
         Values::Path => value != "",
         Values::NoDash => value != "" && value != "-",
         Values::Number(least, most) => is_number(least, most, value),
-        Values::Scheme => is_scheme(value),
+        Values::Scheme => scheme_of(value).is_some(),
         Values::Truth => value == "true" || value == "false",
-    }
-}
-
-// What an argument takes, in words.
-fn wanted(alloc: Global, command: &str, row: &Row) -> Result<String, AllocError> {
-    let Row(name, kind, values) = *row;
-    match values {
-        Values::Number(least, most) => {
-            format!(in alloc; "--{name} takes a number from {least} to {most}")
-        }
-        Values::Scheme => {
-            let [one, two, three, four] = SCHEMES;
-            format!(in alloc; "--{name} takes {one}, {two}, {three} or {four}")
-        }
-        _ if matches!(kind, Kind::Words) => format!(in alloc; "`{command}` takes paths"),
-        _ => format!(in alloc; "--{name} takes a path"),
     }
 }
 
@@ -91,17 +65,34 @@ fn why_no_dash(name: &str) -> &'static str {
     }
 }
 
-// Why an argument doesn't take a value. What could end the line is escaped in the value.
-fn reason_of(alloc: Global, command: &str, row: &Row, value: &str) -> Result<String, AllocError> {
-    if matches!(row.2, Values::NoDash) && value == "-" {
-        return String::from_str(alloc, why_no_dash(row.0));
-    }
-    let wanted = wanted(alloc, command, row)?;
+// A value, as a refusal shows it: what could end the line is escaped.
+fn shown_value(alloc: Global, value: &str) -> Result<String, AllocError> {
     if value.is_empty() {
-        return format!(in alloc; "{wanted}, not an empty word");
+        return String::from_str(alloc, "an empty word");
     }
     let shown = value.escape_debug();
-    format!(in alloc; "{wanted}, not {shown}")
+    format!(in alloc; "{shown}")
+}
+
+// Why an argument doesn't take a value.
+fn reason_of(alloc: Global, command: &str, row: &Row, value: &str) -> Result<String, AllocError> {
+    let Row(name, kind, values) = *row;
+    if matches!(values, Values::NoDash) && value == "-" {
+        return String::from_str(alloc, why_no_dash(name));
+    }
+    let given = shown_value(alloc, value)?;
+    match values {
+        Values::Number(least, most) => {
+            format!(in alloc; "--{name} takes a number from {least} to {most}, not {given}")
+        }
+        Values::Scheme => {
+            format!(in alloc; "--{name} takes ascii, c40, text or base256, not {given}")
+        }
+        _ if matches!(kind, Kind::Words) => {
+            format!(in alloc; "`{command}` takes paths, not {given}")
+        }
+        _ => format!(in alloc; "--{name} takes a path, not {given}"),
+    }
 }
 
 // Adds a line that says what is wrong.
@@ -170,11 +161,7 @@ pub fn is_set(options: &ArgMatches<'_>, name: &str) -> bool
 fn has_one(options: &ArgMatches<'_>, one: &str, other: &str) -> bool
     ensures { result ≡ has_one (rows_of (found_of options.now)) one.now other.now }
 {
-    if has(options, one) {
-        !has(options, other)
-    } else {
-        has(options, other)
-    }
+    has(options, one) != has(options, other)
 }
 
 // Whether a line is of one document, or of all.
@@ -249,10 +236,8 @@ fn add_argument(
         ≡ ((string_len faults.old == 0) && is_kept (rows_of (found_of options.now)) (argument_of row.now))) }
 {
     add_lack(alloc, faults, command, row, said, options)?;
-    match options.get_strs(row.0) {
-        Some(values) => add_values(alloc, faults, command, row, values),
-        None => Ok(()),
-    }
+    let values = options.get_strs(row.0).unwrap_or(&[]);
+    add_values(alloc, faults, command, row, values)
 }
 
 // Adds what is wrong with the options that exclude or need each other.

@@ -1,21 +1,23 @@
 //! The command of a line whose options keep the rules.
 
-ghost use Rattle.std.specs.Prelude.{◌≡◌, ◌<◌, ◌≤◌, ◌∷◌, [], ℕ, codes, false, true, option_map, IfSome, IsNone};
+ghost use Rattle.std.specs.Prelude.{◌≡◌, ◌<◌, ◌≤◌, ℕ, codes, drop, true, option_map};
 ghost use Rattle.clap.specs.Words.{first_of, found_of, rows_of};
 ghost use Rattle.relay_command.specs.Schemes.{scheme_name};
-ghost use Rattle.relay_line.specs.Line.{HasLabels, HasText, HasValues, command_name, number_at};
+ghost use Rattle.relay_line.specs.Line.{HasLabels, HasText, IsCommandOf, number_at};
+ghost use Rattle.relay_line.specs.Listed.{doing_commands};
+ghost use Rattle.relay_line.specs.declared.options.Values.{Values};
 ghost use Rattle.relay_line.specs.declared.options.Values.TheVariants.{Number, Scheme as TakesScheme};
-ghost use Rattle.relay_line.specs.Rules.{has, is_among, keeps_rules, meets};
+ghost use Rattle.relay_line.specs.Rules.{keeps_rules, keeps_rules_in, meets, takes};
 
 use crate::check::{has, is_set};
 use clap::ArgMatches;
 use dm_encodation::Scheme;
 use relay_command::{Command, Labels, scheme_of};
 
-// The text of an option that has one.
+// The text of an option that has one, and takes it.
 fn text_of<'a>(options: &ArgMatches<'a>, name: &str) -> &'a str
-    ensures { has (rows_of (found_of options.now)) name.now ≡ true
-        → first_of name.now (rows_of (found_of options.now)) ≡ Some result.now }
+    ensures { (values : Values) → meets (rows_of (found_of options.now)) name.now values ≡ true
+        → (first_of name.now (rows_of (found_of options.now)) ≡ Some result.now) × (takes values result.now ≡ true) }
 {
     match some_text_of(options, name) {
         Some(text) => text,
@@ -70,8 +72,7 @@ fn labels_of(options: &ArgMatches<'_>) -> Labels
 #[rattlefmt::skip]
 fn give_of<'a>(options: &ArgMatches<'a>) -> Command<'a>
     requires { keeps_rules (codes "give") (rows_of (found_of options.now)) ≡ true }
-    ensures named { command_name result ≡ codes "give" }
-    ensures values { HasValues (rows_of (found_of options.now)) result }
+    ensures { IsCommandOf (rows_of (found_of options.now)) (codes "give") result }
 {
     let (file, number, to) = (text_of(options, "file"), number_of(options, "number"), number_of(options, "to"));
     if has(options, "count") {
@@ -82,133 +83,103 @@ fn give_of<'a>(options: &ArgMatches<'a>) -> Command<'a>
 }
 
 // Whether a deliver is of one document or of all.
+#[rattlefmt::skip]
 fn deliver_of<'a>(options: &ArgMatches<'a>) -> Command<'a>
     requires { keeps_rules (codes "deliver") (rows_of (found_of options.now)) ≡ true }
-    ensures named { command_name result ≡ codes "deliver" }
-    ensures values { HasValues (rows_of (found_of options.now)) result }
+    ensures { IsCommandOf (rows_of (found_of options.now)) (codes "deliver") result }
 {
     let file = text_of(options, "file");
-    if has(options, "id") {
-        let id = text_of(options, "id");
-        Command::Deliver { file, id }
-    } else {
-        let folder = text_of(options, "all");
-        let forgets = is_set(options, "forget");
-        Command::DeliverAll {
-            file,
-            folder,
-            forgets,
-        }
+    match some_text_of(options, "id") {
+        Some(id) => Command::Deliver { file, id },
+        None => Command::DeliverAll { file, folder: text_of(options, "all"), forgets: is_set(options, "forget") },
     }
 }
 
 // The same of an export.
 fn export_of<'a>(options: &ArgMatches<'a>) -> Command<'a>
     requires { keeps_rules (codes "export") (rows_of (found_of options.now)) ≡ true }
-    ensures named { command_name result ≡ codes "export" }
-    ensures values { HasValues (rows_of (found_of options.now)) result }
+    ensures { IsCommandOf (rows_of (found_of options.now)) (codes "export") result }
 {
     let file = text_of(options, "file");
-    if has(options, "id") {
-        let id = text_of(options, "id");
-        Command::Export { file, id }
-    } else {
-        let folder = text_of(options, "all");
-        Command::ExportAll { file, folder }
+    match some_text_of(options, "id") {
+        Some(id) => Command::Export { file, id },
+        None => Command::ExportAll {
+            file,
+            folder: text_of(options, "all"),
+        },
     }
 }
 
-// The commands of desks.
+// The commands from `scan` on, in the order of the table.
 #[rattlefmt::skip]
-fn desk_command_of<'a>(name: &str, options: &ArgMatches<'a>) -> Option<Command<'a>>
-    requires { keeps_rules name.now (rows_of (found_of options.now)) ≡ true }
-    ensures none { IsNone result
-        → is_among (codes "scan" ∷ codes "deliver" ∷ codes "forget" ∷ codes "export" ∷ codes "import" ∷ codes "held"
-        ∷ codes "copy" ∷ []) name.now ≡ false }
-    ensures named { IfSome result (λ command. name.now ≡ command_name command) }
-    ensures values { IfSome result (HasValues (rows_of (found_of options.now))) }
+fn desk_command_of<'a>(name: &str, options: &ArgMatches<'a>) -> Command<'a>
+    requires { keeps_rules_in (drop 11 doing_commands) name.now (rows_of (found_of options.now)) ≡ true }
+    ensures { IsCommandOf (rows_of (found_of options.now)) name.now result }
 {
     let file = text_of(options, "file");
     match name {
-        "scan" => Some(Command::Scan { file, capacity: number_of(options, "capacity") }),
-        "import" => Some(Command::Import { file, capacity: number_of(options, "capacity") }),
-        "held" => {
-            let (id, is_long) = (some_text_of(options, "id"), is_set(options, "long"));
-            Some(Command::Held { file, id, is_long })
-        }
-        "forget" => Some(Command::Forget { file, id: text_of(options, "id") }),
-        "deliver" => Some(deliver_of(options)),
-        "export" => Some(export_of(options)),
+        "scan" => Command::Scan { file, capacity: number_of(options, "capacity") },
+        "deliver" => deliver_of(options),
+        "forget" => Command::Forget { file, id: text_of(options, "id") },
+        "export" => export_of(options),
+        "import" => Command::Import { file, capacity: number_of(options, "capacity") },
+        "held" => Command::Held { file, id: some_text_of(options, "id"), is_long: is_set(options, "long") },
         "copy" => {
             let (id, page, side) = (text_of(options, "id"), number_of(options, "page"), number_of(options, "side"));
-            Some(Command::Copy { file, id, page, side, scheme: encodation_of(options) })
+            Command::Copy { file, id, page, side, scheme: encodation_of(options) }
         }
-        _ => None,
+        _ => Command::World,
     }
 }
 
-// The commands of printers that name a ledger.
+// Those from `ticket` on.
 #[rattlefmt::skip]
-fn printer_command_of<'a>(name: &str, options: &ArgMatches<'a>) -> Option<Command<'a>>
-    requires { keeps_rules name.now (rows_of (found_of options.now)) ≡ true }
-    ensures none { IsNone result
-        → is_among (codes "ledger" ∷ codes "print" ∷ codes "give" ∷ codes "take" ∷ codes "left" ∷ []) name.now ≡ false }
-    ensures named { IfSome result (λ command. name.now ≡ command_name command) }
-    ensures values { IfSome result (HasValues (rows_of (found_of options.now))) }
+fn ticket_command_of<'a>(name: &str, options: &ArgMatches<'a>) -> Command<'a>
+    requires { keeps_rules_in (drop 7 doing_commands) name.now (rows_of (found_of options.now)) ≡ true }
+    ensures { IsCommandOf (rows_of (found_of options.now)) name.now result }
+{
+    match name {
+        "ticket" => Command::Ticket { ticket: text_of(options, "ticket") },
+        "take" => Command::Take {
+            file: text_of(options, "file"), number: number_of(options, "number"), ticket: text_of(options, "ticket"),
+        },
+        "left" => Command::Left { file: text_of(options, "file") },
+        "audit" => Command::Audit,
+        _ => desk_command_of(name, options),
+    }
+}
+
+// Those from `ledger` on.
+#[rattlefmt::skip]
+fn printer_command_of<'a>(name: &str, options: &ArgMatches<'a>) -> Command<'a>
+    requires { keeps_rules_in (drop 3 doing_commands) name.now (rows_of (found_of options.now)) ≡ true }
+    ensures { IsCommandOf (rows_of (found_of options.now)) name.now result }
 {
     let (file, number) = (text_of(options, "file"), number_of(options, "number"));
     match name {
         "ledger" => {
-            let (first, last) = (number_of(options, "first"), number_of(options, "last"));
-            Some(Command::Ledger { file, number, first, last })
+            Command::Ledger { file, number, first: number_of(options, "first"), last: number_of(options, "last") }
         }
-        "print" => {
-            Some(Command::Print { file, number, labels: labels_of(options), scheme: encodation_of(options) })
-        }
-        "give" => Some(give_of(options)),
-        "take" => Some(Command::Take { file, number, ticket: text_of(options, "ticket") }),
-        "left" => Some(Command::Left { file }),
-        _ => None,
+        "plan" => Command::Plan { scheme: encodation_of(options) },
+        "print" => Command::Print { file, number, labels: labels_of(options), scheme: encodation_of(options) },
+        "give" => give_of(options),
+        _ => ticket_command_of(name, options),
     }
 }
 
-// The commands that name no ledger and no desk.
+/// The command of a name that does something, with the options that the parser found.
 #[rattlefmt::skip]
-fn plain_command_of<'a>(name: &str, options: &ArgMatches<'a>) -> Option<Command<'a>>
-    requires { keeps_rules name.now (rows_of (found_of options.now)) ≡ true }
-    ensures none { IsNone result
-        → is_among (codes "words" ∷ codes "draw" ∷ codes "read" ∷ codes "audit" ∷ codes "plan" ∷ codes "ticket"
-        ∷ codes "world" ∷ []) name.now ≡ false }
-    ensures named { IfSome result (λ command. name.now ≡ command_name command) }
-    ensures values { IfSome result (HasValues (rows_of (found_of options.now))) }
+pub fn command_of<'a>(name: &str, options: &ArgMatches<'a>) -> Command<'a>
+    requires { keeps_rules_in doing_commands name.now (rows_of (found_of options.now)) ≡ true }
+    ensures { IsCommandOf (rows_of (found_of options.now)) name.now result }
 {
     match name {
-        "words" => Some(Command::Words { side: number_of(options, "side"), scheme: encodation_of(options) }),
+        "words" => Command::Words { side: number_of(options, "side"), scheme: encodation_of(options) },
         "draw" => {
             let (side, scheme) = (number_of(options, "side"), encodation_of(options));
-            Some(Command::Draw { side, scheme, plain: is_set(options, "plain") })
+            Command::Draw { side, scheme, plain: is_set(options, "plain") }
         }
-        "read" => Some(Command::Read),
-        "audit" => Some(Command::Audit),
-        "plan" => Some(Command::Plan { scheme: encodation_of(options) }),
-        "ticket" => Some(Command::Ticket { ticket: text_of(options, "ticket") }),
-        "world" => Some(Command::World),
-        _ => None,
+        "read" => Command::Read,
+        _ => printer_command_of(name, options),
     }
-}
-
-/// The command of a name, with the options that the parser found: none of `version` and `explain`.
-pub fn command_of<'a>(name: &str, options: &ArgMatches<'a>) -> Option<Command<'a>>
-    requires { keeps_rules name.now (rows_of (found_of options.now)) ≡ true }
-    ensures none { IsNone result → is_among (codes "explain" ∷ codes "version" ∷ []) name.now ≡ true }
-    ensures named { IfSome result (λ command. name.now ≡ command_name command) }
-    ensures values { IfSome result (HasValues (rows_of (found_of options.now))) }
-{
-    if let Some(command) = plain_command_of(name, options) {
-        return Some(command);
-    }
-    if let Some(command) = printer_command_of(name, options) {
-        return Some(command);
-    }
-    desk_command_of(name, options)
 }

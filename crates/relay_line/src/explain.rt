@@ -5,8 +5,8 @@ ghost use Rattle.relay_line.specs.Explaining.{explained, first_line, name_lines}
 
 use std::alloc::{AllocError, Global};
 
-// The first line of a text.
-fn first_line(text: &str) -> &str
+/// The first line of a text.
+pub fn first_line(text: &str) -> &str
     ensures { result.now ≡ first_line text.now }
 {
     match text.split_once('\n') {

@@ -6,8 +6,7 @@ use crate::said::{
     Said, TICKET, TO,
 };
 
-/// A command, what its help says above and below its arguments, and of each of them, in the order of `COMMANDS`.
-#[derive(Clone, Copy)]
+/// A command, what its help says above and below its arguments, and of each of them.
 pub struct Page {
     pub name: &'static str,
     pub about: &'static str,
@@ -16,8 +15,8 @@ pub struct Page {
     pub more: &'static str,
 }
 
-/// That of the program itself.
-pub const PROGRAM: Page = Page {
+// That of the program itself.
+static PROGRAM: Page = Page {
     name: "relay",
     about: "Prints documents as Data Matrix labels, and puts them back together",
     usage: "relay [COMMAND [ARGUMENT ..] | --help | --version]",
@@ -27,7 +26,7 @@ Without a command, relay runs `words` with its defaults. `relay help COMMAND`
 and `relay COMMAND --help` say more about that command.
 
 Exit status: 0 if all was done; 1 if something was refused (`refused NAME`) or
-found (`file FILE NAME`, or a line of `audit`), or an output failed; 2 if the
+found (`file FILE ..`, or a line of `audit`), or an output failed; 2 if the
 command line was refused; 3 if the script `./relay` could not build the program.
 `relay explain NAME` says what a refusal means.",
 };
@@ -147,7 +146,7 @@ Example:
     },
 ];
 
-static MORE_OF_PRINTERS: [Page; 4] = [
+static OF_TICKETS: [Page; 4] = [
     Page {
         name: "ticket",
         about: "Prints what a ticket gives, and its form to copy by hand",
@@ -247,7 +246,8 @@ desks, it first moves documents in an old file at DESK to DESK.pages.
 
 A desk is made with its first page. The capacity is not remembered: give it at
 each `scan` and `import`. A desk that holds more documents than that is refused
-`TooMany`. Other commands take up to 1024, and `held` any number.
+`TooMany`. Other commands take up to 1024, `held` without --long
+any number.
 
 Example:
   relay scan --file desk < labels.pbm",
@@ -266,11 +266,12 @@ With `--all` the same holds of each complete document, with DIR/IIII as FILE;
 DIR must be there. A file that is there already stays as it was, its document is
 refused `Save`, and the next ones are saved all the same. At the end standard
 error says how many documents are incomplete. If the desk can't be opened,
-nothing is saved. All other refusals go to standard error too.
+nothing is saved. All these refusals go to standard error.
 
 With `--forget` the desk drops these documents once all of them are saved, as
-`relay forget` does, and a line `forgotten IIII` is printed for each. If one of
-them can't be saved, none is forgotten. Incomplete documents stay.
+`relay forget` does: for each, `forgotten IIII` or a refusal is printed. If one
+can't be saved, none is forgotten. Incomplete documents stay. After a stop
+run it again with another DIR, and keep this one: it has what was forgotten.
 
 Examples:
   relay deliver --file desk --id 0101 > letter
@@ -335,15 +336,16 @@ Prints a line for each document of which a page is held: `IIII n complete`, or
 --id it prints the line of that document alone, or a refusal. A file that can't
 be used doesn't hide the others: `file FILE NAME ID` comes in its place, and the
 exit status is 1. FILE is its name in the folder DESK.pages, which goes with ID,
-or `joint` for an old file at DESK, which may hold the document of --id. Nothing
-is saved, and another program may save meanwhile. A refusal goes to standard
-output: `refused Absent` where no desk is.
+if with any, or `joint` for an old file at DESK, which may hold the document of
+--id. Without --long nothing is saved, and another program may save meanwhile.
+A refusal goes to standard output: `refused Absent` where no desk is.
 
 With --long each line says more:
   0101 3 lacks 2, 2 of 3 labels, 512 bytes, \"Dear Sir,\\n\"
 It has how many labels and bytes are held, and how page 1 begins, if that is
-held: at most 40 bytes, escaped where they aren't printable ASCII. The desk is
-opened as by `deliver`, so a file that can't be used is refused.
+held: at most 40 bytes, escaped but for printing ASCII without quote and
+backslash. The desk is opened as by `deliver`: a file that can't be used is
+refused, and the documents of an old file are moved.
 
 Example:
   relay held --file desk",
@@ -399,35 +401,46 @@ Example:
     },
 ];
 
-/// Commands that the program's help lists under a heading, or under that of the group before.
-#[derive(Clone, Copy)]
-pub struct Group {
-    pub heading: Option<&'static str>,
-    pub pages: &'static [Page],
+fn of_symbols() -> &'static [Page] {
+    &OF_SYMBOLS
 }
 
-/// All commands, in the order in which the program's help lists them.
-#[rattlefmt::skip]
-pub fn groups() -> [Group; 5] {
-    [
-        Group { heading: Some("Symbols"), pages: &OF_SYMBOLS },
-        Group { heading: Some("Printers"), pages: &OF_PRINTERS },
-        Group { heading: None, pages: &MORE_OF_PRINTERS },
-        Group { heading: Some("Desks"), pages: &OF_DESKS },
-        Group { heading: Some("Other"), pages: &OTHERS },
-    ]
+fn of_printers() -> &'static [Page] {
+    &OF_PRINTERS
+}
+
+fn of_tickets() -> &'static [Page] {
+    &OF_TICKETS
+}
+
+fn of_desks() -> &'static [Page] {
+    &OF_DESKS
+}
+
+fn others() -> &'static [Page] {
+    &OTHERS
+}
+
+fn program() -> &'static Page {
+    &PROGRAM
 }
 
 /// The page of the command of a name, or that of the program where no command has it.
-pub fn page_named(name: &str) -> Page {
-    for group in &groups() {
-        for page in group.pages {
+pub fn page_named(name: &str) -> &'static Page {
+    for pages in [
+        of_symbols(),
+        of_printers(),
+        of_tickets(),
+        of_desks(),
+        others(),
+    ] {
+        for page in pages {
             if page.name == name {
-                return *page;
+                return page;
             }
         }
     }
-    PROGRAM
+    program()
 }
 
 /// What is said of an argument, by its place among those of its command.

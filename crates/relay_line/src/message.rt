@@ -2,21 +2,13 @@
 
 ghost use Rattle.std.specs.Prelude.{◌≡◌, ◌++◌, ℕ, List, codes, string_bytes, IfOk};
 
-use crate::help::{self, Page, page_named};
+use crate::explain::first_line;
+use crate::help::Page;
 use clap::error::ErrorKind;
 use std::alloc::{AllocError, Global};
-use std::convert::AsStr;
 
 // What the program's help leaves out of the parser's lines.
 const HELP_LINE: &str = "\n  help     Print this message or the help of the given subcommand(s)";
-
-/// The page of the command that a line names, or that of the program where it names none.
-pub fn page_of<S: AsStr>(words: &[S]) -> Page {
-    match words.get(1) {
-        Some(name) => page_named(name.as_str()),
-        None => help::PROGRAM,
-    }
-}
 
 /// What refuses a line, from the lines that say why.
 pub fn refusal(alloc: Global, page: &Page, why: &str) -> Result<String, AllocError> {
@@ -47,16 +39,17 @@ fn refused_in<'t>(kind: ErrorKind, text: &'t str) -> Option<(&'t str, &'t str)> 
 // Why a word may not stand where it does.
 fn misplaced(alloc: Global, command: &str, word: &str) -> Result<String, AllocError> {
     let shown = word.escape_debug();
-    let Some(name) = word.strip_prefix('-') else {
+    if !word.starts_with('-') {
         return format!(in alloc; "{shown} is one word too many for `{command}`");
-    };
-    if command == help::PROGRAM.name {
-        format!(in alloc; "{shown} has to follow a command")
-    } else if name.starts_with(|c: char| c.is_ascii_digit()) {
-        format!(in alloc; "`{command}` has no option {shown}, and takes no number below 0")
-    } else {
-        format!(in alloc; "`{command}` has no option {shown}")
     }
+    if command == "relay" {
+        return format!(in alloc; "{shown} has to follow a command");
+    }
+    let more = match word.as_bytes() {
+        [_, b'0'..=b'9', ..] => ", and takes no number below 0",
+        _ => "",
+    };
+    format!(in alloc; "`{command}` has no option {shown}{more}")
 }
 
 // Why the parser refuses a word or an option. What could end the line is escaped in it.
@@ -84,8 +77,7 @@ fn tip_of(alloc: Global, text: &str) -> Result<String, AllocError> {
     let Some((_, tip)) = text.split_once("  tip: ") else {
         return Ok(String::new(alloc));
     };
-    let tip = tip.split('\n').next().unwrap_or(tip);
-    let tip = tip.replace(alloc, "'", "`")?;
+    let tip = first_line(tip).replace(alloc, "'", "`")?;
     let tip = tip.as_str().replace(alloc, "subcommand", "command")?;
     let shown = tip.as_str().escape_debug();
     format!(in alloc; "relay: {shown}\n")
@@ -118,18 +110,19 @@ pub fn message_of(
     refusal(alloc, page, why.as_str())
 }
 
+// The headings of the program's help, and where they stand.
+const HEADINGS: [(&str, &str); 4] = [
+    ("\n  words ", "\nSymbols:\n  words "),
+    ("\n  ledger ", "\nPrinters:\n  ledger "),
+    ("\n  scan ", "\nDesks:\n  scan "),
+    ("\n  world ", "\nOther:\n  world "),
+];
+
 /// The parser's help, with a heading above each group of commands.
 pub fn help_of(alloc: Global, text: &str) -> Result<String, AllocError> {
     let mut text = text.replace(alloc, HELP_LINE, "")?;
-    for group in &help::groups() {
-        let (Some(heading), Some(page)) = (group.heading, group.pages.first()) else {
-            continue;
-        };
-        let line = format!(in alloc; "\n  {} ", page.name)?;
-        let with_heading = format!(in alloc; "\n{heading}:{}", line.as_str())?;
-        text = text
-            .as_str()
-            .replace(alloc, line.as_str(), with_heading.as_str())?;
+    for (line, with_heading) in HEADINGS {
+        text = text.as_str().replace(alloc, line, with_heading)?;
     }
     Ok(text)
 }

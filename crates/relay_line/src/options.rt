@@ -1,13 +1,14 @@
 //! The arguments of the commands, and the whole program, as the parser knows them.
 
-ghost use Rattle.std.specs.Prelude.{◌≡◌, IfOk, false, find, map, option_map, []};
-ghost use Rattle.std.specs.Str.{bytes_eq};
+ghost use Rattle.std.specs.Prelude.{◌≡◌, IfOk, false, map, option_map, []};
 ghost use Rattle.clap.specs.Words.{app_of, rule_of, shape_of};
 ghost use Rattle.clap.specs.declared.Command.TheViews.{out-Command};
 ghost use Rattle.clap.specs.Simple.{new_shape};
-ghost use Rattle.relay_line.specs.Parsed.{app_of_table, argument_of, listing_of, rule_of_argument, shape_of_listing};
+ghost use Rattle.relay_line.specs.Listed.{the_commands};
+ghost use Rattle.relay_line.specs.Parsed.{argument_of, listing_of, rule_of_argument, shape_of_listing, the_app};
+ghost use Rattle.relay_line.specs.Rules.{arguments_in};
 
-use crate::help::{self, Page};
+use crate::help::{Page, page_named, said_of};
 use crate::parse::VERSION;
 use crate::said::Said;
 use clap::{Arg, ArgAction, Command};
@@ -31,9 +32,8 @@ pub enum Values { Text, Path, NoDash, Number(u16, u16), Scheme, Truth }
 pub struct Row(pub &'static str, pub Kind, pub Values);
 
 /// A command with its arguments. What the helps say of them stands apart, in the same order.
-#[derive(Clone, Copy)]
 #[rattlefmt::skip]
-pub struct Listed { pub name: &'static str, pub rows: &'static [Row] }
+pub struct Listed { name: &'static str, rows: &'static [Row] }
 
 use self::Kind::{Default, Flag, Optional, Required, Word, Words};
 use self::Values::{NoDash, Number, Path, Scheme, Text, Truth};
@@ -66,7 +66,7 @@ const IMAGES: Row = Row("images", Words, Path);
 
 /// All commands, in the order in which the program's help lists them.
 #[rattlefmt::skip]
-pub static COMMANDS: [Listed; 21] = [
+static COMMANDS: [Listed; 21] = [
     Listed { name: "words", rows: &[SIDE, SCHEME] },
     Listed { name: "draw", rows: &[SIDE, SCHEME, Row("plain", Flag, Truth)] },
     Listed { name: "read", rows: &[IMAGES] },
@@ -126,42 +126,49 @@ fn command<'a>(alloc: Global, name: &'static str, page: &Page) -> Command<'a>
 }
 
 // A command with its arguments.
-fn subcommand<'a>(alloc: Global, listed: &Listed, page: &Page) -> Result<Command<'a>, AllocError>
+fn subcommand<'a>(alloc: Global, listed: &Listed) -> Result<Command<'a>, AllocError>
     ensures shape { IfOk result (λ command. shape_of command ≡ shape_of_listing (listing_of listed.now)) }
     ensures local { IfOk result (λ command. (out-Command command).has_globals ≡ false) }
 {
+    let page = page_named(listed.name);
     let mut command = command(alloc, listed.name, page);
     for (at, row) in listed.rows.iter().enumerate() {
-        command = command.arg(argument(alloc, row, help::said_of(page, at)))?;
+        command = command.arg(argument(alloc, row, said_of(page, at)))?;
     }
     Ok(command)
+}
+
+/// All commands.
+pub fn all_commands() -> &'static [Listed]
+    ensures { map listing_of result.now ≡ the_commands }
+{
+    &COMMANDS
 }
 
 /// The whole program.
 ///
 /// # Errors
 /// Where the allocator refuses its memory.
-pub fn program<'a>(alloc: Global, commands: &[Listed]) -> Result<Command<'a>, AllocError>
-    ensures { IfOk result (λ command. app_of command ≡ app_of_table (map listing_of commands.now)) }
+pub fn program<'a>(alloc: Global) -> Result<Command<'a>, AllocError>
+    ensures { IfOk result (λ command. app_of command ≡ the_app) }
 {
-    let mut program = command(alloc, "relay", &help::PROGRAM)
+    let mut program = command(alloc, "relay", page_named("relay"))
         .bin_name("relay")?
         .version(VERSION);
+    let commands = all_commands();
     for listed in commands {
-        let page = help::page_named(listed.name);
-        program = program.subcommand(subcommand(alloc, listed, &page)?)?;
+        program = program.subcommand(subcommand(alloc, listed)?)?;
     }
     Ok(program)
 }
 
-/// The arguments of the command of a name, if it is in the table.
-pub fn rows_named(commands: &[Listed], name: &str) -> Option<&'static [Row]>
-    ensures { option_map (λ rows. map argument_of rows.now) result
-        ≡ option_map (λ listing. listing.arguments) (find (λ listing. bytes_eq listing.name name.now) (map listing_of commands.now)) }
+/// The arguments of the command of a name, if a table has it.
+pub fn rows_in(commands: &[Listed], name: &str) -> Option<&'static [Row]>
+    ensures { option_map (λ rows. map argument_of rows.now) result ≡ arguments_in (map listing_of commands.now) name.now }
 {
     match commands {
         [] => None,
         [listed, ..] if listed.name == name => Some(listed.rows),
-        [_, rest @ ..] => rows_named(rest, name),
+        [_, rest @ ..] => rows_in(rest, name),
     }
 }

@@ -1,24 +1,24 @@
 //! From words to a command.
 
-ghost use Rattle.std.specs.Prelude.{◌≡◌, ◌∷◌, [], codes, false, true, if◌then◌else◌, is_some, map, option_map};
-ghost use Rattle.std.specs.Prelude.{slice_get, IfErr, IfOk, IfSome, IsNone};
+ghost use Rattle.std.specs.Prelude.{◌≡◌, ◌≢◌, ◌∷◌, [], codes, false, true, if◌then◌else◌, is_some, map, option_map};
+ghost use Rattle.std.specs.Prelude.{slice_get, IfErr, IfOk, Some};
+ghost use Rattle.std.specs.Option.{option_map_or};
 ghost use Rattle.clap.specs.Words.{found_of, kind_of, rows_of};
 ghost use Rattle.relay_line.specs.Explaining.{explained};
-ghost use Rattle.relay_line.specs.Line.{EndsAmong, EndsWithStatus, HasFiles, IsDefault, IsFoundIn, IsLineMet, IsLineOf, command_name, met_rows};
+ghost use Rattle.relay_line.specs.Line.{EndsAmong, Gives, HasFiles, IsCommandOf, IsDefault, IsLineMet, IsLineOf, met_rows};
 ghost use Rattle.relay_line.specs.declared.fault.LineFault.TheVariants.{Memory};
-ghost use Rattle.relay_line.specs.Listed.{the_commands};
-ghost use Rattle.relay_line.specs.Parsed.{argument_of, listing_of};
-ghost use Rattle.relay_line.specs.Rules.{endings, endings_at, endings_kept, endings_met, endings_named, is_among, keeps_all, keeps_rules, kind_status};
+ghost use Rattle.relay_line.specs.Listed.{doing_commands};
+ghost use Rattle.relay_line.specs.Rules.{endings, endings_at, endings_kept, endings_met, keeps_rules, keeps_rules_in, kind_status};
 
 use crate::check::faults_of;
 use crate::command::{command_of, some_text_of};
 use crate::explain::{explanation_in, names_in};
 use crate::explanations::EXPLANATIONS;
 use crate::fault::LineFault;
-use crate::help::Page;
+use crate::help::{Page, page_named};
 use crate::line::{CommandLine, saves_output};
-use crate::message::{help_of, message_of, page_of, refusal};
-use crate::options::{COMMANDS, Listed, Row, program, rows_named};
+use crate::message::{help_of, message_of, refusal};
+use crate::options::{all_commands, program, rows_in};
 use clap::error::ErrorKind;
 use clap::{ArgMatches, Error};
 use dm_encodation::Scheme;
@@ -35,7 +35,7 @@ const NO_COMMAND: &str = "relay: no command stands there; `relay --help` lists t
 
 // What a line that is not taken shows.
 fn shown(text: Result<String, AllocError>, status: u8) -> LineFault
-    ensures { EndsWithStatus status result }
+    ensures { EndsAmong (status ∷ []) result }
 {
     match text {
         Ok(text) => LineFault::Line { text, status },
@@ -45,7 +45,7 @@ fn shown(text: Result<String, AllocError>, status: u8) -> LineFault
 
 // What the parser's refusal shows, or the help or version that it gives, and the status.
 fn fault_of(alloc: Global, error: &Error, page: &Page) -> LineFault
-    ensures ends { EndsWithStatus (kind_status (kind_of error.now)) result }
+    ensures ends { EndsAmong (kind_status (kind_of error.now) ∷ []) result }
     ensures memory { kind_of error.now ≡ ErrorKind.OutOfMemory → result ≡ Memory }
 {
     let text = match error.to_string(alloc) {
@@ -61,9 +61,8 @@ fn fault_of(alloc: Global, error: &Error, page: &Page) -> LineFault
 
 // What the refusal of a name means, or the names of all.
 fn explanation_of(alloc: Global, table: &[&'static str], name: Option<&str>) -> LineFault
-    ensures names { IsNone name.entry → EndsWithStatus 0 result }
-    ensures text { IfSome name.entry
-        (λ n. EndsWithStatus (if is_some (explained table.now n.now) then 0 else 2) result) }
+    ensures { EndsAmong
+        (option_map_or (λ n. if is_some (explained table.now n.now) then 0 else 2) name.entry 0 ∷ []) result }
 {
     let Some(name) = name else {
         return shown(names_in(alloc, table), 0);
@@ -74,23 +73,30 @@ fn explanation_of(alloc: Global, table: &[&'static str], name: Option<&str>) -> 
     }
 }
 
+// The texts of `explain`.
+fn explanations() -> &'static [&'static str] {
+    &EXPLANATIONS
+}
+
 // What a line says whose command no name of the program's is.
 fn unknown(alloc: Global) -> LineFault
-    ensures { EndsWithStatus 2 result }
+    ensures { EndsAmong (2 ∷ []) result }
 {
     shown(String::from_str(alloc, NO_COMMAND), 2)
 }
 
-// A command with the other files of its line.
+// The command of a name, with the other files of its line.
 #[tactic(auto, using(crate::proofs::Found::first_value_of, crate::proofs::Found::all_values_of))]
 fn line_of<'a>(
     alloc: Global,
-    command: Command<'a>,
+    name: &str,
     options: &ArgMatches<'a>,
 ) -> Result<CommandLine<'a>, AllocError>
-    ensures command { IfOk result (λ line. line.command ≡ command.entry) }
+    requires { keeps_rules_in doing_commands name.now (rows_of (found_of options.now)) ≡ true }
+    ensures command { IfOk result (λ line. IsCommandOf (rows_of (found_of options.now)) name.now line.command) }
     ensures files { IfOk result (HasFiles (rows_of (found_of options.now))) }
 {
+    let command = command_of(name, options);
     let mut images = Vec::new(alloc);
     if let Some(names) = options.get_strs("images") {
         images.extend_from_slice(names)?;
@@ -107,96 +113,46 @@ fn line_of<'a>(
     })
 }
 
-// What a line gives whose options the parser found, by the arguments of its command.
-fn line_by_rows<'a>(
-    alloc: Global,
-    rows: &[Row],
-    name: &str,
-    page: &Page,
-    options: &ArgMatches<'a>,
-) -> Result<CommandLine<'a>, LineFault>
-    requires listed { keeps_rules name.now (rows_of (found_of options.now))
-        ≡ keeps_all (rows_of (found_of options.now)) (map argument_of rows.now) name.now }
-    requires other { is_among (codes "explain" ∷ codes "version" ∷ []) name.now ≡ false }
-    ensures named { IfOk result (λ line. name.now ≡ command_name line.command) }
-    ensures found { IfOk result (IsFoundIn (rows_of (found_of options.now))) }
-    ensures right { IfOk result (λ _. keeps_rules name.now (rows_of (found_of options.now)) ≡ true) }
-    ensures wrong { IfErr result (EndsAmong (endings_kept (keeps_rules name.now (rows_of (found_of options.now))))) }
-{
-    let faults = faults_of(alloc, rows, page, name, options)?;
-    if !faults.is_empty() {
-        return Err(shown(refusal(alloc, page, faults.as_str()), 2));
-    }
-    match command_of(name, options) {
-        Some(command) => Ok(line_of(alloc, command, options)?),
-        None => Err(unknown(alloc)),
-    }
-}
-
-// The same, by a table of commands.
+// What a command gives that does something.
 fn line_of_name<'a>(
     alloc: Global,
-    commands: &[Listed],
     name: &str,
     page: &Page,
     options: &ArgMatches<'a>,
 ) -> Result<CommandLine<'a>, LineFault>
-    requires same { map listing_of commands.now ≡ the_commands }
-    requires other { is_among (codes "explain" ∷ codes "version" ∷ []) name.now ≡ false }
-    ensures named { IfOk result (λ line. name.now ≡ command_name line.command) }
-    ensures found { IfOk result (IsFoundIn (rows_of (found_of options.now))) }
-    ensures right { IfOk result (λ _. keeps_rules name.now (rows_of (found_of options.now)) ≡ true) }
-    ensures wrong { IfErr result (EndsAmong (endings_kept (keeps_rules name.now (rows_of (found_of options.now))))) }
+    requires no_explain { name.now ≢ codes "explain" }
+    requires no_version { name.now ≢ codes "version" }
+    ensures { Gives (endings_kept (keeps_rules name.now (rows_of (found_of options.now))))
+        (IsLineMet (Some (name.now, rows_of (found_of options.now)))) result }
 {
-    match rows_named(commands, name) {
-        Some(rows) => line_by_rows(alloc, rows, name, page, options),
-        None => Err(unknown(alloc)),
+    let Some(rows) = rows_in(all_commands(), name) else {
+        return Err(unknown(alloc));
+    };
+    let faults = faults_of(alloc, rows, page, name, options)?;
+    if faults.is_empty() {
+        Ok(line_of(alloc, name, options)?)
+    } else {
+        Err(shown(refusal(alloc, page, faults.as_str()), 2))
     }
 }
 
-// The same, or what a command shows that does nothing else.
+// What a command gives, or shows.
 fn answer<'a>(
     alloc: Global,
-    commands: &[Listed],
     name: &str,
     page: &Page,
     options: &ArgMatches<'a>,
 ) -> Result<CommandLine<'a>, LineFault>
-    requires same { map listing_of commands.now ≡ the_commands }
-    ensures named { IfOk result (λ line. name.now ≡ command_name line.command) }
-    ensures found { IfOk result (IsFoundIn (rows_of (found_of options.now))) }
-    ensures right { IfOk result (λ _. endings_at name.now (rows_of (found_of options.now)) ≡ []) }
-    ensures wrong { IfErr result (EndsAmong (endings_at name.now (rows_of (found_of options.now)))) }
+    ensures { Gives (endings_at name.now (rows_of (found_of options.now)))
+        (IsLineMet (Some (name.now, rows_of (found_of options.now)))) result }
 {
     match name {
         "version" => Err(shown(format!(in alloc; "relay {VERSION}\n"), 0)),
         "explain" => {
             let refusal = some_text_of(options, "name");
-            Err(explanation_of(alloc, &EXPLANATIONS, refusal))
+            Err(explanation_of(alloc, explanations(), refusal))
         }
-        _ => line_of_name(alloc, commands, name, page, options),
-    }
-}
-
-// The same, if the first word is the command that the parser met.
-fn named_line<'a>(
-    alloc: Global,
-    commands: &[Listed],
-    page: &Page,
-    word: &str,
-    name: &str,
-    options: &ArgMatches<'a>,
-) -> Result<CommandLine<'a>, LineFault>
-    requires same { map listing_of commands.now ≡ the_commands }
-    ensures named { IfOk result (λ line. (word.now ≡ name.now) × (name.now ≡ command_name line.command)) }
-    ensures found { IfOk result (IsFoundIn (rows_of (found_of options.now))) }
-    ensures right { IfOk result (λ _. endings_named word.now (name.now, rows_of (found_of options.now)) ≡ []) }
-    ensures wrong { IfErr result (EndsAmong (endings_named word.now (name.now, rows_of (found_of options.now)))) }
-{
-    if word == name {
-        answer(alloc, commands, name, page, options)
-    } else {
-        Err(unknown(alloc))
+        _ => line_of_name(alloc, name, page, options),
     }
 }
 
@@ -217,20 +173,20 @@ fn default_line<'a>(alloc: Global) -> CommandLine<'a>
 // What a line gives, by the word after the program's name and the command that the parser met.
 fn line_met<'a>(
     alloc: Global,
-    commands: &[Listed],
     page: &Page,
     word: Option<&str>,
     met: Option<(&str, &ArgMatches<'a>)>,
 ) -> Result<CommandLine<'a>, LineFault>
-    requires same { map listing_of commands.now ≡ the_commands }
-    ensures right { IfOk result (λ _. endings_met (option_map (λ w. w.now) word.entry) (met_rows met.entry) ≡ []) }
-    ensures line { IfOk result (IsLineMet (met_rows met.entry)) }
-    ensures wrong { IfErr result (EndsAmong (endings_met (option_map (λ w. w.now) word.entry) (met_rows met.entry))) }
+    ensures { Gives (endings_met (option_map (λ w. w.now) word.entry) (met_rows met.entry)) (IsLineMet (met_rows met.entry)) result }
 {
     match (word, met) {
         (None, None) => Ok(default_line(alloc)),
         (Some(word), Some((name, options))) => {
-            named_line(alloc, commands, page, word, name, options)
+            if word == name {
+                answer(alloc, name, page, options)
+            } else {
+                Err(unknown(alloc))
+            }
         }
         // A line that names no command, as `relay --`.
         (Some(_), None) => Err(unknown(alloc)),
@@ -248,28 +204,6 @@ fn word_of<S: AsStr>(words: &[S]) -> Option<&str>
     }
 }
 
-// What the words give by a table of commands.
-fn line_by<'a, S: AsStr>(
-    alloc: Global,
-    commands: &[Listed],
-    words: &'a [S],
-) -> Result<CommandLine<'a>, LineFault>
-    requires same { map listing_of commands.now ≡ the_commands }
-    ensures right { IfOk result (λ _. endings (map S.text words.now) ≡ []) }
-    ensures line { IfOk result (IsLineOf (map S.text words.now)) }
-    ensures wrong { IfErr result (EndsAmong (endings (map S.text words.now))) }
-{
-    let Ok(program) = program(alloc, commands) else {
-        return Err(LineFault::Memory);
-    };
-    let page = page_of(words);
-    let matches = match program.try_get_matches_from(words) {
-        Ok(matches) => matches,
-        Err(error) => return Err(fault_of(alloc, &error, &page)),
-    };
-    line_met(alloc, commands, &page, word_of(words), matches.subcommand())
-}
-
 /// Reads the program's words, the first of which is its name, as the system hands them over. Without a
 /// command it is `words` with its defaults. No option of a command is taken before the command's name.
 ///
@@ -284,5 +218,12 @@ pub fn command_line<'a, S: AsStr>(
     ensures line { IfOk result (IsLineOf (map S.text words.now)) }
     ensures wrong { IfErr result (EndsAmong (endings (map S.text words.now))) }
 {
-    line_by(alloc, &COMMANDS, words)
+    let program = program(alloc)?;
+    let word = word_of(words);
+    let page = page_named(word.unwrap_or("relay"));
+    let matches = match program.try_get_matches_from(words) {
+        Ok(matches) => matches,
+        Err(error) => return Err(fault_of(alloc, &error, page)),
+    };
+    line_met(alloc, page, word, matches.subcommand())
 }

@@ -1,9 +1,11 @@
-use Rattle.clap.specs.Words.{found_of, rows_of}
-use Rattle.relay_line.proofs.Kept.{scheme_read, scheme_there}
+use Rattle.std.proofs.Common.{◌∙◌, ℕ, List, Some, ap, sym}
+use Rattle.std.proofs.lemmas.Bool.{true≢false}
+use Rattle.relay_line.proofs.Kept.{no_scheme}
+use Rattle.relay_line.specs.declared.options.Values.TheVariants.{Scheme}
 use Rattle.relay_line.proofs.command.encodation_of.Goals as goal
 
 pub returns-in-Some : goal.returns-in-Some
-returns-in-Some c = λ kept. scheme_read (rows_of (found_of c.args.options.now)) _ c.text_of.ensures kept c.in-Some.scheme c.in-Some.ensures
+returns-in-Some c = λ kept. (c.text_of.ensures Scheme kept).0 ∙ ap (λ (t : List ℕ). Some t) c.in-Some.ensures
 
 pub returns-in-None : goal.returns-in-None
-returns-in-None c = λ kept. absurd (scheme_there (rows_of (found_of c.args.options.now)) _ c.text_of.ensures kept c.in-None.ensures)
+returns-in-None c = λ kept. absurd (true≢false (sym (c.text_of.ensures Scheme kept).1 ∙ no_scheme _ c.in-None.ensures))
