@@ -4,7 +4,9 @@
 ghost use Rattle.dm_disk.specs.Disk.{unclaimed};
 
 use crate::disk::{Disk, Folders};
-use crate::files::{create_replacement, file_of, found, load_file, sync_folder, sync_folder_of};
+use crate::files::{
+    create_replacement, file_of, folder_of, found, load_file, sync_folder, sync_folder_of,
+};
 use crate::key_files::{key_of, with_end};
 use crate::new_file::{create_draft, draft_path, name_draft, remove_own};
 use dm_store::StoreFault;
@@ -22,8 +24,8 @@ const MOST_NAMES: usize = 131_072;
 pub struct RealDisk<'a, R: Files, A: Allocator + Copy = Global> {
     alloc: A,
     runtime: &'a R,
-    // The draft that was written last, open until it has its name. So its sync sees each fault of its writes, and it is
-    // known from what may come to its place.
+    // The draft that was written last, open until its name is synced. So its sync sees each fault of its writes, and it
+    // is known from what may come to its place.
     written: Option<R::File>,
     replaces: bool,
     // The number of the draft that was made last, of a new file.
@@ -172,9 +174,6 @@ impl<R: Files, A: Allocator + Copy> Disk for RealDisk<'_, R, A> {
         } else {
             self.name_new(to)
         };
-        if ended.is_ok() {
-            self.written = None;
-        }
         self.done(ended)
     }
 
@@ -190,7 +189,12 @@ impl<R: Files, A: Allocator + Copy> Disk for RealDisk<'_, R, A> {
     }
 
     fn sync_entry(&mut self, name: &str) -> Result<(), StoreFault> {
-        self.done(sync_folder_of(self.runtime, name))
+        // The folder of what has just got its name is there, or else that is gone.
+        let synced = match self.written.take() {
+            Some(_) => sync_folder(self.runtime, folder_of(name)),
+            None => sync_folder_of(self.runtime, name),
+        };
+        self.done(synced)
     }
 
     fn settle_entry(&mut self, name: &str) -> Result<(), StoreFault> {
