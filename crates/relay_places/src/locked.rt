@@ -91,6 +91,8 @@ pub(crate) struct CommandFiles<'a> {
     // What came of the first load: the lock, if the command takes one, or why it can't have its files.
     entered: OnceCell<Result<Option<Lock>, Reason>>,
     has_saved: Cell<bool>,
+    /// Whether it has made a desk where nothing was.
+    pub(crate) has_made_desk: Cell<bool>,
     /// Why the command did not find or did not get its files, if it didn't.
     pub(crate) reason: Cell<Option<Reason>>,
     /// Whether the folder could not be listed.
@@ -109,6 +111,7 @@ impl<'a> CommandFiles<'a> {
             place,
             entered: OnceCell::new(),
             has_saved: Cell::new(false),
+            has_made_desk: Cell::new(false),
             reason: Cell::new(None),
             has_no_list: Cell::new(false),
             refused: Cell::new(None),
@@ -270,6 +273,12 @@ impl<'a> CommandFiles<'a> {
         }
     }
 
+    // Whether nothing is at the paths of a desk.
+    fn has_no_desk(&self) -> bool {
+        let (file, folder) = (self.place.file.as_str(), self.place.folder.as_str());
+        !may_be_there(self.rt, folder) && !may_be_there(self.rt, file)
+    }
+
     // Keeps what is to be said of a desk with more documents than the command takes.
     fn look_at_count(&self, count: usize, limit: usize) {
         if count > limit {
@@ -369,7 +378,11 @@ impl<D: Disk + KeepsError> Disk for Locked<'_, D> {
 impl<D: Folders + KeepsError> Folders for Locked<'_, D> {
     fn make_folder(&mut self, folder: &str) -> Result<(), StoreFault> {
         self.command_files.may_save()?;
+        let is_new = self.command_files.has_no_desk();
         let made = self.within.make_folder(folder);
+        if is_new && made.is_ok() {
+            self.command_files.has_made_desk.set(true);
+        }
         self.told(folder, made)
     }
 

@@ -91,6 +91,8 @@ fn close_files(files: &CommandFiles<'_>, status: u8) -> Closed {
     let reason = files.reason.get();
     let note = if status != 0 || reason.is_some() {
         note_of(files)
+    } else if files.has_made_desk.get() {
+        note_of_reason(files.rt.alloc(), &files.place, Reason::NewDesk)
     } else {
         None
     };

@@ -5,10 +5,11 @@ use crate::place::Place;
 /// What is said of a desk's path where something else is to be made.
 pub(crate) const IS_DESK: &str = "a desk is there, with its files in the .pages folder";
 
-/// Why a command does not find or does not get its files.
+/// Why a command does not find or does not get its files, or what is to be said of them.
 #[derive(Clone, Copy)]
 pub(crate) enum Reason {
     NoDesk,
+    NewDesk,
     LostLink,
     LostFolder,
     NoPlainFile,
@@ -35,6 +36,7 @@ impl Reason {
         let (lock, draft) = (place.lock.as_str(), place.draft.as_str());
         match self {
             Reason::NoDesk => (file, "there is no desk"),
+            Reason::NewDesk => (file, "a new desk was made"),
             Reason::LostLink => (file, "a link that leads nowhere"),
             Reason::LostFolder => (folder, "a link that leads nowhere"),
             Reason::NoPlainFile => (file, "not a plain file"),
