@@ -46,13 +46,8 @@ fn open_at_once<R: Files>(runtime: &R, path: &str) -> io::Result<R::File> {
     }
 }
 
-// The first `limit + 1` bytes of the plain file at `path`, or `None` where it isn't there.
-pub(crate) fn load_file<R: Files, A: Allocator>(
-    alloc: A,
-    runtime: &R,
-    path: &str,
-    limit: usize,
-) -> io::Result<Option<Vec<u8, A>>> {
+// The plain file at `path`, open, or `None` where it isn't there.
+pub(crate) fn open_plain<R: Files>(runtime: &R, path: &str) -> io::Result<Option<R::File>> {
     if !is_plain_file(runtime, path)? {
         return Ok(None);
     }
@@ -62,10 +57,32 @@ pub(crate) fn load_file<R: Files, A: Allocator>(
     if !matches!(file.metadata(), Ok(metadata) if metadata.is_file()) {
         return Err(not_plain());
     }
+    Ok(Some(file))
+}
+
+// The first `limit + 1` bytes of a file.
+pub(crate) fn first_bytes<F: Read + Drop, A: Allocator>(
+    alloc: A,
+    file: F,
+    limit: usize,
+) -> io::Result<Vec<u8, A>> {
     let mut bytes = Vec::new(alloc);
     let most = (limit as u64).saturating_add(1);
     file.take(most).read_to_end(&mut bytes)?;
-    Ok(Some(bytes))
+    Ok(bytes)
+}
+
+// The first `limit + 1` bytes of the plain file at `path`, or `None` where it isn't there.
+pub(crate) fn load_file<R: Files, A: Allocator>(
+    alloc: A,
+    runtime: &R,
+    path: &str,
+    limit: usize,
+) -> io::Result<Option<Vec<u8, A>>> {
+    match open_plain(runtime, path)? {
+        Some(file) => Ok(Some(first_bytes(alloc, file, limit)?)),
+        None => Ok(None),
+    }
 }
 
 // Makes a file of its own at `path`. What stands there, as a link, a second name of another file, or what a stop has

@@ -27,5 +27,5 @@ pub use disk::{Disk, Folders};
 pub use filed::{AtFile, AtFolder, FileSet, FileStore, Filed};
 pub use files::folder_of;
 pub use key_files::{PathText, key_of, path_of};
-pub use new_file::{MOST_DRAFTS, draft_path};
+pub use new_file::{MOST_DRAFTS, draft_path, is_saved};
 pub use real_disk::RealDisk;

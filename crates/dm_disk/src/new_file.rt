@@ -1,9 +1,10 @@
 //! Files that take the place of nothing. A draft is made under a name that nothing has, and is known by its open file:
 //! what was not made here is neither removed nor renamed.
 
-use crate::files::{folder_of, found};
+use crate::files::{first_bytes, folder_of, found, open_plain, sync_folder};
 use crate::key_files::{PathText, with_end};
 use dm_store::StoreFault;
+use std::alloc::Allocator;
 use std::fmt::Write;
 use std::fs::{OpenFile, OpenOptions};
 use std::io::ErrorKind;
@@ -103,4 +104,29 @@ pub(crate) fn name_draft<R: Files>(
     check_name(runtime, file, path, REPLACED)?;
     remove_own(runtime, file, draft);
     Ok(())
+}
+
+/// Whether the bytes are saved at `path` already: in a plain file, and no link to one. If so, the file and its entry are
+/// synced.
+///
+/// # Errors
+/// The system refused a call.
+pub fn is_saved<R: Files, A: Allocator>(
+    alloc: A,
+    runtime: &R,
+    path: &str,
+    bytes: &[u8],
+) -> io::Result<bool> {
+    if fs::symlink_metadata(runtime, path)?.is_symlink() {
+        return Ok(false);
+    }
+    let Some(mut file) = open_plain(runtime, path)? else {
+        return Ok(false);
+    };
+    if first_bytes(alloc, &mut file, bytes.len())?.as_slice() != bytes {
+        return Ok(false);
+    }
+    file.sync_all()?;
+    sync_folder(runtime, folder_of(path))?;
+    Ok(true)
 }

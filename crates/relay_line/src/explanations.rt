@@ -78,13 +78,11 @@ pub static EXPLANATIONS: [&str; 45] = [
     correct what the line names. After `ledger`, check with `left`: the ledger\n  may be there.\n",
     "Save\n  From: all that save, except `ledger`.\n  \
     The save failed. Perhaps the disk is full, the folder is missing, the lock\n  \
-    file was removed, or the file of `--to` or `--all` exists, or is where none\n  \
-    may be (LIMITS.md). Nothing was printed or given. But the ID or the range\n  \
-    may be used up, the ticket taken, the page held, or the document forgotten.\n  \
+    file was removed, or the file of `--to` or `--all` has something else, or is\n  \
+    where none may be (LIMITS.md). Nothing was printed or given. But the ID or\n  \
+    the range may be used up, the ticket taken, the page held, or the document\n  forgotten.\n  \
     What to do: read the line `relay: PATH: WHY`, and correct what it names.\n  \
-    Then run the command again. Before you repeat a `give`, look with `left`:\n  \
-    its IDs may be lost. Repeat `--all --forget` with another folder, and keep\n  \
-    the first: it has what was forgotten.\n",
+    Then run the command again. Before you repeat a `give`, look with `left`:\n  its IDs may be lost.\n",
     "Write\n  From: all (`read` and `scan` say nothing).\n  \
     The output refused a write. What was saved stays saved: the ledger is made,\n  \
     the ID used, the range given or taken, the pages held, or the document\n  forgotten.\n  \

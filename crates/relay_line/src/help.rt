@@ -260,18 +260,19 @@ Example:
         more: "\
 Writes just the document, which stays at the desk. If a page is missing, nothing
 is written but `refused Incomplete`, to standard error. With `--to` the document
-is on the disk once the command exits with 0; FILE must not exist before.
+is on the disk once the command exits with 0. A FILE that is there already is
+left as it is, and refused unless it has this document.
 
 With `--all` the same holds of each complete document, with DIR/IIII as FILE;
-DIR must be there. A file that is there already stays as it was, its document is
-refused `Save`, and the next ones are saved all the same. At the end standard
-error says how many documents are incomplete. If the desk can't be opened,
-nothing is saved. All these refusals go to standard error.
+DIR must be there. If a file has something else, its document is refused `Save`,
+and the next ones are saved all the same. At the end standard error says how
+many documents are incomplete. If the desk can't be opened, nothing is saved.
+All these refusals go to standard error.
 
 With `--forget` the desk drops these documents once all of them are saved, as
 `relay forget` does: for each, `forgotten IIII` or a refusal is printed. If one
 can't be saved, none is forgotten. Incomplete documents stay. After a stop
-run it again with another DIR, and keep this one: it has what was forgotten.
+run it again with the same DIR, which keeps what was forgotten.
 
 Examples:
   relay deliver --file desk --id 0101 > letter
@@ -297,12 +298,13 @@ Example:
         more: "\
 The pages stay at the desk. `relay import` takes them in at another. A refusal
 goes to standard error. With `--to` the pages are on the disk once the command
-exits with 0; FILE must not exist before.
+exits with 0. A FILE that is there already is left as it is, and refused unless
+it has these pages.
 
 With `--all` the same holds of each document, complete or not, with DIR/IIII as
-FILE; DIR must be there. A file that is there already stays as it was, its
-document is refused `Save`, and the next ones are saved all the same. If the
-desk can't be opened, nothing is saved.
+FILE; DIR must be there. If a file has something else, its document is refused
+`Save`, and the next ones are saved all the same. If the desk can't be opened,
+nothing is saved.
 
 Examples:
   relay export --file desk --id 0101 > 0101.export

@@ -1,14 +1,13 @@
 -- Where a store gives nothing and a set lists no key, nothing is held.
-use Rattle.std.proofs.Common.{◌≡◌, ◌==◌, ◌∙◌, ◌∷◌, ℕ, List, [], true, false, None, Some, Option, length, refl, sym, subst, arith}
-use Rattle.std.specs.Prelude.{is_some, option_map, take}
+use Rattle.std.proofs.Common.{◌≡◌, ◌==◌, ◌∙◌, ◌∷◌, ℕ, List, [], true, None, Option, length, ap, refl, sym, subst, arith}
+use Rattle.std.specs.Prelude.{option_map, take}
 use Rattle.std.specs.FinMap.{empty, empty_of_len, keys}
 use Rattle.dm_store.specs.Saved.{Contents}
 use Rattle.dm_assembly_desk.proofs.Loading.{length-keys}
 
 pub nothing_found : {V : Type 0} (bytes : V → List ℕ) (found : Option V) (content : Option (List ℕ))
-    → option_map bytes found ≡ content → false ≡ is_some found → content ≡ None
-nothing_found bytes None content is gone = sym is
-nothing_found bytes (Some given) content is gone = cc
+    → option_map bytes found ≡ content → found ≡ None → content ≡ None
+nothing_found bytes found content is none = sym is ∙ ap (option_map bytes) none
 
 none_taken : (xs : List ℕ) → length (take 1 xs) ≡ 0 → length xs ≡ 0
 none_taken [] none = refl

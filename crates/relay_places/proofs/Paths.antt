@@ -1,10 +1,10 @@
 -- Paths that are not the same.
-use Rattle.std.proofs.Common.{◌≡◌, ◌≢◌, ◌∙◌, List, ℕ, Bool, true, false, Decides, Result, Ok, Err, IsErr, ◌⊎◌, inl, inr, ap, refl, sym, subst}
+use Rattle.std.proofs.Common.{◌≡◌, ◌≢◌, ◌∙◌, List, ℕ, Bool, true, false, Some, IsTrue, Decides, Result, Ok, Err, IsErr, ◌⊎◌, inl, inr, ap, refl, sym, subst}
 use Rattle.std.specs.Str.{bytes_eq}
 use Rattle.std.proofs.lemmas.Slice.Eq.{bytes_eq-Decides}
 use Rattle.dm_store.specs.{Saved.Replaces, Saved.Saved, Saved.SavedSet, declared.store.StoreFault.StoreFault}
 use Rattle.relay_shared.specs.Files.{DeskFiles}
-use Rattle.relay_places.specs.Places.{HoldNothing, KeepsOthers, PlacesView, SavesNew, files_of}
+use Rattle.relay_places.specs.Places.{HasSaved, HoldNothing, KeepsOthers, PlacesView, SavesNew, files_of}
 
 not_true : (b : Bool) → b ≢ true → b ≡ false
 not_true true isnt = absurd (isnt refl)
@@ -32,14 +32,21 @@ fault_in (Err fault) err = (fault, refl)
 -- a file is taken out, saved where neither a file nor a desk was, and put back
 pub saves_new : (path bytes : List ℕ) (old mid new : PlacesView) (file after : Saved) (folder kept : SavedSet)
     (answer : Result (Unit {0}) StoreFault) → files_of file folder ≡ old path → KeepsOthers path old mid → kept ≡ folder
-    → ((after ≡ file) × IsErr answer) ⊎ (HoldNothing (files_of file folder) × Replaces file bytes answer after)
+    → ((after ≡ file) × (IsErr answer ⊎ HasSaved bytes answer file)) ⊎ (HoldNothing (files_of file folder) × Replaces file bytes answer after)
     → new path ≡ files_of after kept → KeepsOthers path mid new → SavesNew path bytes old answer new
 saves_new path bytes old mid new file after folder kept answer there taken same ends back put =
     let others : KeepsOthers path old new = λ other apart. put other apart ∙ taken other apart in
     elim ends [
       | inl refused ↦ inl (
         same_places path old new others (back ∙ (λ i. files_of (refused.0 i) (same i)) ∙ there),
-        fault_in answer refused.1,
+        elim refused.1 [
+          | inl err ↦ inl (fault_in answer err)
+          | inr saved ↦ inr (
+            saved.0,
+            subst (λ (files : DeskFiles). IsTrue files.joint.is_honest → files.joint.content ≡ Some bytes)
+                there saved.1,
+          )
+        ],
       )
       | inr saved ↦ inr (
         subst HoldNothing there saved.0,

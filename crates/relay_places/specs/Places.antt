@@ -1,5 +1,5 @@
 -- What is at the paths of a line, and where the files of a command are.
-use Rattle.std.specs.Prelude.{◌≡◌, ℕ, ◌++◌, List, [], ◌∷◌, Bool, true, false, None, not, if◌then◌else◌, IsTrue, IsFalse, codes, string_bytes, ◌≢◌, ◌⊎◌, Result, Err}
+use Rattle.std.specs.Prelude.{◌≡◌, ℕ, ◌++◌, List, [], ◌∷◌, Bool, true, false, None, Some, not, if◌then◌else◌, IsTrue, IsFalse, codes, string_bytes, ◌≢◌, ◌⊎◌, Result, Ok, Err}
 use Rattle.std.specs.{Str.bytes_eq, FinMap.empty}
 use Rattle.relay_shared.specs.Files.{DeskFiles}
 use Rattle.dm_disk.specs.Disk.{draft_of, saved_under, set_in, unclaimed}
@@ -32,11 +32,15 @@ abbrev pub HoldNothing : DeskFiles → Type 0
 HoldNothing files = (IsTrue files.joint.is_honest → files.joint.content ≡ None)
     × (IsTrue files.set.is_honest → files.set.content ≡ empty)
 
--- Nothing was changed, and the save was refused. Or nothing was at the path, neither a file nor a desk, and the file there
--- was saved as stores are; all else is as it was.
+-- the save of a file is done, which has these bytes, if it is honest
+abbrev pub HasSaved : List ℕ → Result (Unit {0}) StoreFault → Saved → Type 0
+HasSaved bytes answer file = (answer ≡ Ok tt) × (IsTrue file.is_honest → file.content ≡ Some bytes)
+
+-- Nothing was changed, and the save was refused, or it is done since the file at the path has these bytes, if it is honest.
+-- Or nothing was at the path, neither a file nor a desk, and the file there was saved as stores are; all else is as it was.
 abbrev pub SavesNew : List ℕ → List ℕ → PlacesView → Result (Unit {0}) StoreFault → PlacesView → Type 0
 SavesNew path bytes old answer new =
-    ((new ≡ old) × ((fault : StoreFault) × (answer ≡ Err fault)))
+    ((new ≡ old) × (((fault : StoreFault) × (answer ≡ Err fault)) ⊎ HasSaved bytes answer (old path).joint))
     ⊎ (HoldNothing (old path) × Replaces (old path).joint bytes answer (new path).joint
     × ((new path).set ≡ (old path).set) × KeepsOthers path old new)
 

@@ -2,7 +2,7 @@
 
 ghost use Rattle.std.specs.Prelude.{◌≡◌, ◌∷◌, ◌⊎◌, false, option_map, string_bytes, IsErr};
 ghost use Rattle.dm_store.specs.Saved.{Replaces};
-ghost use Rattle.relay_places.specs.Places.{HoldNothing, KeepsOthers, SavesNew, files_of, kept_at};
+ghost use Rattle.relay_places.specs.Places.{HasSaved, HoldNothing, KeepsOthers, SavesNew, files_of, kept_at};
 
 use crate::place::{Access, Named};
 use crate::places::{Closed, Places, SavedNew};
@@ -54,16 +54,20 @@ fn content<'a>(kept: &'a [MemPlace], path: &str) -> Option<&'a [u8]>
     }
 }
 
-// Saves the bytes as a file, where neither a file nor a desk is.
+// Saves the bytes as a file, where neither a file nor a desk is; or they are that file's already, and no desk's.
 fn save_where_none(file: &mut MemStore, folder: &mut MemSet, bytes: &[u8]) -> Result<(), StoreFault>
     ensures set { folder.new ≡ folder.old }
-    ensures saves { ((file.new ≡ file.old) × IsErr result)
+    ensures saves { ((file.new ≡ file.old) × (IsErr result ⊎ HasSaved bytes.now result file.old))
         ⊎ (HoldNothing (files_of file.old folder.old) × Replaces file.old bytes.now result file.new) }
 {
-    if file.content().is_some() || !folder.keys(0)?.is_empty() {
+    if !folder.keys(0)?.is_empty() {
         return Err(StoreFault::Device);
     }
-    file.replace(bytes)
+    match file.content() {
+        Some(held) if held == bytes => Ok(()),
+        Some(_) => Err(StoreFault::Device),
+        None => file.replace(bytes),
+    }
 }
 
 // Saves the bytes as a file at a path, where neither a file nor a desk is.

@@ -1,14 +1,20 @@
 //! A new file that the output of a command is saved as.
 
-use crate::new_place::obstacle_to_output;
+use crate::new_place::{obstacle_at, obstacle_to_output};
 use crate::notes::{note_of_draft, note_of_error, note_of_reason};
 use crate::place::{Access, Named, Place};
 use crate::places::SavedNew;
 use crate::reason::Reason;
 use crate::system_disk::{KeepsError, SystemDisk};
-use dm_disk::FileStore;
+use dm_disk::{FileStore, is_saved};
 use dm_store::{Store, StoreFault};
 use std::io::{self, ErrorKind};
+
+// A save of which nothing is to be said.
+const SAVED: SavedNew = SavedNew {
+    answer: Ok(()),
+    note: None,
+};
 
 // A save that memory was refused for.
 const NO_MEMORY: SavedNew = SavedNew {
@@ -40,7 +46,13 @@ fn save_at(rt: &HostRuntime, place: &Place, bytes: &[u8]) -> SavedNew {
     SavedNew { answer, note }
 }
 
-/// Saves the bytes as a new file, as stores are saved.
+// Whether the bytes are saved at a place already, which is that of no ledger and no desk.
+fn is_saved_at(rt: &HostRuntime, place: &Place, bytes: &[u8]) -> bool {
+    let path = place.named.as_str();
+    obstacle_at(rt, place).is_none() && matches!(is_saved(rt.alloc(), rt, path, bytes), Ok(true))
+}
+
+/// Saves the bytes as a new file, as stores are saved. It is done, too, if the file is there and has these bytes.
 pub(crate) fn save_new(rt: &HostRuntime, name: &str, bytes: &[u8]) -> SavedNew {
     let named = Named {
         file: name,
@@ -51,9 +63,12 @@ pub(crate) fn save_new(rt: &HostRuntime, name: &str, bytes: &[u8]) -> SavedNew {
         return NO_MEMORY;
     };
     if let Some(obstacle) = obstacle_to_output(rt, &place) {
-        return SavedNew {
-            answer: Err(StoreFault::Device),
-            note: obstacle.note,
+        return match is_saved_at(rt, &place, bytes) {
+            true => SAVED,
+            false => SavedNew {
+                answer: Err(StoreFault::Device),
+                note: obstacle.note,
+            },
         };
     }
     save_at(rt, &place, bytes)

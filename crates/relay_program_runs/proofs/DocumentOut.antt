@@ -92,8 +92,10 @@ after_fault SavesOpen old wanted held is = is
 saved_so : (path bytes : List ℕ) (old new : PlacesView) (answer : Result (Unit {0}) StoreFault) →
     SavesNew path bytes old answer new → IsTrue (old path).joint.is_honest →
     (IsError answer × ((new path).joint.content ≡ (old path).joint.content)) ⊎ ((new path).joint.content ≡ Some bytes)
-saved_so path bytes old new answer (inl (same, fault)) honest =
+saved_so path bytes old new answer (inl (same, inl fault)) honest =
     inl (fault, ap (λ (p : PlacesView). (p path).joint.content) same)
+saved_so path bytes old new answer (inl (same, inr saved)) honest =
+    inr (ap (λ (p : PlacesView). (p path).joint.content) same ∙ saved.1 honest)
 saved_so path bytes old new (Ok done) (inr (holds, replaced, set, keeps)) honest = inr (replaced.done refl honest)
 saved_so path bytes old new (Err faults.Memory) (inr (holds, replaced, set, keeps)) honest =
     inl ((faults.Memory, refl), ap (λ (s : Saved). s.content) (replaced.refused refl))
