@@ -5,6 +5,7 @@ pub mod Printers
 pub mod Folders
 pub mod Desks
 pub mod Walk
+pub mod Where
 pub mod OneDocument
 pub mod GotOut
 pub mod Images

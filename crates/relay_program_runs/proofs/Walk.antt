@@ -18,7 +18,7 @@ use Rattle.relay_program_runs.proofs.Desks.{AreClean, KeptAs, clean_begun, clean
 -- each step from here: what was made so far, now, and later is all that is made
 module _ (A : Type 0) (made : List Made) (apart : AllPairs AreApart made) (earlier : List (Ran A)) (ran : Ran A)
     (later : List (Ran A)) (are : made ≡ all_made earlier ++ all_made (ran ∷ later)) where
-  made_next : made ≡ all_made (earlier ++ ran ∷ []) ++ all_made later
+  pub made_next : made ≡ all_made (earlier ++ ran ∷ []) ++ all_made later
   made_next = are ∙ sym (append_assoc (all_made earlier) (made_by ran.command ran.before ran.after) (all_made later))
       ∙ ap (λ (ms : List Made). ms ++ all_made later) (sym (made_more earlier ran))
 
@@ -53,7 +53,7 @@ module _ (A : Type 0) (made : List Made) (apart : AllPairs AreApart made) where
     abbrev next : List StoreAt
     next = slice_set site runs.0 (at_its_path ran ran.after.files.joint)
 
-    goes_on : OneMore A (ranges_of made) earlier s.relay ran next
+    pub goes_on : OneMore A (ranges_of made) earlier s.relay ran next
     goes_on = one_more A (ranges_of made) earlier site s ran runs.0 runs.1 (ranges_apart made apart)
         (made_apart A made apart earlier ran later are) (taken A earlier s.relay (passed ran).taken s.gave takes)
 

@@ -4,3 +4,4 @@ pub mod Written
 pub mod Worked
 pub mod Lines
 pub mod InTurn
+pub mod Where

@@ -7,7 +7,7 @@ use Rattle.dm_finder_frame.specs.Frame.{GridView}
 use Rattle.dm_symbol.specs.Correction.{IsNear}
 use Rattle.dm_store.specs.declared.mem_store.NextSave.TheVariants.{Fine}
 use Rattle.dm_store.specs.Saved.{with_open_plans, Contents, Saved, SavedSet, in_memory}
-use Rattle.dm_print_ledger.specs.{Ledger.JobView, Ledger.TicketView, declared.fault.TakeFault.TakeFault}
+use Rattle.dm_print_ledger.specs.{Ledger.JobView, Ledger.TicketView, Ledger.is_in, Ledger.is_range, Ledger.ledger_bytes, Verdicts.opening, declared.fault.TakeFault.TakeFault, declared.range.Range.Range}
 use Rattle.dm_print_ledger.specs.declared.fault.TakeFault.TheVariants as takes
 use Rattle.dm_assembly_desk.specs.declared.fault.{ScanFault.ScanFault, ImportFault.ImportFault}
 use Rattle.dm_assembly_desk.specs.declared.fault.ScanFault.TheVariants as scans
@@ -23,7 +23,7 @@ use Rattle.relay_desk_commands.specs.Desks.{IsTextOfId, OnDesk}
 use Rattle.relay.specs.Program.{Does, path_of}
 use Rattle.relay_program_runs.specs.Passed.{Made, made_where, text_of}
 use Rattle.relay_program_runs.specs.Law.{AreApart, AreVouchedFor, At, MeetsPremises, DeliversPrinted, Each, IsBlank, IsFirstOfItsId, IsNew, LeavesFile, LetsOut, NoIdIsPrintedTwice, PrintsUnder, Ran, RunInTurn, SomeRan, StoreAt, TakesGiven, TakesPrinted, WhatIsDeliveredWasPrinted, WritesPrinted, all_made, at_its_path, passed, status_of, store_of}
-use Rattle.relay_program_runs.specs.InTurn.{set_of}
+use Rattle.relay_program_runs.specs.{InTurn.set_of, Where.IsThere, Where.free_at, Where.on_ticket}
 
 -- an input with these bytes, and outputs to which nothing was written
 abbrev pub streams_of_input : List ℕ → StreamsView
@@ -125,6 +125,7 @@ pub record RefusalsCountNot : Type 0 where
 -- A command is at the path that it names. However a print ended, the labels of its job were let out, its ID is not
 -- printed again, and its document was read. However a `deliver` ended, and whatever is known of its output, what it
 -- delivered was printed. A grid near one that was let out may be taken in, and so may files that were exported or kept.
+-- All IDs of a new ledger are free, and it awaits each ticket that was given to its printer.
 pub record SayAtLeast (A : Type 0) : Type 0 where
   pub place : (ran : Ran A) (saved : Saved) → (at_its_path ran saved).path ≡ path_of ran.command
   pub label : (among : List ℕ → Bool) (ran : Ran A) (job : JobView) (i : ℕ) (grid : GridView) →
@@ -147,6 +148,13 @@ pub record SayAtLeast (A : Type 0) : Type 0 where
       SomeRan (λ its. LeavesFile one its × IsTrue (among (path_of its.command))) earlier →
       SomeRan (λ its. LeavesFile other its × IsTrue (among (path_of its.command))) earlier → (passed ran).scanned ≡ [] →
       (passed ran).imported ≡ one ∷ other ∷ [] → TakesPrinted (λ path. IsTrue (among path)) earlier ran
+  pub free : (rans : List (Ran A)) (number id : ℕ) (range : Range) (at : StoreAt) → IsTrue (is_range range) →
+      is_in range id ≡ true → at.saved.content ≡ Some (ledger_bytes (opening number range)) →
+      IsThere (at ∷ []) rans id (free_at 0)
+  pub awaits : (ran : Ran A) (ticket : TicketView) (id : ℕ) (range : Range) (at : StoreAt) → IsTrue (is_range range) →
+      (passed ran).given ≡ Some ticket → is_in ticket.range id ≡ true →
+      at.saved.content ≡ Some (ledger_bytes (opening ticket.receiver range)) →
+      IsThere (at ∷ []) (ran ∷ []) id (on_ticket ticket)
 
 -- ---- each premise is needed
 

@@ -3,6 +3,7 @@
 ghost use Rattle.relay_program_runs.specs.Law.{EachIdHasOneDocument, NoIdIsPrintedTwice, WhatIsDeliveredIsTheDocument, WhatIsDeliveredWasPrinted};
 ghost use Rattle.relay_program_runs.specs.Lines.{AllIsOut, EachIdOfLinesHasOneDocument, NoLinePrintsAnIdAgain, WhatLinesDeliverIsTheDocument, WhatLinesDeliverWasPrinted, WhatLinesLetOutIsTheDocument};
 ghost use Rattle.relay_program_runs.specs.InTurn.{WhatLinesRunInTurnFindWhatWasLeft, WhatRunsInTurnFindsWhatWasLeft};
+ghost use Rattle.relay_program_runs.specs.Where.{NoIdIsInTwoPlaces};
 ghost use Rattle.relay_program_runs.specs.Written.{WhatIsOutCounts, WhatIsWrittenWasPrinted};
 ghost use Rattle.relay_program_runs.specs.Worked.{RefusalsCountNot, SayAtLeast};
 ghost use Rattle.dm_size.specs.declared.size.Size.{Size};
@@ -15,6 +16,11 @@ use std::alloc::Allocator;
 /// No ID is printed twice.
 pub fn no_id_is_printed_twice<A: Allocator>()
     ensures { NoIdIsPrintedTwice A }
+{}
+
+/// An ID is free at one ledger, on one ticket that waits to be taken, or printed; or it is lost.
+pub fn no_id_is_in_two_places<A: Allocator>()
+    ensures { NoIdIsInTwoPlaces A }
 {}
 
 /// What is delivered was printed.

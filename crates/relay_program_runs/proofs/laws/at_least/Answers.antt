@@ -1,13 +1,16 @@
-use Rattle.std.proofs.Common.{◌≡◌, ◌⊎◌, inl, inr, ℕ, List, ◌∷◌, [], None, Option, Some, refl, subst, sym}
-use Rattle.std.specs.{List.AllByRecursion, Prelude.IfSome, Prelude.IsSomeAnd}
+use Rattle.std.proofs.Common.{◌≡◌, ◌⊎◌, inl, inr, false, ℕ, List, ◌∷◌, [], None, Option, Some, ap, refl, subst, sym}
+use Rattle.std.specs.{List.AllByRecursion, Prelude.IfSome, Prelude.IsSomeAnd, Prelude.IsTrue, Prelude.◌||◌}
 use Rattle.dm_finder_frame.specs.Frame.{GridView}
 use Rattle.dm_symbol.specs.Correction.{IsNear}
-use Rattle.dm_print_ledger.specs.Ledger.{JobView}
+use Rattle.dm_store.specs.Saved.{Saved}
+use Rattle.dm_print_ledger.specs.{Ledger.JobView, Ledger.is_range, Ledger.ledger_bytes, Ledger.shown_of, Verdicts.opening, declared.range.Range.Range}
+use Rattle.dm_print_ledger.proofs.{LedgerLaws.opening_sound, ReadLaws.ledger_read}
 use Rattle.relay_streams.specs.Streams.{AppendsPart, InputView}
 use Rattle.relay_shared.specs.Command.{ReadsDocument}
 use Rattle.relay_desk_commands.specs.Desks.{IsTextOfId}
 use Rattle.relay.specs.Program.{path_of}
 use Rattle.relay_program_runs.specs.Law.{IsFirstOfItsId, LeavesFile, LetsOut, PrintsUnder, Ran, SomeRan, TakesPrinted, WritesPrinted, passed, writes, writes_nothing}
+use Rattle.relay_program_runs.specs.Where.{HasLedger}
 use Rattle.relay_program_runs.proofs.laws.at_least.Goals as goal
 
 as_one : {X : Type 0} (P : X → Type 0) (o : Option X) (x : X) → o ≡ Some x → IfSome o P → P x
@@ -54,6 +57,14 @@ was_printed : (A : Type 0) (earlier : List (Ran A)) (text : List ℕ) (ran : Ran
 was_printed A earlier text ran (writes_nothing nothing) = inl nothing.0
 was_printed A earlier text ran (writes id document is printed part) = inr (id, document, is, printed, part.0)
 
+says_new : (number : ℕ) (range : Range) (saved : Saved) → IsTrue (is_range range) →
+    saved.content ≡ Some (ledger_bytes (opening number range)) → HasLedger saved (shown_of (opening number range))
+says_new number range saved is content = record {
+  bytes = ledger_bytes (opening number range);
+  content = content;
+  reads = ledger_read (opening number range) (opening_sound number range is);
+}
+
 pub returns : goal.returns
 returns g c = record {
   place = λ ran files. refl;
@@ -65,4 +76,11 @@ returns g c = record {
   exported = λ bytes ran is. inl is;
   kept = λ key bytes ran is. inr (key, is);
   files = λ among. takes_files _ _;
+  free = λ rans number id range at is has content.
+      (at, refl, (shown_of (opening number range), says_new number range at.saved is content, ap (λ b. b || false) has));
+  awaits = λ ran ticket id range at is given has content. (
+    (0, ran, refl, given),
+    has,
+    (0, at, refl, (shown_of (opening ticket.receiver range), says_new ticket.receiver range at.saved is content, refl, refl)),
+  );
 }
