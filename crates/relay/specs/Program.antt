@@ -18,6 +18,7 @@ use Rattle.relay_places.specs.Places.{HoldNothing, KeepsOthers, PlacesView, Save
 use Rattle.dm_store.specs.declared.store.StoreFault.{StoreFault}
 use Rattle.relay_line.specs.{Line.EndsAmong, Line.named_images, Line.IsLineOf, Rules.endings, Line.saved_path, Line.saves_output, declared.line.CommandLine.CommandLine, declared.fault.LineFault.LineFault, declared.fault.LineFault.TheVariants.Line, declared.fault.LineFault.TheVariants.Memory}
 use Rattle.relay_buffers.specs.Buffers.{IsPartOut}
+use Rattle.relay.specs.declared.standard.TheConstants.{MANY_BYTES}
 use Rattle.dm_store.specs.declared.store.StoreFault.TheVariants as faults
 
 -- ---- commands
@@ -104,6 +105,14 @@ refuses_on_errors (Copy file id page side scheme) = true
 refuses_on_errors (DeliverAll file folder forgets) = true
 refuses_on_errors (ExportAll file folder) = true
 refuses_on_errors other = saves_output other
+
+-- How many bytes of its output a command may hold back: none of a line, if it waits for its input again after one.
+abbrev pub least_of : Command → ℕ
+least_of Read = 0
+least_of (Scan file capacity) = 0
+least_of (Import file capacity) = 0
+least_of World = 0
+least_of other = MANY_BYTES
 
 -- ---- the standard streams
 

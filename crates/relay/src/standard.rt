@@ -1,8 +1,8 @@
 //! A command between the standard streams: what it writes goes out through buffers.
 
 ghost use Rattle.std.specs.Prelude.{◌≡◌, map, true};
-ghost use Rattle.relay_buffers.specs.Buffers.{promised};
-ghost use Rattle.relay.specs.Program.{DoesBetween, PutsOut, ShowsPart, TellsOut, StandardView};
+ghost use Rattle.relay_buffers.specs.Buffers.{empty_before, promised};
+ghost use Rattle.relay.specs.Program.{DoesBetween, PutsOut, ShowsPart, TellsOut, StandardView, least_of};
 ghost use Rattle.relay_places.specs.Places.{files_of};
 ghost use Rattle.std.specs.Io.KnownBytes.{Appends};
 
@@ -40,14 +40,16 @@ fn answers_each_image(command: Command) -> bool {
     matches!(command, Command::Read | Command::Scan { .. })
 }
 
-// How many bytes of its output a command keeps: of `read`, `scan`, `import` and `world` each line goes out before the
-// next image is waited for, the next file is read or the next event comes.
-fn least_of(command: Command) -> usize {
-    if answers_each_image(command) || matches!(command, Command::World | Command::Import { .. }) {
-        0
-    } else {
-        MANY_BYTES
-    }
+// What the output of a command goes through. Of `read`, `scan`, `import` and `world` each line goes out before the next
+// image is waited for, the next file is read or the next event comes.
+fn output_of<A: Allocator, W: Write>(alloc: A, writer: W, command: Command) -> LineBuffer<W, A>
+    ensures { result ≡ empty_before (W.contents writer) (least_of command.entry) }
+{
+    let least = match command {
+        Command::Read | Command::Scan { .. } | Command::Import { .. } | Command::World => 0,
+        _ => MANY_BYTES,
+    };
+    LineBuffer::new(alloc, writer, least)
 }
 
 // Whether it is said that the output has failed: always of a command that has ended with 0; else where the output has
@@ -124,7 +126,7 @@ pub(crate) fn do_between<
         result.status (files_of (S.state result.store) (T.state result.set)) result.standard }
 {
     let StandardStreams(input, output, errors) = standard;
-    let output = LineBuffer::new(alloc, output, least_of(command));
+    let output = output_of(alloc, output, command);
     let errors = LineBuffer::new(alloc, errors, 0);
     let mut streams = Streams::new(Watched::new(input), output, errors);
     let ended = do_command(alloc, store, set, inputs, &mut streams, command);

@@ -1,12 +1,13 @@
 //! Buffers that let whole lines out, and nothing more once a write has failed.
 
-ghost use Rattle.std.specs.Prelude.{◌≡◌, ◌≤◌, length, take, OnErr, OnOk, IsErr, [], is_some, false, true};
+ghost use Rattle.std.specs.Prelude.{◌≡◌, ◌≤◌, length, take, IfErr, OnErr, OnOk, IsErr, [], is_some, false, true, option_map};
 ghost use Rattle.std.specs.Io.{WritesAtMost};
 ghost use Rattle.std.specs.Io.KnownBytes.{Appends, Keeps, WriteAppends, append_known};
-ghost use Rattle.relay_buffers.specs.Buffers.{BufferView, held_of, promised, IsPartOut};
+ghost use Rattle.relay_buffers.specs.Buffers.{BufferView, empty_before, held_after, held_of, promised, IsPartOut};
 
+use crate::attempt::{Refusal, write_some};
 use std::alloc::{Allocator, Global};
-use std::io::{self, Error, ErrorKind, Write};
+use std::io::{self, Write};
 use std::marker::Model;
 
 /// A buffer in front of a writer. What is written goes out at the end of a line, once there are at least `least` bytes,
@@ -17,8 +18,10 @@ pub struct LineBuffer<W: Write, A: Allocator = Global> {
     writer: W,
     held: Vec<u8, A>,
     least: usize,
-    // How many of the bytes that are held were out when a write has failed, if one has.
-    out_at_failure: Option<usize>,
+    // Whether memory was refused for what was written last.
+    is_short: bool,
+    // If the writer has refused a write: how many of the bytes that are held were out by then, and why.
+    failure: Option<(usize, Refusal)>,
 }
 
 impl<W: Write, A: Allocator> Model for LineBuffer<W, A> {
@@ -26,60 +29,41 @@ impl<W: Write, A: Allocator> Model for LineBuffer<W, A> {
 
     ghost view = { λ b. record {
       out = W.contents b.writer;
-      held = held_of b.out_at_failure b.held.items;
-      has_failed = is_some b.out_at_failure;
+      held = held_of (option_map (λ failure. failure.0) b.failure) b.held.items;
+      least = b.least;
+      is_short = b.is_short;
+      has_failed = is_some b.failure;
     } };
 }
 
-// Writes some bytes of a text, and gives their number: none where the writer refuses it. A write that a signal
-// interrupts is made again.
-fn write_some<W: Write>(writer: &mut W, text: &[u8]) -> usize
-    ensures bound { result ≤ length text.now }
-    ensures bytes { Appends (W.contents writer.old) (W.contents writer.new) (take result text.now) }
-{
-    for _ in 0..u64::MAX {
-        match writer.write(text) {
-            Ok(count) => return count,
-            Err(error) => {
-                if error.kind() != ErrorKind::Interrupted {
-                    return 0;
-                }
-            }
-        }
-    }
-    0
-}
-
-// Writes the first bytes of a text, all unless the writer refuses a write, and gives their number.
-fn write_first<W: Write>(writer: &mut W, text: &[u8]) -> usize
-    ensures bound { result ≤ length text.now }
-    ensures bytes { Appends (W.contents writer.old) (W.contents writer.new) (take result text.now) }
+// Writes a text. Where the writer refuses a write: how many bytes are out by then, and why.
+fn write_first<W: Write>(writer: &mut W, text: &[u8]) -> Result<(), (usize, Refusal)>
+    ensures all { OnOk result (Appends (W.contents writer.old) (W.contents writer.new) text.now) }
+    ensures bound { IfErr result (λ failure. failure.0 ≤ length text.now) }
+    ensures part { IfErr result (λ failure.
+        Appends (W.contents writer.old) (W.contents writer.new) (take failure.0 text.now)) }
 {
     let mut done = 0;
     while done < text.len() {
-        let count = write_some(writer, &text[done..]);
-        if count == 0 {
-            return done;
+        match write_some(writer, &text[done..]) {
+            Ok(count) => done += count,
+            Err(why) => return Err((done, why)),
         }
-        done += count;
     }
-    done
-}
-
-fn refused() -> Error {
-    Error::from(ErrorKind::BrokenPipe)
+    Ok(())
 }
 
 impl<W: Write, A: Allocator> LineBuffer<W, A> {
     /// An empty buffer before a writer. It takes no memory.
     pub fn new(alloc: A, writer: W, least: usize) -> LineBuffer<W, A>
-        ensures { result ≡ record { out = W.contents writer; held = []; has_failed = false } }
+        ensures { result ≡ empty_before (W.contents writer) least }
     {
         LineBuffer {
             writer,
             held: Vec::new(alloc),
             least,
-            out_at_failure: None,
+            is_short: false,
+            failure: None,
         }
     }
 
@@ -87,7 +71,7 @@ impl<W: Write, A: Allocator> LineBuffer<W, A> {
     pub fn has_failed(&self) -> bool
         ensures { result ≡ self.now.has_failed }
     {
-        self.out_at_failure.is_some()
+        self.failure.is_some()
     }
 
     /// The writer, to which all was written that is out.
@@ -98,7 +82,8 @@ impl<W: Write, A: Allocator> LineBuffer<W, A> {
             writer,
             held: _,
             least: _,
-            out_at_failure: _,
+            is_short: _,
+            failure: _,
         } = self;
         writer
     }
@@ -107,16 +92,16 @@ impl<W: Write, A: Allocator> LineBuffer<W, A> {
     fn let_out(&mut self) -> io::Result<()>
         ensures bytes { Keeps (promised self.old) (promised self.new) }
         ensures done { OnOk result (self.new.held ≡ [] × self.new.has_failed ≡ false) }
+        ensures kept { (self.new.least ≡ self.old.least) × (self.new.is_short ≡ self.old.is_short) }
         ensures failed { OnErr result (self.new.has_failed ≡ true) }
         ensures stays { self.old.has_failed ≡ true → self.new ≡ self.old × IsErr result }
     {
-        if self.has_failed() {
-            return Err(refused());
+        if let Some((_, why)) = self.failure {
+            return Err(why.error());
         }
-        let count = write_first(&mut self.writer, self.held.as_slice());
-        if count < self.held.len() {
-            self.out_at_failure = Some(count);
-            return Err(refused());
+        if let Err((out, why)) = write_first(&mut self.writer, self.held.as_slice()) {
+            self.failure = Some((out, why));
+            return Err(why.error());
         }
         self.held.clear();
         Ok(())
@@ -136,48 +121,63 @@ impl<W: Write, A: Allocator> LineBuffer<W, A> {
     fn write_past(&mut self, buf: &[u8]) -> io::Result<usize>
         ensures bound { WritesAtMost result buf.now }
         ensures bytes { WriteAppends (promised self.old) (promised self.new) result buf.now }
+        ensures kept { (self.new.least ≡ self.old.least) × (self.new.is_short ≡ self.old.is_short) }
+        ensures done { OnOk result (self.new.held ≡ []) }
         ensures failed { OnErr result (self.new.has_failed ≡ true) }
     {
         self.let_out()?;
-        let count = write_some(&mut self.writer, buf);
-        if count == 0 {
-            self.out_at_failure = Some(0);
-            return Err(refused());
+        match write_some(&mut self.writer, buf) {
+            Ok(count) => Ok(count),
+            Err(why) => {
+                self.failure = Some((0, why));
+                Err(why.error())
+            }
         }
-        Ok(count)
     }
 }
 
 impl<W: Write, A: Allocator> Write for LineBuffer<W, A> {
     ghost contents = { promised };
 
-    fn write(&mut self, buf: &[u8]) -> io::Result<usize> {
-        if self.has_failed() {
-            return Err(refused());
+    fn write(&mut self, buf: &[u8]) -> io::Result<usize>
+        ensures bound { WritesAtMost result buf.now }
+        ensures bytes { WriteAppends (promised self.old) (promised self.new) result buf.now }
+        ensures rule { self.new.has_failed ≡ false → self.new.held ≡ held_after self.old buf.now self.new.is_short }
+        ensures least { self.new.least ≡ self.old.least }
+        ensures failed { OnErr result (self.new.has_failed ≡ true) }
+        ensures stays { self.old.has_failed ≡ true → self.new ≡ self.old × IsErr result }
+    {
+        if let Some((_, why)) = self.failure {
+            return Err(why.error());
         }
         let before = self.held.len();
-        if self.held.extend_from_slice(buf).is_err() {
+        self.is_short = self.held.extend_from_slice(buf).is_err();
+        if self.is_short {
             return self.write_past(buf);
         }
         if self.held.len() < self.least || !self.held.ends_with(b"\n") {
             return Ok(buf.len());
         }
-        let count = write_first(&mut self.writer, self.held.as_slice());
-        if count == self.held.len() {
+        let Err((out, why)) = write_first(&mut self.writer, self.held.as_slice()) else {
             self.held.clear();
             return Ok(buf.len());
-        }
+        };
         // Of this write no more than is out has been taken.
-        self.out_at_failure = Some(count);
-        if count <= before {
+        self.failure = Some((out, why));
+        if out <= before {
             self.held.truncate(before);
-            return Err(refused());
+            return Err(why.error());
         }
-        self.held.truncate(count);
-        Ok(count - before)
+        self.held.truncate(out);
+        Ok(out - before)
     }
 
-    fn flush(&mut self) -> io::Result<()> {
+    fn flush(&mut self) -> io::Result<()>
+        ensures bytes { Keeps (promised self.old) (promised self.new) }
+        ensures done { OnOk result (self.new.held ≡ []) }
+        ensures least { self.new.least ≡ self.old.least }
+        ensures stays { self.old.has_failed ≡ true → self.new ≡ self.old × IsErr result }
+    {
         self.let_out()?;
         self.writer.flush()
     }
