@@ -5,7 +5,7 @@ use crate::standard::{StandardStreams, tell};
 use crate::system::System;
 use relay_places::{Places, RealPlaces, note};
 use std::alloc::Global;
-use std::io::{BufReader, Error, ErrorKind, Read, Write};
+use std::io::{BufReader, Error, ErrorKind, IsTerminal, Read, Write};
 use std::{env, io};
 
 // Writes text to the standard error. What isn't UTF-8 is refused.
@@ -49,6 +49,15 @@ fn show_word_fault(rt: &HostRuntime, error: &io::Error) -> u8 {
     2
 }
 
+// Says at a terminal what a line without words waits for.
+fn note_waiting(rt: &HostRuntime, words: &[String]) {
+    if words.len() < 2 && rt.stdin().is_terminal() {
+        let _ = eprint!(rt;
+            "relay: waits for a document, as `relay words` does; `relay --help` says more\n"
+        );
+    }
+}
+
 // Does what words say over these streams and places, and gives the exit status. It takes those of any type, since a
 // body over the real ones takes long to prove.
 fn run_over<I: Read + Drop, O: Write + Drop, E: Write + Drop, P: Places>(
@@ -73,6 +82,7 @@ pub fn run(rt: &HostRuntime) -> u8 {
         Ok(words) => words,
         Err(error) => return show_word_fault(rt, &error),
     };
+    note_waiting(rt, words.as_slice());
     // These have buffers of their own, which are not to be moved from call to call.
     let Ok(mut input) = BufReader::new(rt.alloc(), rt.reader()) else {
         return refuse_on_errors(rt, "Memory");
