@@ -67,13 +67,6 @@ impl<W: Write, A: Allocator> LineBuffer<W, A> {
         }
     }
 
-    /// Whether a write has failed.
-    pub fn has_failed(&self) -> bool
-        ensures { result ≡ self.now.has_failed }
-    {
-        self.failure.is_some()
-    }
-
     /// The writer, to which all was written that is out.
     pub fn into_writer(self) -> W
         ensures { W.contents result ≡ self.out }
