@@ -167,7 +167,8 @@ impl<W: Write, A: Allocator> Write for LineBuffer<W, A> {
 
     fn flush(&mut self) -> io::Result<()>
         ensures bytes { Keeps (promised self.old) (promised self.new) }
-        ensures done { OnOk result (self.new.held ≡ []) }
+        ensures done { self.new.has_failed ≡ false → self.new.held ≡ [] }
+        ensures whole { OnOk result (self.new.has_failed ≡ false) }
         ensures least { self.new.least ≡ self.old.least }
         ensures stays { self.old.has_failed ≡ true → self.new ≡ self.old × IsErr result }
     {
