@@ -5,25 +5,24 @@ use crate::machine::Machine;
 use dm_disk::{FileSet, FileStore, Folders};
 use dm_encodation::Scheme;
 use dm_print_ledger::Range;
-use dm_store::{Store, StoreSet};
+use dm_store::{Kept, Store, StoreFault, StoreSet};
 use relay_desk_commands::{
     CopyOptions, EndedAll, Given, copy_command, deliver_command, export_command, forget_command,
     give_all, held_command, import_command, scan_command,
 };
 use relay_printer_commands::{
-    Labels, give_command, give_last_command, ledger_command, left_command, plan_command,
-    print_command, take_command, ticket_command,
+    Labels, audit_command, give_command, give_last_command, ledger_command, left_command,
+    plan_command, print_command, take_command, ticket_command,
 };
 use relay_shared::{Streams, refuse};
 use relay_symbol_commands::{Form, draw_command, read_command, words_command};
 use relay_world_command::world_command;
 use std::alloc::{AllocError, Allocator, Global};
 use std::io::{Read, Write};
-use std::test::Fail;
 use test_helpers::MemDisk;
 
 /// The commands.
-#[derive(Clone, Copy, Debug)]
+#[derive(Clone, Copy)]
 pub enum Call {
     Words,
     /// Whether the image is plain.
@@ -94,7 +93,8 @@ pub const OTHER: &[u8] = b"DMPG\x02\x01\x03\x02\0\x01\0\x0212";
 // Page 2 of 0101, and page 1 of 0103.
 const JOINT: &[u8] = b"DMPG\x01\0\x02\x01\x01\x02\0\x02\0\x0234\x01\x03\x02\0\x01\0\x0212";
 
-/// The images of the two labels of `1234`, as `print` writes them.
+/// The images of the two labels of `1234` in side 12, drawn by the standard's rules without the crates: heads by 5.6,
+/// error correction codewords by the generator polynomial for 7 (Annex E), modules by Annex F.
 pub const LABELS: &[u8] = b"P4\n14 14\n\
     \0\0\x55\x50\x42\x38\x4c\x60\x79\xc8\x76\x90\x62\x08\x55\x30\x62\x48\x63\xd0\x4b\x68\x41\xd0\x7f\xf8\0\0\
     P4\n14 14\n\
@@ -142,7 +142,7 @@ impl Call {
     }
 
     // A disk with the file that it is made over alone.
-    fn disk(self, alloc: Global) -> Result<MemDisk, Fail> {
+    fn disk(self, alloc: Global) -> Result<MemDisk, StoreFault> {
         let mut disk = MemDisk::new(alloc);
         match self {
             Call::Ledger => {}
@@ -180,6 +180,15 @@ fn of_streams<A: Allocator + Copy, R: Read, W: Write, E: Write>(
         Call::Ticket => ticket_command(streams, TICKET),
         _ => world_command(memory, streams),
     }
+}
+
+/// Audits a file that has no ledger, and then a ledger that it is given twice.
+pub fn audit<A: Allocator + Copy, R: Read, W: Write, E: Write>(
+    memory: A,
+    streams: &mut Streams<R, W, E>,
+) -> u8 {
+    let files = [b"".as_slice(), NEW_LEDGER, NEW_LEDGER];
+    audit_command(memory, &files, streams)
 }
 
 // A call on a printer: over any store, since what is over that of a machine is proved in more time.
@@ -329,7 +338,7 @@ pub fn made_over<A: Allocator + Copy, R: Read + Drop, W: Write + Drop, E: Write 
     machine: Machine,
     mut streams: Streams<R, W, E>,
     call: Call,
-) -> Result<CallEnd<R, W, E>, Fail> {
+) -> Result<CallEnd<R, W, E>, StoreFault> {
     let disks = (machine.disk(), machine.disk());
     let status = status_of(memory, alloc, disks, &mut streams, call)?;
     let has_stopped = machine.has_stopped();
@@ -347,9 +356,21 @@ pub fn made_over<A: Allocator + Copy, R: Read + Drop, W: Write + Drop, E: Write 
     })
 }
 
-/// Makes a call over a machine and its whole input.
-pub fn made(alloc: Global, machine: Machine, call: Call) -> Result<Whole, Fail> {
+/// Makes a call over a machine with this disk, which stops at the call of it after so many, and its whole input.
+pub fn made_until(
+    alloc: Global,
+    disk: MemDisk,
+    passes: u32,
+    kept: Kept,
+    call: Call,
+) -> Result<Whole, StoreFault> {
+    let machine = Machine::new(alloc, disk, passes, kept)?;
     made_over(alloc, alloc, machine, streams_of(alloc, call.input()), call)
+}
+
+/// Makes a call over a machine that does not stop.
+pub fn made(alloc: Global, disk: MemDisk, call: Call) -> Result<Whole, StoreFault> {
+    made_until(alloc, disk, u32::MAX, Kept::Old, call)
 }
 
 /// Makes a call alone, over streams and this memory.
@@ -358,12 +379,12 @@ pub fn alone<A: Allocator + Copy, R: Read + Drop, W: Write + Drop, E: Write + Dr
     alloc: Global,
     streams: Streams<R, W, E>,
     call: Call,
-) -> Result<CallEnd<R, W, E>, Fail> {
-    let machine = Machine::whole(alloc, call.disk(alloc)?)?;
+) -> Result<CallEnd<R, W, E>, StoreFault> {
+    let machine = Machine::new(alloc, call.disk(alloc)?, u32::MAX, Kept::Old)?;
     made_over(memory, alloc, machine, streams, call)
 }
 
 /// Makes a call alone, over its whole input.
-pub fn alone_whole(alloc: Global, call: Call) -> Result<Whole, Fail> {
+pub fn alone_whole(alloc: Global, call: Call) -> Result<Whole, StoreFault> {
     alone(alloc, alloc, streams_of(alloc, call.input()), call)
 }

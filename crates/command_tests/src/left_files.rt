@@ -1,8 +1,8 @@
 //! The files on a disk, and those that a stop may leave there.
 
 use dm_disk::Disk;
+use dm_store::StoreFault;
 use std::alloc::{AllocError, Global};
-use std::test::Fail;
 use test_helpers::MemDisk;
 
 /// The file of a ledger, or the joint file of a desk.
@@ -32,20 +32,31 @@ fn content_at(contents: &[Content], place: usize) -> Option<&[u8]> {
 }
 
 /// What a reader finds on a disk.
-pub fn files_on(alloc: Global, disk: &mut MemDisk) -> Result<Files, Fail> {
+pub fn files_on(alloc: Global, disk: &mut MemDisk) -> Result<Files, StoreFault> {
     let mut files = Vec::new(alloc);
     for name in NAMES {
-        files.push(disk.read(name, MOST_BYTES)?)?;
+        let content = disk.read(name, MOST_BYTES)?;
+        files.push(content).or(Err(StoreFault::Memory))?;
     }
     Ok(files)
 }
 
 /// Puts a file on a disk, which keeps it whenever the machine stops.
-pub fn keep(disk: &mut MemDisk, name: &str, bytes: &[u8]) -> Result<(), Fail> {
+pub fn keep(disk: &mut MemDisk, name: &str, bytes: &[u8]) -> Result<(), StoreFault> {
     disk.write(name, bytes)?;
     disk.sync(name)?;
     disk.sync_entry(name)?;
     Ok(())
+}
+
+// Whether a content is among these.
+fn has(contents: &[Content], content: Option<&[u8]>) -> bool {
+    for one in contents {
+        if one.as_deref() == content {
+            return true;
+        }
+    }
+    false
 }
 
 // Adds a content that a stop may leave under a name, if it isn't among those that were added.
@@ -56,10 +67,21 @@ fn add(
     name: &str,
     content: Option<&[u8]>,
 ) -> Result<(), AllocError> {
-    if disk.may_leave(name, content) && !left.iter().any(|one| one.as_deref() == content) {
-        left.push(content.map(|bytes| bytes.to_vec(alloc)).transpose()?)?;
+    if !disk.may_leave(name, content) || has(left, content) {
+        return Ok(());
     }
+    let copy = match content {
+        Some(bytes) => Some(bytes.to_vec(alloc)?),
+        None => None,
+    };
+    left.push(copy)?;
     Ok(())
+}
+
+// The first half of a content.
+fn half_of(content: Option<&[u8]>) -> Option<&[u8]> {
+    let bytes = content?;
+    bytes.get(..bytes.len() / 2)
 }
 
 // What a stop may leave under the name at a place: of no file, the old content, the new, the draft's, a part of that,
@@ -84,9 +106,8 @@ fn left_at(
         content_at(new, file),
         content_at(new, file | 1),
     ] {
-        let half = content.and_then(|bytes| bytes.get(..bytes.len() / 2));
         add(alloc, &mut left, disk, *name, content)?;
-        add(alloc, &mut left, disk, *name, half)?;
+        add(alloc, &mut left, disk, *name, half_of(content))?;
     }
     add(alloc, &mut left, disk, *name, Some(b"\0\0\0\0\0\0\0"))?;
     Ok(left)
@@ -100,10 +121,16 @@ pub struct LeftFiles {
 
 impl LeftFiles {
     /// What a stop may leave on a disk where a reader found the one files before it and finds the others now.
-    pub fn new(alloc: Global, disk: &MemDisk, old: &Files, new: &Files) -> Result<LeftFiles, Fail> {
+    pub fn new(
+        alloc: Global,
+        disk: &MemDisk,
+        old: &Files,
+        new: &Files,
+    ) -> Result<LeftFiles, StoreFault> {
         let mut contents = Vec::new(alloc);
         for place in 0..NAMES.len() {
-            contents.push(left_at(alloc, disk, old, new, place)?)?;
+            let left = left_at(alloc, disk, old, new, place)?;
+            contents.push(left).or(Err(StoreFault::Memory))?;
         }
         Ok(LeftFiles { contents })
     }
@@ -123,10 +150,13 @@ impl LeftFiles {
     }
 
     /// A disk with the files that are left in one of these ways, which keeps them whenever the machine stops.
-    pub fn way(&self, alloc: Global, number: usize) -> Result<MemDisk, Fail> {
+    pub fn way(&self, alloc: Global, number: usize) -> Result<MemDisk, StoreFault> {
         let mut disk = MemDisk::new(alloc);
         let mut rest = number;
-        for ((place, contents), name) in self.contents.iter().enumerate().zip(NAMES.iter()) {
+        for (place, name) in NAMES.iter().enumerate() {
+            let Some(contents) = self.contents.get(place) else {
+                break;
+            };
             let count = contents.len().max(1);
             let at = if place % 2 == 0 { rest } else { number };
             if let Some(bytes) = content_at(contents, at % count) {

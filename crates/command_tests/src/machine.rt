@@ -5,7 +5,6 @@ use dm_disk::{Disk, Folders};
 use dm_store::{Kept, StoreFault};
 use std::alloc::Global;
 use std::cell::{RefCell, RefMut};
-use std::test::Fail;
 use test_helpers::{MemDisk, Stopping};
 
 /// More calls of its disk than a command makes.
@@ -19,16 +18,16 @@ pub struct Machine {
 }
 
 impl Machine {
-    /// A machine that stops at the call of its disk after the first `passes`.
-    pub fn new(alloc: Global, mut disk: MemDisk, passes: u32, kept: Kept) -> Result<Machine, Fail> {
+    /// A machine that stops at the call of its disk after the first `passes`; with `u32::MAX` it does not stop.
+    pub fn new(
+        alloc: Global,
+        mut disk: MemDisk,
+        passes: u32,
+        kept: Kept,
+    ) -> Result<Machine, StoreFault> {
         let old = files_on(alloc, &mut disk)?;
         let disk = RefCell::new(Stopping::new(disk, passes, kept));
         Ok(Machine { disk, old })
-    }
-
-    /// A machine that does not stop.
-    pub fn whole(alloc: Global, disk: MemDisk) -> Result<Machine, Fail> {
-        Machine::new(alloc, disk, u32::MAX, Kept::Old)
     }
 
     /// Its disk, lent to a store.
@@ -56,7 +55,7 @@ pub struct SharedDisk<'a, D> {
 impl<'a, D> SharedDisk<'a, D> {
     // The disk, for a call.
     fn lent(&self) -> Result<RefMut<'a, D>, StoreFault> {
-        self.disk.try_borrow_mut().map_err(|_| StoreFault::Device)
+        self.disk.try_borrow_mut().or(Err(StoreFault::Device))
     }
 }
 

@@ -1,10 +1,8 @@
 //! Each command over memory that is refused, growth by growth.
 
-use crate::calls::{CALLS, Call, NEW_LEDGER, Whole, alone, alone_whole, is_whole, streams_of};
-use relay_printer_commands::audit_command;
+use crate::calls::{CALLS, Call, Whole, alone, alone_whole, audit, is_whole, streams_of};
 use std::alloc::Global;
 use std::process::Abort;
-use std::test::Fail;
 use test_helpers::Refusing;
 
 // More growths than any of these commands asks for.
@@ -12,7 +10,7 @@ const MOST_GROWTHS: u64 = 1_000;
 
 const LINE: &[u8] = b"refused Memory\n";
 
-// What an audit says of a file that has no ledger, and then of a ledger that it is given twice.
+// What the audit says.
 const TWICE: &str =
     "file 1 NotALedger\nnumber ledger 2 of 0 ledger 3 of 0\nfree ledger 2 of 0 ledger 3 of 0\n";
 
@@ -33,21 +31,23 @@ fn ends_well(ended: &Whole, whole: &Whole, call: Call, is_spent: bool) -> bool {
     is_spent && is_refused || is_whole(ended, ended.writer.as_slice(), whole)
 }
 
-// Refuses the first growth of a command, the second and so on, until none is, and says how many there were.
-fn refusals_of(rt: &impl Abort, alloc: Global, call: Call) -> Result<u64, Fail> {
-    let whole = alone_whole(alloc, call)?;
+// Refuses the first growth of the command at a place, the second and so on, until none is, and says how many there
+// were.
+fn refusals_of(rt: &impl Abort, alloc: Global, (place, call): (usize, Call)) -> u64 {
+    let whole = alone_whole(alloc, call).expect(rt, "it is done");
     for passes in 0..MOST_GROWTHS {
         let memory = Refusing::new(alloc, passes);
-        let ended = alone(&memory, alloc, streams_of(alloc, call.input()), call)?;
+        let streams = streams_of(alloc, call.input());
+        let ended = alone(&memory, alloc, streams, call).expect(rt, "it is done");
         assert!(rt;
             ends_well(&ended, &whole, call, memory.is_spent()),
-            "{call:?} {passes}"
+            "{place} {passes}"
         );
         if !memory.is_spent() {
-            return Ok(passes);
+            return passes;
         }
     }
-    Err("growths without end".into())
+    panic!(rt; "growths without end")
 }
 
 // Whether a command takes no memory of its own.
@@ -56,32 +56,32 @@ fn takes_none(call: Call) -> bool {
     matches!(call, Call::Ticket | Call::Ledger | Call::Give | Call::GiveLast | Call::Take | Call::Left)
 }
 
-// The growths of a world are refused in a test of another crate.
+// The growths of a world are refused in `refused_worlds`.
 #[test]
-fn commands_are_refused_by_name(rt: HostRuntime) -> Result<(), Fail> {
-    for call in CALLS {
+fn commands_are_refused_by_name(rt: HostRuntime) {
+    for (place, call) in CALLS.iter().enumerate() {
         if !matches!(call, Call::World) {
-            let refusals = refusals_of(&rt, rt.alloc(), call)?;
-            assert!(rt; (refusals == 0) == takes_none(call), "{call:?} {refusals}");
+            let refusals = refusals_of(&rt, rt.alloc(), (place, *call));
+            assert!(rt; (refusals == 0) == takes_none(*call), "{place} {refusals}");
         }
     }
-    Ok(())
 }
 
-// What an audit writes of these, over this memory; its status is to be 1.
+// What the audit writes over this memory; its status is to be 1.
 fn audited(memory: &Refusing<Global>, alloc: Global) -> Option<Vec<u8>> {
     let mut streams = streams_of(alloc, b"".as_slice());
-    let files = [b"".as_slice(), NEW_LEDGER, NEW_LEDGER];
-    let status = audit_command(memory, &files, &mut streams);
-    (status == 1).then_some(streams.output.into_writer())
+    if audit(memory, &mut streams) != 1 {
+        return None;
+    }
+    Some(streams.output.into_writer())
 }
 
 // An audit whose growth is refused says so in place of the lines that it can't write, and hides no fault before.
 #[test]
-fn an_audit_is_refused_by_name(rt: HostRuntime) -> Result<(), Fail> {
+fn an_audit_is_refused_by_name(rt: HostRuntime) {
     for passes in 0..MOST_GROWTHS {
         let memory = Refusing::new(rt.alloc(), passes);
-        let written = audited(&memory, rt.alloc()).ok_or("no refusal")?;
+        let written = audited(&memory, rt.alloc()).expect(&rt, "no refusal");
         let lines = str::from_utf8(written.as_slice()).unwrap_or("");
         let begins = passes == 0 || lines.starts_with("file 1 NotALedger\n");
         assert!(rt;
@@ -89,8 +89,8 @@ fn an_audit_is_refused_by_name(rt: HostRuntime) -> Result<(), Fail> {
             "{passes}"
         );
         if !memory.is_spent() {
-            return Ok(());
+            return;
         }
     }
-    Err("growths without end".into())
+    panic!(rt; "growths without end")
 }

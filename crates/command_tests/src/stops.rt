@@ -2,13 +2,12 @@
 //! Whatever the stop leaves, the next commands find all that was answered, and at most the one save more that was
 //! under way.
 
-use crate::calls::{BOTH, Call, LABEL, LABELS, OTHER, OTHER_LABEL, Whole, made};
-use crate::left_files::{LeftFiles, files_on};
-use crate::machine::{MOST_CALLS, Machine};
-use dm_store::Kept;
+use crate::calls::{BOTH, Call, LABEL, LABELS, OTHER, OTHER_LABEL, Whole, made, made_until};
+use crate::left_files::{Files, LeftFiles, files_on};
+use crate::machine::MOST_CALLS;
+use dm_store::{Kept, StoreFault};
 use std::alloc::Global;
 use std::process::Abort;
-use std::test::Fail;
 use test_helpers::MemDisk;
 
 // More calls of the disk than the move of an old file makes.
@@ -77,8 +76,8 @@ fn saves_of(call: Call) -> u8 {
 // How many saves it has answered: those of its lines that are no refusal.
 fn answered(lines: &[u8]) -> u8 {
     let mut count = 0u8;
-    for line in lines.split(|byte| *byte == b'\n') {
-        if !line.is_empty() && !line.starts_with(b"refused ") {
+    for line in str::from_utf8(lines).unwrap_or("").split('\n') {
+        if !line.is_empty() && !line.starts_with("refused ") {
             count = count.saturating_add(1);
         }
     }
@@ -97,13 +96,13 @@ fn ends_well(ended: &Whole, call: Call) -> bool {
         && (count > 0 || ended.tells_no_more(call))
 }
 
-// A disk on which the commands are done.
-fn disk_after(alloc: Global, calls: &[Call]) -> Result<MemDisk, Fail> {
+// A disk on which the commands are done; a fault if one of them is refused.
+fn disk_after(alloc: Global, calls: &[Call]) -> Result<MemDisk, StoreFault> {
     let mut disk = MemDisk::new(alloc);
     for call in calls {
-        let ended = made(alloc, Machine::whole(alloc, disk)?, *call)?;
+        let ended = made(alloc, disk, *call)?;
         if ended.status != 0 {
-            return Err("a command before is refused".into());
+            return Err(StoreFault::Device);
         }
         disk = ended.disk;
     }
@@ -116,10 +115,10 @@ fn has_told(ended: &Whole, call: Call, lines: &[u8]) -> bool {
 }
 
 // After how many of the saves a disk stands, as each look says: bit i for i of them.
-fn saves_on(alloc: Global, mut disk: MemDisk, looks: &[Look]) -> Result<u8, Fail> {
+fn saves_on(alloc: Global, mut disk: MemDisk, looks: &[Look]) -> Result<u8, StoreFault> {
     let mut saves = u8::MAX;
     for (call, written) in looks {
-        let ended = made(alloc, Machine::whole(alloc, disk)?, *call)?;
+        let ended = made(alloc, disk, *call)?;
         let mut here = 0u8;
         for (count, lines) in written.iter().enumerate() {
             if has_told(&ended, *call, lines) {
@@ -132,84 +131,91 @@ fn saves_on(alloc: Global, mut disk: MemDisk, looks: &[Look]) -> Result<u8, Fail
     Ok(saves)
 }
 
+// After how many of the saves, as bits, a disk stands in some way that a stop may leave it, if each way is after a
+// number of saves that is allowed; and else none.
+fn saves_left(
+    alloc: Global,
+    left: &LeftFiles,
+    looks: &[Look],
+    allowed: u8,
+) -> Result<u8, StoreFault> {
+    let mut seen = 0u8;
+    for number in 0..left.count() {
+        let saves = allowed & saves_on(alloc, left.way(alloc, number)?, looks)?;
+        if saves == 0 {
+            return Ok(0);
+        }
+        seen |= saves;
+    }
+    Ok(seen)
+}
+
 // A stop at a call: whether the command was done before it, and after how many of the saves what is left may stand, as
-// bits. The command ends as it must, and what was answered is there.
+// bits; none if the command does not end as it must, or what was answered is not there.
 fn stop(
-    rt: &impl Abort,
     alloc: Global,
     (before, call, looks): Case,
     passes: u32,
     kept: Kept,
-) -> Result<(bool, u8), Fail> {
-    let disk = disk_after(alloc, before)?;
-    let ended = made(alloc, Machine::new(alloc, disk, passes, kept)?, call)?;
-    assert!(rt; ends_well(&ended, call), "{call:?} {passes} {kept:?}");
+) -> Result<(bool, u8), StoreFault> {
+    let ended = made_until(alloc, disk_after(alloc, before)?, passes, kept, call)?;
     let is_done = ended.status == 0;
+    if !ends_well(&ended, call) {
+        return Ok((is_done, 0));
+    }
     let allowed = (if is_done { 1u8 } else { 3 }) << (answered(ended.told(call).0) % 8);
     let left = LeftFiles::new(alloc, &ended.disk, &ended.old, &ended.files)?;
-    let mut seen = 0u8;
-    for number in 0..left.count() {
-        let saves = allowed & saves_on(alloc, left.way(alloc, number)?, looks)?;
-        assert!(rt; saves != 0, "{call:?} {passes} {kept:?} {number}");
-        seen |= saves;
-    }
-    Ok((is_done, seen))
+    Ok((is_done, saves_left(alloc, &left, looks, allowed)?))
 }
 
-// Stops the command at each call, until it is done; and what is left stands after each number of saves somewhere.
-fn stops(rt: &impl Abort, alloc: Global, case: Case, kept: Kept) -> Result<(), Fail> {
+// Stops the command of the case at a place at each call, until it is done; and what is left stands after each number of
+// saves somewhere.
+fn stops(rt: &impl Abort, alloc: Global, (place, case): (usize, Case), kept: Kept) {
     let mut seen = 0u8;
     for passes in 0..MOST_CALLS {
-        let (is_done, saves) = stop(rt, alloc, case, passes, kept)?;
+        let (is_done, saves) = stop(alloc, case, passes, kept).expect(rt, "it is done");
+        assert!(rt; saves != 0, "{place} {passes} {kept:?}");
         seen |= saves;
         if is_done {
             let all = u8::MAX >> (7 - saves_of(case.1) % 8);
-            assert!(rt; seen == all, "{:?} {kept:?}", case.1);
-            return Ok(());
+            assert!(rt; seen == all, "{place} {kept:?}");
+            return;
         }
     }
-    Err("calls without end".into())
+    panic!(rt; "calls without end")
 }
 
 #[test]
-fn a_command_keeps_what_it_answered(rt: HostRuntime) -> Result<(), Fail> {
-    for case in CASES.iter() {
-        for kept in [Kept::Old, Kept::New] {
-            stops(&rt, rt.alloc(), *case, kept)?;
-        }
+fn a_command_keeps_what_it_answered(rt: HostRuntime) {
+    for (place, case) in CASES.iter().enumerate() {
+        stops(&rt, rt.alloc(), (place, *case), Kept::Old);
+        stops(&rt, rt.alloc(), (place, *case), Kept::New);
     }
-    Ok(())
 }
 
 // The move of an old file, stopped twice. A file that the first stop left is there for a reader, but a second stop may
 // take it back until the set has listed its keys; both documents of the old file are found whatever is left. The
 // command moves them first, and adds nothing to them.
-fn keeps_both(alloc: Global, first: u32, second: u32) -> Result<bool, Fail> {
+fn keeps_both(alloc: Global, first: u32, second: u32) -> Result<bool, StoreFault> {
     let mut disk = disk_after(alloc, &[Call::Joint])?;
     let old = files_on(alloc, &mut disk)?;
     for passes in [first, second] {
-        let machine = Machine::new(alloc, disk, passes, Kept::Old)?;
-        disk = made(alloc, machine, Call::Import(OTHER))?.disk;
+        disk = made_until(alloc, disk, passes, Kept::Old, Call::Import(OTHER))?.disk;
     }
     let new = files_on(alloc, &mut disk)?;
     let left = LeftFiles::new(alloc, &disk, &old, &new)?;
     let looks: &[Look] = &[(Call::Import(BOTH), &[ADDED_FIRST]), OTHER_IS_HELD];
-    let mut keeps = true;
-    for number in 0..left.count() {
-        keeps &= saves_on(alloc, left.way(alloc, number)?, looks)? & 1 == 1;
-    }
-    Ok(keeps)
+    Ok(saves_left(alloc, &left, looks, 1)? == 1)
 }
 
 #[test]
-fn a_move_stopped_twice_keeps_both_documents(rt: HostRuntime) -> Result<(), Fail> {
+fn a_move_stopped_twice_keeps_both_documents(rt: HostRuntime) {
     for first in 0..MOST_CALLS_OF_A_MOVE {
         for second in 0..MOST_CALLS_OF_A_MOVE {
-            let keeps = keeps_both(rt.alloc(), first, second)?;
+            let keeps = keeps_both(rt.alloc(), first, second).expect(&rt, "it is done");
             assert!(rt; keeps, "{first} {second}");
         }
     }
-    Ok(())
 }
 
 // The calls that are done before, one that is stopped, and one that tells of what it found: done, or by this refusal.
@@ -259,63 +265,71 @@ struct Told {
     teller_was_stopped: bool,
 }
 
+// Whether a look writes these lines in each way that a stop may leave the disk of a call.
+fn is_seen(
+    alloc: Global,
+    old: &Files,
+    ended: &Whole,
+    (look, wanted): (Call, &[u8]),
+) -> Result<bool, StoreFault> {
+    let left = LeftFiles::new(alloc, &ended.disk, old, &ended.files)?;
+    let mut keeps = true;
+    for number in 0..left.count() {
+        let looked = made(alloc, left.way(alloc, number)?, look)?;
+        keeps &= has_told(&looked, look, wanted);
+    }
+    Ok(keeps)
+}
+
 // The first call may be stopped before its file is settled, and so may the one that tells.
 fn told_after(
     alloc: Global,
     (before, stopped, (call, told), look, wanted): Telling,
     (first, second): (u32, u32),
     kept: Kept,
-) -> Result<Told, Fail> {
-    let disk = disk_after(alloc, before)?;
-    let first = made(alloc, Machine::new(alloc, disk, first, kept)?, stopped)?;
-    let ended = made(alloc, Machine::new(alloc, first.disk, second, kept)?, call)?;
+) -> Result<Told, StoreFault> {
+    let first = made_until(alloc, disk_after(alloc, before)?, first, kept, stopped)?;
+    let ended = made_until(alloc, first.disk, second, kept, call)?;
     let tells = if told.is_empty() {
         ended.status == 0
     } else {
         has_told(&ended, call, told)
     };
-    let left = LeftFiles::new(alloc, &ended.disk, &first.old, &ended.files)?;
-    let ways = if tells { left.count() } else { 0 };
-    let mut keeps = true;
-    for number in 0..ways {
-        let whole = Machine::whole(alloc, left.way(alloc, number)?)?;
-        keeps &= has_told(&made(alloc, whole, look)?, look, wanted);
-    }
     Ok(Told {
-        keeps,
+        keeps: !tells || is_seen(alloc, &first.old, &ended, (look, wanted))?,
         was_stopped: first.has_stopped,
         teller_was_stopped: ended.has_stopped,
     })
 }
 
-// Stops the first call at each call of its disk, until it is done. Says whether it was stopped.
+// Stops the call that tells at each call of its disk, until it is done, after the first call was stopped. Says whether
+// that was stopped.
 fn tells_what_stays(
     rt: &impl Abort,
     alloc: Global,
-    told: Telling,
+    (place, told): (usize, Telling),
     first: u32,
     kept: Kept,
-) -> Result<bool, Fail> {
+) -> bool {
     for second in 0..=MOST_CALLS_OF_A_FORGET {
-        let seen = told_after(alloc, told, (first, second), kept)?;
-        assert!(rt; seen.keeps, "{:?} {first} {second} {kept:?}", told.2);
+        let seen = told_after(alloc, told, (first, second), kept).expect(rt, "it is done");
+        assert!(rt; seen.keeps, "{place} {first} {second} {kept:?}");
         if !seen.teller_was_stopped {
-            return Ok(seen.was_stopped);
+            return seen.was_stopped;
         }
     }
-    Err("calls without end".into())
+    panic!(rt; "calls without end")
 }
 
 #[test]
-fn what_is_told_stays_so(rt: HostRuntime) -> Result<(), Fail> {
-    for told in TOLD.iter() {
+fn what_is_told_stays_so(rt: HostRuntime) {
+    for (place, told) in TOLD.iter().enumerate() {
         for kept in [Kept::Old, Kept::New] {
             for first in 0..MOST_CALLS_OF_A_FORGET {
-                if !tells_what_stays(&rt, rt.alloc(), *told, first, kept)? {
+                if !tells_what_stays(&rt, rt.alloc(), (place, *told), first, kept) {
                     break;
                 }
             }
         }
     }
-    Ok(())
 }

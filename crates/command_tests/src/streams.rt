@@ -1,20 +1,25 @@
 //! Each command over readers and writers that fail, or are interrupted, after each number of bytes.
 
 use crate::calls::{CALLS, Call, CallEnd, Whole, alone, alone_whole, is_whole, streams_of};
+use dm_store::StoreFault;
 use relay_shared::Streams;
 use std::alloc::Global;
-use std::test::Fail;
 use test_helpers::{Faulty, FaultyWriter};
 
 // Whether a command whose read is interrupted ends as over its whole input.
-fn reads_again(alloc: Global, call: Call, passes: usize, whole: &Whole) -> Result<bool, Fail> {
+fn reads_again(
+    alloc: Global,
+    call: Call,
+    passes: usize,
+    whole: &Whole,
+) -> Result<bool, StoreFault> {
     let streams = streams_of(alloc, Faulty::interrupted(call.input(), passes));
     let ended = alone(alloc, alloc, streams, call)?;
     Ok(is_whole(&ended, ended.writer.as_slice(), whole))
 }
 
 // Whether a command whose read fails is refused, and has saved nothing.
-fn is_unread(alloc: Global, call: Call, passes: usize) -> Result<bool, Fail> {
+fn is_unread(alloc: Global, call: Call, passes: usize) -> Result<bool, StoreFault> {
     let streams = streams_of(alloc, Faulty::failing(call.input(), passes));
     let ended = alone(alloc, alloc, streams, call)?;
     Ok(ended.is_refused(call, b"refused Read\n"))
@@ -23,18 +28,18 @@ fn is_unread(alloc: Global, call: Call, passes: usize) -> Result<bool, Fail> {
 // A read that is interrupted is made again: nothing tells of it. Of a reader that fails, before the end of a label or a
 // document, the one line names the fault, and nothing is saved.
 #[test]
-fn readers_are_interrupted_or_fail(rt: HostRuntime) -> Result<(), Fail> {
-    for call in CALLS {
-        let whole = alone_whole(rt.alloc(), call)?;
-        assert!(rt; whole.status == 0 && !whole.writer.is_empty(), "{call:?}");
+fn readers_are_interrupted_or_fail(rt: HostRuntime) {
+    for (place, call) in CALLS.iter().enumerate() {
+        let whole = alone_whole(rt.alloc(), *call).expect(&rt, "it is done");
+        assert!(rt; whole.status == 0 && !whole.writer.is_empty(), "{place}");
         let length = call.input().len();
         for passes in 0..=length {
-            let is_right = reads_again(rt.alloc(), call, passes, &whole)?
-                && (passes == length || is_unread(rt.alloc(), call, passes)?);
-            assert!(rt; is_right, "{call:?} {passes}");
+            let is_right = reads_again(rt.alloc(), *call, passes, &whole).expect(&rt, "it is done")
+                && (passes == length
+                    || is_unread(rt.alloc(), *call, passes).expect(&rt, "it is done"));
+            assert!(rt; is_right, "{place} {passes}");
         }
     }
-    Ok(())
 }
 
 // How a command ended whose output failed.
@@ -53,25 +58,26 @@ fn has_prefix(ended: &Written, whole: &Whole, call: Call, passes: usize) -> bool
 }
 
 // Makes a command over an output.
-fn written(alloc: Global, call: Call, writer: FaultyWriter) -> Result<Written, Fail> {
+fn written(alloc: Global, call: Call, writer: FaultyWriter) -> Result<Written, StoreFault> {
     let streams = Streams::new(call.input(), writer, Vec::new(alloc));
     alone(alloc, alloc, streams, call)
 }
 
+// Whether a command over a writer that is interrupted, and over one that fails, ends as it must.
+fn is_written(alloc: Global, call: Call, passes: usize, whole: &Whole) -> Result<bool, StoreFault> {
+    let again = written(alloc, call, Faulty::interrupted(Vec::new(alloc), passes))?;
+    let cut = written(alloc, call, Faulty::failing_once(Vec::new(alloc), passes))?;
+    Ok(is_whole(&again, again.writer.taken(), whole) && has_prefix(&cut, whole, call, passes))
+}
+
 // A write that is interrupted is made again, too.
 #[test]
-fn writers_are_interrupted_or_fail(rt: HostRuntime) -> Result<(), Fail> {
-    for call in CALLS {
-        let whole = alone_whole(rt.alloc(), call)?;
+fn writers_are_interrupted_or_fail(rt: HostRuntime) {
+    for (place, call) in CALLS.iter().enumerate() {
+        let whole = alone_whole(rt.alloc(), *call).expect(&rt, "it is done");
         for passes in 0..whole.writer.len() {
-            let writer = Faulty::interrupted(Vec::new(rt.alloc()), passes);
-            let again = written(rt.alloc(), call, writer)?;
-            let writer = Faulty::failing_once(Vec::new(rt.alloc()), passes);
-            let cut = written(rt.alloc(), call, writer)?;
-            let is_right = is_whole(&again, again.writer.taken(), &whole)
-                && has_prefix(&cut, &whole, call, passes);
-            assert!(rt; is_right, "{call:?} {passes}");
+            let is_right = is_written(rt.alloc(), *call, passes, &whole).expect(&rt, "it is done");
+            assert!(rt; is_right, "{place} {passes}");
         }
     }
-    Ok(())
 }

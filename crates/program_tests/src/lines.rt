@@ -1,9 +1,9 @@
 //! Lines one after another, over places in memory.
 
 use dm_store::{MemSet, MemStore};
-use relay::{MemPlace, MemPlaces, StandardStreams, System};
+use relay::{MemPlace, MemPlaces, Places, StandardStreams, System};
+use std::alloc::{AllocError, Global};
 use std::io::Cursor;
-use std::test::Fail;
 
 // Each line reads what the one before has written, and writes this, if it is known. The print's document is what the
 // ledger's line has written.
@@ -19,21 +19,32 @@ const LINES: [(&str, &[u8]); 8] = [
     ("relay left --file other", b"printer 7\nleft 10\nfree 10 19 010b 0114\ngiven 0\n"),
 ];
 
+// Does a line over an input: its status, what it wrote, and the places after it. Over any places, since what is over
+// those in memory is proved in more time.
+fn done<P: Places>(
+    alloc: Global,
+    line: &str,
+    input: Vec<u8>,
+    places: P,
+) -> Result<(u8, Vec<u8>, P), AllocError> {
+    let words: Vec<&str> = line.split(' ').collect(alloc)?;
+    let standard = StandardStreams(Cursor::new(input), Vec::new(alloc), Vec::new(alloc));
+    let (status, system) = System { standard, places }.run_line(alloc, words.as_slice());
+    let System { standard, places } = system;
+    let StandardStreams(_, output, _) = standard;
+    Ok((status, output, places))
+}
+
 #[test]
 #[rattlefmt::skip] // a pattern a line
-fn a_document_goes_from_a_ledger_to_a_desk(rt: HostRuntime) -> Result<(), Fail> {
+fn a_document_goes_from_a_ledger_to_a_desk(rt: HostRuntime) {
     let alloc = rt.alloc();
     let opened = MemPlace { path: String::new(alloc), files: (MemStore::new(alloc), MemSet::new(alloc)) };
     let mut places = MemPlaces { alloc, opened, kept: Vec::new(alloc), inputs: &[] };
     let mut written = Vec::new(alloc);
     for (line, wanted) in LINES {
-        let words: Vec<&str> = line.split(' ').collect(alloc)?;
-        let standard = StandardStreams(Cursor::new(written), Vec::new(alloc), Vec::new(alloc));
-        let (status, system) = System { standard, places }.run_line(alloc, words.as_slice());
-        let System { standard, places: after } = system;
-        let StandardStreams(_, output, _) = standard;
+        let (status, output, after) = done(alloc, line, written, places).expect(&rt, "it is done");
         assert!(rt; status == 0 && (wanted.is_empty() || output.as_slice() == wanted), "{line}");
         (places, written) = (after, output);
     }
-    Ok(())
 }

@@ -2,6 +2,7 @@ use crate::{
     relay_image_from_words, relay_label_from_text, relay_page_from_image, relay_symbol_from_text,
     relay_text_from_image,
 };
+use std::alloc::Global;
 
 // All codewords of the symbol of side 10 that carries the digits 123456, and its image.
 const WORDS: [u8; 8] = [142, 164, 186, 114, 25, 5, 88, 102];
@@ -17,6 +18,12 @@ const PLAIN: &[u8] = b"P1\n# a label\n12 12\n\
 // The bytes of an image of side 132.
 const LARGE: usize = 11 + 134 * 17;
 
+// Whether the text of an image is this, which a room takes.
+fn is_read(alloc: Global, image: &[u8], room: &mut [u8], wanted: &[u8]) -> bool {
+    let count = relay_text_from_image(alloc, image, room);
+    count == wanted.len() as isize && room.get(..wanted.len()) == Some(wanted)
+}
+
 #[test]
 fn draws_and_reads_the_worked_example(rt: HostRuntime) {
     let mut image = [0; 33];
@@ -26,37 +33,25 @@ fn draws_and_reads_the_worked_example(rt: HostRuntime) {
     assert!(rt; relay_image_from_words(rt.alloc(), 10, &WORDS, &mut image) == 33);
     assert!(rt; image.as_slice() == IMAGE);
     for shown in [IMAGE, PLAIN] {
-        let mut text = [0; 6];
-        assert!(rt; relay_text_from_image(rt.alloc(), shown, &mut text) == 6);
-        assert!(rt; &text == b"123456");
+        assert!(rt; is_read(rt.alloc(), shown, &mut [0; 6], b"123456"));
     }
 }
 
 // `ABC` in C40, `abc` in Text and two bytes in Base 256, each with a pad, by the standard's tables; then error
-// correction codewords.
+// correction codewords, by the generator polynomial for 7.
+#[rattlefmt::skip]
+const OTHERS: [([u8; 12], &[u8]); 3] = [
+    ([230, 89, 233, 254, 129, 133, 84, 179, 4, 52, 63, 208], b"ABC"),
+    ([239, 89, 233, 254, 129, 90, 141, 133, 26, 64, 36, 227], b"abc"),
+    ([231, 46, 192, 87, 129, 217, 80, 218, 224, 54, 149, 175], b"\xff\x00"),
+];
+
 #[test]
 fn reads_the_other_encodations(rt: HostRuntime) {
-    let symbols: [([u8; 12], &[u8]); 3] = [
-        (
-            [230, 89, 233, 254, 129, 133, 84, 179, 4, 52, 63, 208],
-            b"ABC",
-        ),
-        (
-            [239, 89, 233, 254, 129, 90, 141, 133, 26, 64, 36, 227],
-            b"abc",
-        ),
-        (
-            [231, 46, 192, 87, 129, 217, 80, 218, 224, 54, 149, 175],
-            b"\xff\x00",
-        ),
-    ];
-    for (words, wanted) in symbols {
+    for (words, wanted) in OTHERS {
         let mut image = [0; 37];
         assert!(rt; relay_image_from_words(rt.alloc(), 12, &words, &mut image) == 37);
-        let mut text = [0; 5];
-        let count = relay_text_from_image(rt.alloc(), &image, &mut text);
-        assert!(rt; count == wanted.len() as isize);
-        assert!(rt; &text[..wanted.len()] == wanted);
+        assert!(rt; is_read(rt.alloc(), &image, &mut [0; 5], wanted));
     }
 }
 
@@ -70,8 +65,9 @@ fn draws_and_opens_a_label(rt: HostRuntime) {
         image[9 + 2 * 3] ^= 0x18;
         image[9 + 2 * 14] ^= 0x40;
         let mut bytes = [0; 4];
-        assert!(rt; relay_page_from_image(rt.alloc(), &image, &mut bytes) == 4);
-        assert!(rt; &bytes == b"seal");
+        assert!(rt;
+            relay_page_from_image(rt.alloc(), &image, &mut bytes) == 4 && &bytes == b"seal"
+        );
     }
 }
 
@@ -81,9 +77,7 @@ fn draws_and_reads_each_side(rt: HostRuntime) {
     for side in 0..=144 {
         let mut image = [0; LARGE];
         if relay_symbol_from_text(rt.alloc(), side, b"12", &mut image) > 0 {
-            let mut text = [0; 2];
-            assert!(rt; relay_text_from_image(rt.alloc(), &image, &mut text) == 2);
-            assert!(rt; &text == b"12");
+            assert!(rt; is_read(rt.alloc(), &image, &mut [0; 2], b"12"));
             sides = sides.wrapping_add(1);
         }
     }
@@ -100,11 +94,18 @@ fn reads_a_large_symbol_damaged(rt: HostRuntime) {
         for at in 2..15usize {
             image[11 + 17 * 40 + at] ^= turned;
         }
-        let mut text = [0; 2608];
-        assert!(rt; relay_text_from_image(rt.alloc(), &image, &mut text) == 2608);
-        assert!(rt; text == given);
+        assert!(rt; is_read(rt.alloc(), &image, &mut [0; 2608], &given));
     }
 }
+
+// Labels that are refused: the side, the ID, the page m of n, its text, and the answer.
+#[rattlefmt::skip]
+const NO_LABELS: [(u16, u16, u8, u8, &[u8], isize); 10] = [
+    (0, 0, 0, 0, b"", -1), (11, 0, 0, 0, b"", -1), (144, 0, 0, 0, b"", -1),
+    (10, 64_516, 1, 2, b"", -3), (10, 0, 0, 2, b"", -3), (10, 0, 3, 2, b"", -3), (10, 0, 1, 1, b"", -3),
+    (10, 0, 1, 17, b"", -3),
+    (10, 0, 1, 2, b"", -4), (12, 0, 1, 2, b"123", -4),
+];
 
 #[test]
 fn refuses_to_draw_and_writes_nothing(rt: HostRuntime) {
@@ -112,26 +113,36 @@ fn refuses_to_draw_and_writes_nothing(rt: HostRuntime) {
     for side in [0, 11, 144] {
         assert!(rt; relay_symbol_from_text(rt.alloc(), side, b"1234567", &mut image) == -1);
         assert!(rt; relay_image_from_words(rt.alloc(), side, &WORDS, &mut image) == -1);
-        assert!(rt; relay_label_from_text(rt.alloc(), side, 0, 0, 0, b"", &mut image) == -1);
     }
     assert!(rt; relay_image_from_words(rt.alloc(), 10, &WORDS[..7], &mut image) == -2);
-    for (id, m, n) in [(64_516, 1, 2), (0, 0, 2), (0, 3, 2), (0, 1, 1), (0, 1, 17)] {
-        assert!(rt; relay_label_from_text(rt.alloc(), 10, id, m, n, b"", &mut image) == -3);
-    }
     assert!(rt; relay_symbol_from_text(rt.alloc(), 10, b"1234567", &mut image) == -4);
-    assert!(rt; relay_label_from_text(rt.alloc(), 10, 0, 1, 2, b"", &mut image) == -4);
-    assert!(rt; relay_label_from_text(rt.alloc(), 12, 0, 1, 2, b"123", &mut image) == -4);
+    assert!(rt; relay_symbol_from_text(rt.alloc(), 10, b"123456", &mut image[..32]) == -9);
+    for (side, id, m, n, text, answer) in NO_LABELS {
+        let count = relay_label_from_text(rt.alloc(), side, id, m, n, text, &mut image);
+        assert!(rt; count == answer, "{side} {id} {m} {n}");
+    }
     assert!(rt; image == [7; 40]);
-    let mut small = [7; 32];
-    assert!(rt; relay_symbol_from_text(rt.alloc(), 10, b"123456", &mut small) == -9);
-    assert!(rt; small == [7; 32]);
 }
 
-// What no image of a symbol is, too many wrong modules, codewords that are cut off, a symbol that is no label, a head
-// that is wrong, and no room for the text.
-#[test]
-fn refuses_to_read_and_writes_nothing(rt: HostRuntime) {
+// Whether a text and a page are refused by this answer, and nothing is written.
+fn are_refused(alloc: Global, image: &[u8], answer: isize) -> bool {
     let mut text = [7; 5];
+    relay_text_from_image(alloc, image, &mut text) == answer
+        && relay_page_from_image(alloc, image, &mut text) == answer
+        && text == [7; 5]
+}
+
+// The example with its first row turned, and with the eight rows after that.
+const WORN: [&[u8]; 2] = [
+    b"P4\n12 12\n\
+\x00\x00\xaa\xbf\x65\xa0\x60\x80\x63\xa0\x61\x00\x41\xe0\x76\x00\x7b\x20\x4e\x80\x7f\xe0\x00\x00",
+    b"P4\n12 12\n\
+\x00\x00\x55\x40\x9a\x5f\x9f\x7f\x9c\x5f\x9e\xff\xbe\x1f\x89\xff\x84\xdf\xb1\x7f\x7f\xe0\x00\x00",
+];
+
+// What no image of a symbol is, and too many wrong modules.
+#[test]
+fn refuses_to_read_what_is_no_symbol_or_worn(rt: HostRuntime) {
     for none in [
         b"".as_slice(),
         b"P4",
@@ -139,18 +150,18 @@ fn refuses_to_read_and_writes_nothing(rt: HostRuntime) {
         b"P4\n1 1\n\0",
         &IMAGE[..32],
     ] {
-        assert!(rt; relay_text_from_image(rt.alloc(), none, &mut text) == -5);
-        assert!(rt; relay_page_from_image(rt.alloc(), none, &mut text) == -5);
+        assert!(rt; are_refused(rt.alloc(), none, -5));
     }
-    for (first, last) in [(11, 13), (13, 29)] {
-        let mut worn = [0; 33];
-        worn.copy_from_slice(IMAGE);
-        for at in first..last {
-            worn[at] ^= 0xff;
-        }
-        assert!(rt; relay_text_from_image(rt.alloc(), &worn, &mut text) == -6);
-        assert!(rt; relay_page_from_image(rt.alloc(), &worn, &mut text) == -6);
+    for worn in WORN {
+        assert!(rt; are_refused(rt.alloc(), worn, -6));
     }
+}
+
+// Codewords that are cut off, before error correction codewords by the generator polynomial for 10; a symbol that is no
+// label, and no room for the text.
+#[test]
+fn refuses_to_read_and_writes_nothing(rt: HostRuntime) {
+    let mut text = [7; 5];
     assert!(rt; relay_page_from_image(rt.alloc(), IMAGE, &mut text) == -7);
     assert!(rt; relay_text_from_image(rt.alloc(), IMAGE, &mut text) == -9);
     let mut cut = [0; 41];
@@ -158,8 +169,7 @@ fn refuses_to_read_and_writes_nothing(rt: HostRuntime) {
         233, 15, 1, 1, 66, 67, 68, 235, 62, 228, 155, 25, 96, 175, 13, 241, 50, 5,
     ];
     assert!(rt; relay_image_from_words(rt.alloc(), 14, &words, &mut cut) == 41);
-    assert!(rt; relay_text_from_image(rt.alloc(), &cut, &mut text) == -8);
-    assert!(rt; relay_page_from_image(rt.alloc(), &cut, &mut text) == -8);
+    assert!(rt; are_refused(rt.alloc(), &cut, -8));
     assert!(rt; relay_label_from_text(rt.alloc(), 14, 0, 1, 2, b"12", &mut cut) == 41);
     assert!(rt; relay_page_from_image(rt.alloc(), &cut, &mut text[..1]) == -9);
     assert!(rt; text == [7; 5]);

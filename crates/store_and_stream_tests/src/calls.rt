@@ -8,7 +8,7 @@ use test_helpers::Refusing;
 
 // A call: on the store in the file `pages/0001`, or on that of the key 1 of the set in the folder `pages`. Bytes are
 // loaded under a limit, and `three` is what replaces them.
-#[derive(Clone, Copy)]
+#[derive(Drop)]
 pub enum Call {
     Load(usize),
     Replace,
@@ -23,7 +23,7 @@ pub enum Call {
 
 impl Call {
     // Whether it saves nothing.
-    pub fn is_load(self) -> bool {
+    pub fn is_load(&self) -> bool {
         !matches!(self, Call::Replace | Call::ReplaceKey(_) | Call::RemoveKey)
     }
 }
@@ -75,18 +75,18 @@ fn named<A: Allocator>(answer: Result<Given<A>, StoreFault>) -> &'static str {
 }
 
 // The answer of any store, of any set, and over any disk: what is over those of a system is proved in more time.
-fn of_any_store<S: Store>(mut store: S, call: Call) -> Result<Given<S::Memory>, StoreFault> {
+fn of_any_store<S: Store>(mut store: S, call: &Call) -> Result<Given<S::Memory>, StoreFault> {
     match call {
-        Call::Load(limit) => return Ok(Given::Bytes(store.load(limit)?)),
+        Call::Load(limit) => return Ok(Given::Bytes(store.load(*limit)?)),
         _ => store.replace(b"three")?,
     }
     Ok(Given::Done)
 }
 
-fn of_any_set<S: StoreSet>(mut set: S, call: Call) -> Result<Given<S::Memory>, StoreFault> {
+fn of_any_set<S: StoreSet>(mut set: S, call: &Call) -> Result<Given<S::Memory>, StoreFault> {
     match call {
-        Call::LoadKey(limit) => return Ok(Given::Bytes(set.load(1, limit)?)),
-        Call::Keys(limit) => return Ok(Given::Keys(set.keys(limit)?)),
+        Call::LoadKey(limit) => return Ok(Given::Bytes(set.load(1, *limit)?)),
+        Call::Keys(limit) => return Ok(Given::Keys(set.keys(*limit)?)),
         Call::RemoveKey => set.remove(1)?,
         Call::Settle => set.settle()?,
         Call::ReplaceKey(true) => {
@@ -103,7 +103,7 @@ fn of_any_disk<D: Folders>(
     alloc: Global,
     disk: D,
     folder: &str,
-    call: Call,
+    call: &Call,
 ) -> Result<Given<D::Memory>, StoreFault> {
     match call {
         Call::Load(_) | Call::Replace => {
@@ -122,12 +122,12 @@ fn of_files<A: Allocator + Copy>(
     files: &(&Scripted, Global),
     memory: A,
     folder: &str,
-    call: Call,
+    call: &Call,
 ) -> Result<Given<A>, StoreFault> {
     of_any_disk(files.1, RealDisk::new(memory, files), folder, call)
 }
 
 // The text of the answer.
-pub fn answer(files: &Scripted, memory: &Memory, folder: &str, call: Call) -> &'static str {
+pub fn answer(files: &Scripted, memory: &Memory, folder: &str, call: &Call) -> &'static str {
     named(of_files(&(files, files.alloc()), memory, folder, call))
 }

@@ -4,34 +4,28 @@
 use dm_disk::{Disk, FileStore};
 use dm_store::{Kept, Store, StoreFault};
 use std::alloc::{AllocError, Global};
-use std::test::Fail;
 use test_helpers::{KeepingNames, MemDisk, Stopping};
 
-// Which contents a stop may leave in the file; anything is the old one, the new one, a part of it, or nothing.
-#[derive(Clone, Copy, PartialEq, Eq)]
-enum Leaves {
-    Old,
-    New,
-    Either,
-    Anything,
-}
+// Which contents a stop may leave in the file: the old one, the new one, a part of that, no bytes, and no file.
+type Leaves = [bool; 5];
 
-// What a stop may leave now, if it is one of these.
-fn what_is_left(disk: &MemDisk) -> Option<Leaves> {
-    let old = disk.may_leave("ledger", Some(b"old"));
-    let new = disk.may_leave("ledger", Some(b"new"));
-    let part = disk.may_leave("ledger", Some(b"ne"));
-    let none = disk.may_leave("ledger", None);
-    if disk.may_leave("ledger", Some(b"")) != part || none != part {
-        return None;
-    }
-    match (old, new, part) {
-        (true, false, false) => Some(Leaves::Old),
-        (false, true, false) => Some(Leaves::New),
-        (true, true, false) => Some(Leaves::Either),
-        (true, true, true) => Some(Leaves::Anything),
-        _ => None,
-    }
+const OLD: Leaves = [true, false, false, false, false];
+
+const NEW: Leaves = [false, true, false, false, false];
+
+const EITHER: Leaves = [true, true, false, false, false];
+
+const ANYTHING: Leaves = [true; 5];
+
+// What a stop may leave now.
+fn what_is_left(disk: &MemDisk) -> Leaves {
+    [
+        disk.may_leave("ledger", Some(b"old")),
+        disk.may_leave("ledger", Some(b"new")),
+        disk.may_leave("ledger", Some(b"ne")),
+        disk.may_leave("ledger", Some(b"")),
+        disk.may_leave("ledger", None),
+    ]
 }
 
 // A store in the file of a disk.
@@ -62,43 +56,41 @@ fn loaded(alloc: Global, disk: MemDisk) -> Result<(bool, MemDisk), AllocError> {
 
 // A save of four calls: how many of them pass; whether the call after these is still made; and what may be left.
 const STOPS: &[(u32, Kept, Leaves)] = &[
-    (0, Kept::Old, Leaves::Old),
-    (0, Kept::New, Leaves::Old),
-    (1, Kept::Old, Leaves::Old),
-    (1, Kept::New, Leaves::Old),
-    (2, Kept::Old, Leaves::Old),
-    (2, Kept::New, Leaves::Either),
-    (3, Kept::Old, Leaves::Either),
-    (3, Kept::New, Leaves::New),
-    (4, Kept::Old, Leaves::New),
+    (0, Kept::Old, OLD),
+    (0, Kept::New, OLD),
+    (1, Kept::Old, OLD),
+    (1, Kept::New, OLD),
+    (2, Kept::Old, OLD),
+    (2, Kept::New, EITHER),
+    (3, Kept::Old, EITHER),
+    (3, Kept::New, NEW),
+    (4, Kept::Old, NEW),
 ];
 
 // A save whose machine stops at each of its calls. A load then gives what no stop takes back.
 #[test]
-fn a_stop_leaves_the_old_or_the_new(rt: HostRuntime) -> Result<(), Fail> {
+fn a_stop_leaves_the_old_or_the_new(rt: HostRuntime) {
     for (passes, kept, wanted) in STOPS.iter() {
-        let (is_done, disk) = saved(rt.alloc(), *passes, *kept)?;
-        assert!(rt; is_done == (*passes == 4) && what_is_left(&disk) == Some(*wanted));
-        let (is_new, disk) = loaded(rt.alloc(), disk)?;
-        let left = if is_new { Leaves::New } else { Leaves::Old };
-        assert!(rt; what_is_left(&disk) == Some(left));
-        assert!(rt; is_new || *wanted != Leaves::New);
+        let (is_done, disk) = saved(rt.alloc(), *passes, *kept).expect(&rt, "it is done");
+        assert!(rt; is_done == (*passes == 4) && what_is_left(&disk) == *wanted);
+        let (is_new, disk) = loaded(rt.alloc(), disk).expect(&rt, "it is done");
+        let left = if is_new { NEW } else { OLD };
+        assert!(rt; what_is_left(&disk) == left && (is_new || *wanted != NEW));
     }
-    Ok(())
 }
 
 // Over a disk that keeps names the first save is done, and none after it.
 #[test]
-fn a_kept_name_is_given_once(rt: HostRuntime) -> Result<(), Fail> {
-    let mut store = store_over(rt.alloc(), KeepingNames::new(MemDisk::new(rt.alloc())))?;
+fn a_kept_name_is_given_once(rt: HostRuntime) {
+    let disk = KeepingNames::new(MemDisk::new(rt.alloc()));
+    let mut store = store_over(rt.alloc(), disk).expect(&rt, "it is done");
     assert!(rt; store.replace(b"old") == Ok(()));
     assert!(rt; store.replace(b"new") == Err(StoreFault::Device));
-    assert!(rt; store.load(9)? == Some(Vec::from_slice(rt.alloc(), b"old")?));
-    Ok(())
+    let found = store.load(9).expect(&rt, "it is done");
+    assert!(rt; found.as_deref() == Some(b"old".as_slice()));
 }
 
 // A call of a save.
-#[derive(Clone, Copy)]
 enum Step {
     Write(&'static str),
     Sync(&'static str),
@@ -108,9 +100,9 @@ enum Step {
 
 fn save_by<D: Disk>(disk: &mut D, steps: &[Step]) -> Result<(), StoreFault> {
     for step in steps {
-        match *step {
-            Step::Write(name) => disk.write(name, b"new")?,
-            Step::Sync(name) => disk.sync(name)?,
+        match step {
+            Step::Write(name) => disk.write(*name, b"new")?,
+            Step::Sync(name) => disk.sync(*name)?,
             Step::Rename => disk.rename("ledger.new", "ledger")?,
             Step::SyncEntry => disk.sync_entry("ledger")?,
         }
@@ -123,18 +115,17 @@ fn save_by<D: Disk>(disk: &mut D, steps: &[Step]) -> Result<(), StoreFault> {
 #[rattlefmt::skip]
 const WRONG: &[(&[Step], u32, bool, Leaves)] = &[
     // In place; synced after the rename; not synced; with no sync of the folder.
-    (&[Step::Write("ledger"), Step::Sync("ledger"), Step::SyncEntry], 1, false, Leaves::Anything),
-    (&[Step::Write("ledger.new"), Step::Rename, Step::Sync("ledger"), Step::SyncEntry], 2, false, Leaves::Anything),
-    (&[Step::Write("ledger.new"), Step::Rename, Step::SyncEntry], 9, true, Leaves::Anything),
-    (&[Step::Write("ledger.new"), Step::Sync("ledger.new"), Step::Rename], 9, true, Leaves::Either),
+    (&[Step::Write("ledger"), Step::Sync("ledger"), Step::SyncEntry], 1, false, ANYTHING),
+    (&[Step::Write("ledger.new"), Step::Rename, Step::Sync("ledger"), Step::SyncEntry], 2, false, ANYTHING),
+    (&[Step::Write("ledger.new"), Step::Rename, Step::SyncEntry], 9, true, ANYTHING),
+    (&[Step::Write("ledger.new"), Step::Sync("ledger.new"), Step::Rename], 9, true, EITHER),
 ];
 
 #[test]
-fn a_stop_spoils_a_wrong_save(rt: HostRuntime) -> Result<(), Fail> {
+fn a_stop_spoils_a_wrong_save(rt: HostRuntime) {
     for (steps, passes, is_done, wanted) in WRONG.iter() {
-        let mut disk = stopping(rt.alloc(), *passes, Kept::Old)?;
+        let mut disk = stopping(rt.alloc(), *passes, Kept::Old).expect(&rt, "it is done");
         assert!(rt; save_by(&mut disk, steps).is_ok() == *is_done);
-        assert!(rt; what_is_left(&disk.into_inner()) == Some(*wanted));
+        assert!(rt; what_is_left(&disk.into_inner()) == *wanted);
     }
-    Ok(())
 }

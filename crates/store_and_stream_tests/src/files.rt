@@ -10,7 +10,6 @@ use std::fs::Permissions;
 use std::io::ErrorKind;
 use std::os::unix::fs::PermissionsExt;
 use std::process::Abort;
-use std::test::Fail;
 use std::{env, fs, io, process};
 use test_helpers::Refusing;
 
@@ -64,7 +63,10 @@ const CASES: &[Case] = &[
 
 // The calls of the case at a place.
 pub fn steps_of(place: usize) -> &'static str {
-    CASES.get(place).map_or("", |case| case.5)
+    match CASES.get(place) {
+        Some(case) => case.5,
+        None => "",
+    }
 }
 
 // Any calls may come.
@@ -102,59 +104,78 @@ impl Place<'_> {
         fs::write(self.rt, self.file, content)
     }
 
-    // What is answered to a call, and what the file holds then.
-    fn tried(&self, call: Call, memory: &Memory) -> (&'static str, &'static str) {
+    // What is answered to a call under a plan, and what the file holds then.
+    fn tried(&self, call: &Call, memory: &Memory, plan: Plan) -> (Text, Text) {
+        self.files.begin(plan);
         let answer = answer(self.files, memory, self.folder, call);
         (answer, held(self.rt, self.file))
     }
 
-    // The call of a case with each call on the file system failing, which leaves no draft, and with none; and where the
-    // system syncs no folders, which is the last that a call does.
+    // The call of a case with each call on the file system failing, which leaves no draft, and with none.
     fn fail_each(&self, rt: &impl Abort, number: usize, case: &Case) -> io::Result<()> {
-        let (call, before, after, done, leaves, steps) = *case;
+        let (call, before, after, done, leaves, steps) = case;
         let memory = Refusing::new(self.files.alloc(), u64::MAX);
-        let count = steps.split(',').count();
+        let count = count_of(*steps);
         for passes in 0..=count {
-            self.make(before)?;
-            self.files
-                .begin((number, passes, ErrorKind::PermissionDenied));
-            if passes < count && !steps.is_empty() {
-                let content = if passes <= leaves { before } else { after };
-                let tried = self.tried(call, &memory);
-                assert!(rt; tried == ("Device", content), "{passes}");
-                assert!(rt; held(self.rt, self.draft) == "nothing");
-                self.files.begin(ANY_CALLS);
+            self.make(*before)?;
+            let mut plan = (number, passes, ErrorKind::PermissionDenied);
+            if passes < count {
+                let content = if passes <= *leaves { *before } else { *after };
+                let is_failed = self.tried(call, &memory, plan) == ("Device", content);
+                assert!(rt;
+                    is_failed && held(self.rt, self.draft) == "nothing",
+                    "{passes}"
+                );
+                plan = ANY_CALLS;
             }
-            assert!(rt; self.tried(call, &memory) == (done, after), "{passes}");
+            assert!(rt;
+                self.tried(call, &memory, plan) == (*done, *after),
+                "{passes}"
+            );
         }
+        Ok(())
+    }
+
+    // The call of a case where the system syncs no folders, which is the last that a call does.
+    fn fail_last(&self, rt: &impl Abort, number: usize, case: &Case) -> io::Result<()> {
+        let (call, before, after, done, _, steps) = case;
         if steps.ends_with("sync") {
-            self.make(before)?;
-            let last = count.saturating_sub(1);
-            self.files.begin((number, last, ErrorKind::InvalidInput));
-            let answer = if call.is_load() { done } else { "Device" };
-            assert!(rt; self.tried(call, &memory) == (answer, after));
+            self.make(*before)?;
+            let memory = Refusing::new(self.files.alloc(), u64::MAX);
+            let last = count_of(*steps).saturating_sub(1);
+            let answer = if call.is_load() { *done } else { "Device" };
+            let tried = self.tried(call, &memory, (number, last, ErrorKind::InvalidInput));
+            assert!(rt; tried == (answer, *after));
         }
         Ok(())
     }
 
     // The call of a case with each growth refused, until none is, if that comes.
     fn refuse_each(&self, rt: &impl Abort, case: &Case) -> io::Result<bool> {
-        let (call, before, after, done, _, _) = *case;
-        self.files.begin(ANY_CALLS);
+        let (call, before, after, done, _, _) = case;
         for passes in 0..MOST_GROWTHS {
-            self.make(before)?;
+            self.make(*before)?;
             let memory = Refusing::new(self.files.alloc(), passes);
-            let mut tried = self.tried(call, &memory);
+            let mut tried = self.tried(call, &memory, ANY_CALLS);
             if memory.is_spent() {
-                assert!(rt; tried == ("Memory", before), "{passes}");
-                tried = self.tried(call, &memory);
+                assert!(rt; tried == ("Memory", *before), "{passes}");
+                tried = self.tried(call, &memory, ANY_CALLS);
             }
-            assert!(rt; tried == (done, after), "{passes}");
+            assert!(rt; tried == (*done, *after), "{passes}");
             if !memory.is_spent() {
                 return Ok(true);
             }
         }
         Ok(false)
+    }
+}
+
+// How many calls these are; none where another case has them.
+fn count_of(steps: &str) -> usize {
+    if steps.is_empty() {
+        0
+    } else {
+        steps.split(',').count()
     }
 }
 
@@ -166,26 +187,33 @@ fn path_of(rt: &HostRuntime, name: &str) -> io::Result<String> {
     Ok(format!(in rt.alloc(); "{temporary}/store_tests-{process}-{name}")?)
 }
 
-#[test]
-fn each_call_fails_and_is_refused(rt: HostRuntime) -> Result<(), Fail> {
-    let above = path_of(&rt, "above")?;
-    fs::create_dir(&rt, above.as_str())?;
+// Tries all cases in a folder.
+fn try_cases(rt: &HostRuntime, abort: &impl Abort, above: &str) -> io::Result<()> {
     let folder = format!(in rt.alloc(); "{above}/pages")?;
-    let file = format!(in rt.alloc(); "{folder}/0001")?;
-    let draft = format!(in rt.alloc(); "{file}.new")?;
+    let file = format!(in rt.alloc(); "{above}/pages/0001")?;
+    let draft = format!(in rt.alloc(); "{above}/pages/0001.new")?;
+    let files = Scripted::new(rt.clone()?)?;
     let place = Place {
-        rt: &rt,
-        files: &Scripted::new(rt.clone()?)?,
+        rt,
+        files: &files,
         folder: folder.as_str(),
         file: file.as_str(),
         draft: draft.as_str(),
     };
     for (number, case) in CASES.iter().enumerate() {
-        place.fail_each(&rt, number, case)?;
-        assert!(rt; place.refuse_each(&rt, case)?);
+        place.fail_each(abort, number, case)?;
+        place.fail_last(abort, number, case)?;
+        assert!(abort; place.refuse_each(abort, case)?);
     }
-    fs::remove_dir_all(&rt, above.as_str())?;
     Ok(())
+}
+
+#[test]
+fn each_call_fails_and_is_refused(rt: HostRuntime) {
+    let above = path_of(&rt, "above").expect(&rt, "it is done");
+    fs::create_dir(&rt, above.as_str()).expect(&rt, "it is done");
+    try_cases(&rt, &rt, above.as_str()).expect(&rt, "it is done");
+    fs::remove_dir_all(&rt, above.as_str()).expect(&rt, "it is done");
 }
 
 // Replaces what a file holds; a new file may be one that has to be new.
@@ -199,30 +227,36 @@ fn replace(rt: &HostRuntime, file: &str, bytes: &[u8], is_new: bool) -> Result<(
     FileStore::new(disk, path).replace(bytes)
 }
 
-// A file that is at the path of a new one stays, and so does what has the name of its first draft.
-#[test]
-fn a_new_file_takes_the_place_of_nothing(rt: HostRuntime) -> Result<(), Fail> {
-    let path = path_of(&rt, "new")?;
-    let draft = format!(in rt.alloc(); "{path}.1.new")?;
-    fs::write(&rt, draft.as_str(), "o")?;
-    assert!(rt; replace(&rt, path.as_str(), b"one", true) == Ok(()));
-    assert!(rt; replace(&rt, path.as_str(), b"three", true) == Err(StoreFault::Device));
-    assert!(rt; held(&rt, path.as_str()) == "one" && held(&rt, draft.as_str()) == "o");
-    fs::remove_file(&rt, path.as_str())?;
-    fs::remove_file(&rt, draft.as_str())?;
-    Ok(())
+// Whether a file that is at the path of a new one stays, and so does what has the name of its first draft.
+fn both_stay(rt: &HostRuntime, path: &str, draft: &str) -> io::Result<bool> {
+    fs::write(rt, draft, "o")?;
+    let is_made = replace(rt, path, b"one", true) == Ok(());
+    let is_refused = replace(rt, path, b"three", true) == Err(StoreFault::Device);
+    Ok(is_made && is_refused && held(rt, path) == "one" && held(rt, draft) == "o")
 }
 
 #[test]
-fn a_save_keeps_the_mode(rt: HostRuntime) -> Result<(), Fail> {
-    let path = path_of(&rt, "mode")?;
-    fs::write(&rt, path.as_str(), "one")?;
-    fs::set_permissions(&rt, path.as_str(), Permissions::from_mode(0o606))?;
-    assert!(rt; replace(&rt, path.as_str(), b"three", false) == Ok(()));
-    assert!(rt; held(&rt, path.as_str()) == "three");
-    assert!(rt; fs::metadata(&rt, path.as_str())?.permissions().mode() & 0o777 == 0o606);
-    fs::remove_file(&rt, path.as_str())?;
-    Ok(())
+fn a_new_file_takes_the_place_of_nothing(rt: HostRuntime) {
+    let path = path_of(&rt, "new").expect(&rt, "it is done");
+    let draft = format!(in rt.alloc(); "{path}.1.new").expect(&rt, "it is done");
+    assert!(rt; both_stay(&rt, path.as_str(), draft.as_str()).expect(&rt, "it is done"));
+    fs::remove_file(&rt, path.as_str()).expect(&rt, "it is done");
+    fs::remove_file(&rt, draft.as_str()).expect(&rt, "it is done");
+}
+
+// Whether a file that is replaced keeps its mode.
+fn keeps_its_mode(rt: &HostRuntime, path: &str) -> io::Result<bool> {
+    fs::write(rt, path, "one")?;
+    fs::set_permissions(rt, path, Permissions::from_mode(0o606))?;
+    let is_replaced = replace(rt, path, b"three", false) == Ok(()) && held(rt, path) == "three";
+    Ok(is_replaced && fs::metadata(rt, path)?.permissions().mode() & 0o777 == 0o606)
+}
+
+#[test]
+fn a_save_keeps_the_mode(rt: HostRuntime) {
+    let path = path_of(&rt, "mode").expect(&rt, "it is done");
+    assert!(rt; keeps_its_mode(&rt, path.as_str()).expect(&rt, "it is done"));
+    fs::remove_file(&rt, path.as_str()).expect(&rt, "it is done");
 }
 
 const FOUR_KEYS: &[u8] = b"0003\0ffff\0other\00001\00002\0";
@@ -247,17 +281,20 @@ const LISTINGS: &[(&[u8], u32, usize, &str)] = &[
 
 // The names of the listing at a place, and how often they come.
 pub fn listing_of(place: usize) -> (&'static [u8], u32) {
-    LISTINGS.get(place).map_or((b"", 0), |row| (row.0, row.1))
+    match LISTINGS.get(place) {
+        Some((names, times, _, _)) => (*names, *times),
+        None => (b"", 0),
+    }
 }
 
 #[test]
-fn a_set_takes_the_names_in_any_order(rt: HostRuntime) -> Result<(), Fail> {
+fn a_set_takes_the_names_in_any_order(rt: HostRuntime) {
     let memory = Refusing::new(rt.alloc(), u64::MAX);
-    let files = Scripted::new(rt.clone()?)?;
+    let system = rt.clone().expect(&rt, "it is done");
+    let files = Scripted::new(system).expect(&rt, "it is done");
     for (place, (_, _, limit, wanted)) in LISTINGS.iter().enumerate() {
         files.list(place);
-        let listed = answer(&files, &memory, ".", Call::Keys(*limit));
+        let listed = answer(&files, &memory, ".", &Call::Keys(*limit));
         assert!(rt; listed == *wanted, "{place}");
     }
-    Ok(())
 }

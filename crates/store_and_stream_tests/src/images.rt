@@ -2,14 +2,13 @@
 
 ghost use Rattle.std.specs.Prelude.{◌≡◌, ◌*◌, IfOk, length};
 
-use dm_finder_frame::Grid;
+use dm_finder_frame::LentGrid;
 use dm_pbm_io::{
-    Image, PbmFault, ShapeFault, grid_of, image_in, image_of, read_image, write_image,
+    Image, PbmFault, ShapeFault, grid_in, grid_of, image_in, image_of, read_image, write_image,
 };
 use relay_streams::{Input, Output};
 use std::alloc::{AllocError, Global};
 use std::io::Read;
-use std::test::Fail;
 use test_helpers::Faulty;
 
 // The fault of an input, and whether its reader has failed.
@@ -67,31 +66,41 @@ const ROWS: [(u16, bool, &[u8]); 3] = [
     (71, true, ROW_71),
 ];
 
+// Whether an image is written to a writer that fails once, if it does not fail before the image's end; and else the
+// bytes before are, and none after them.
+fn is_written(alloc: Global, image: &Image, text: &[u8], passes: usize) -> bool
+    requires { length image.now.pixels.items ≡ image.now.width * image.now.height }
+{
+    let is_whole = passes == text.len();
+    let mut output = Output::new(Faulty::failing_once(Vec::new(alloc), passes));
+    let is_told = image.write(&mut output).is_ok() == is_whole && output.has_failed() != is_whole;
+    let is_kept = is_whole || image.write(&mut output).is_err();
+    is_told && is_kept && Some(output.writer().taken()) == text.get(..passes)
+}
+
+// Whether a reader that fails is told as the fault, bare and as an input.
+fn is_unread(alloc: Global, text: &[u8], passes: usize) -> bool {
+    let mut bare = Faulty::failing(text, passes);
+    let fault = read_image(alloc, &mut bare).err();
+    let ended = fault_of(alloc, Faulty::failing(text, passes));
+    fault == Some(PbmFault::Read) && ended == (Some(PbmFault::Read), true)
+}
+
 #[test]
-fn rows_are_written_and_fail_in_mid_stream(rt: HostRuntime) -> Result<(), Fail> {
-    let alloc = rt.alloc();
+fn rows_are_written_and_fail_in_mid_stream(rt: HostRuntime) {
     for (width, plain, text) in ROWS {
-        let image = black_row(alloc, width, plain)?;
+        let image = black_row(rt.alloc(), width, plain).expect(&rt, "it is done");
         for passes in 0..text.len() + 1 {
-            let is_whole = passes == text.len();
-            let mut output = Output::new(Faulty::failing_once(Vec::new(alloc), passes));
-            let is_written = image.write(&mut output).is_ok();
-            assert!(rt; is_written == is_whole, "writer, {passes}");
-            assert!(rt; output.has_failed() != is_whole, "writer, {passes}");
-            assert!(rt; is_whole || image.write(&mut output).is_err());
-            let written = Some(output.writer().taken());
-            assert!(rt; written == text.get(..passes), "writer, {passes}");
+            assert!(rt;
+                is_written(rt.alloc(), &image, text, passes),
+                "writer, {passes}"
+            );
         }
         // The last line end of a plain image is not read.
         for passes in 0..text.len() - 1 {
-            let mut bare = Faulty::failing(text, passes);
-            let fault = read_image(alloc, &mut bare).err();
-            assert!(rt; fault == Some(PbmFault::Read), "bare reader, {passes}");
-            let ended = fault_of(alloc, Faulty::failing(text, passes));
-            assert!(rt; ended == (Some(PbmFault::Read), true), "{passes}");
+            assert!(rt; is_unread(rt.alloc(), text, passes), "reader, {passes}");
         }
     }
-    Ok(())
 }
 
 // The symbol of side 10 that carries the digits 123456, as the standard draws it, with a margin of one module.
@@ -102,48 +111,62 @@ const DRAWN: &[u8] =
 const PACKED: &[u8] =
     b"P4\n12 12\n\x00\x00\x55\x40\x65\xa0\x60\x80\x63\xa0\x61\x00\x41\xe0\x76\x00\x7b\x20\x4e\x80\x7f\xe0\x00\x00";
 
-// A grid of side 10, drawn so without the crate.
-fn drawn(alloc: Global, grid: &Grid) -> Result<Vec<u8>, AllocError> {
-    let mut text = Vec::from_slice(alloc, b"P1\n12 12\n000000000000\n0")?;
-    for row in 0..grid.side() {
-        for module in grid.lend().row(row) {
-            text.push(if *module { b'1' } else { b'0' })?;
+// Whether a grid of side 10 is drawn so, inside the margin.
+fn is_drawn(grid: &LentGrid) -> bool {
+    let mut at = 22usize;
+    for row in 0..10u16 {
+        if grid.size().side() != 10 {
+            return false;
         }
-        text.extend_from_slice(b"0\n0")?;
+        for module in grid.row(row) {
+            at = at.saturating_add(1);
+            if DRAWN.get(at) != Some(if *module { &b'1' } else { &b'0' }) {
+                return false;
+            }
+        }
+        at = at.saturating_add(3);
     }
-    text.extend_from_slice(b"00000000000\n")?;
-    Ok(text)
+    true
+}
+
+// The text of the image of an image's grid, if both its grids are drawn so.
+fn written(alloc: Global, image: &Image) -> Option<Vec<u8>> {
+    let grid = grid_of(alloc, image).ok()?;
+    if !is_drawn(&grid.lend()) || !is_drawn(&grid_in(image)?) {
+        return None;
+    }
+    let image = image_of(alloc, &grid, image.plain).ok()?;
+    let mut bytes = Vec::new(alloc);
+    write_image(&mut bytes, &image).ok()?;
+    Some(bytes)
 }
 
 #[test]
-fn a_symbol_is_read_and_drawn(rt: HostRuntime) -> Result<(), Fail> {
-    let alloc = rt.alloc();
+fn a_symbol_is_read_and_drawn(rt: HostRuntime) {
     for (text, plain) in [(DRAWN, true), (PACKED, false)] {
         let mut reader = text;
-        let image = read_image(alloc, &mut reader)?.expect(&rt, "an image");
-        let grid = grid_of(alloc, &image)?;
-        assert!(rt; image.plain == plain && drawn(alloc, &grid)?.as_slice() == DRAWN);
-        let image = image_of(alloc, &grid, plain)?;
-        let mut bytes = Vec::new(alloc);
-        write_image(&mut bytes, &image)?;
-        assert!(rt; bytes.as_slice() == text);
+        let image = read_image(rt.alloc(), &mut reader).expect(&rt, "it is read");
+        let image = image.expect(&rt, "an image");
+        let written = written(rt.alloc(), &image).expect(&rt, "it is drawn");
+        assert!(rt; image.plain == plain && written.as_slice() == text);
     }
-    Ok(())
 }
 
 // No symbol has 11 modules along a side, nor is a row a square.
 #[test]
-fn images_of_no_symbol_are_refused(rt: HostRuntime) -> Result<(), Fail> {
+fn images_of_no_symbol_are_refused(rt: HostRuntime) {
     let alloc = rt.alloc();
     for (width, height, count) in [(13, 13, 169), (12, 11, 132), (12, 12, 143)] {
         let image = Image {
             width,
             height,
-            pixels: vec![in alloc; true; count]?,
+            pixels: vec![in alloc; true; count].expect(&rt, "it is done"),
             plain: false,
         };
         let fault = grid_of(alloc, &image).err();
-        assert!(rt; fault == Some(ShapeFault::Shape), "{width} {height}");
+        assert!(rt;
+            fault == Some(ShapeFault::Shape) && grid_in(&image).is_none(),
+            "{width} {height}"
+        );
     }
-    Ok(())
 }

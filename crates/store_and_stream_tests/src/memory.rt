@@ -25,6 +25,16 @@ fn fills_a_store(memory: &Memory) -> bool {
     is_given && store.content() == Some(b"three".as_slice())
 }
 
+// Whether a set has a content under each key.
+fn is_full(set: &MemSet<&Memory>) -> bool {
+    for key in 0..KEYS {
+        if set.content(key) != Some(b"one".as_slice()) {
+            return false;
+        }
+    }
+    true
+}
+
 // Whether a set takes a content under each key, and gives one of them, and all keys.
 fn fills_a_set(memory: &Memory) -> bool {
     let mut set = MemSet::new(memory);
@@ -35,7 +45,7 @@ fn fills_a_set(memory: &Memory) -> bool {
     }
     let is_given = set.load(1, 9).is_ok() || set.load(1, 9).is_ok();
     let are_listed = set.keys(99).is_ok() || set.keys(99).is_ok();
-    is_given && are_listed && (0..KEYS).all(|key| set.content(key) == Some(b"one".as_slice()))
+    is_given && are_listed && is_full(&set)
 }
 
 // Whether a map takes all keys, and gives them.
@@ -61,5 +71,5 @@ fn each_growth_is_refused(rt: HostRuntime) {
             return;
         }
     }
-    assert!(rt; false, "growths without end");
+    panic!(rt; "growths without end")
 }

@@ -25,6 +25,18 @@ struct Script {
     listing: Cell<usize>,
 }
 
+// Whether the step at a place is this call.
+fn is_step(steps: &str, place: usize, call: &str, path: &str) -> bool {
+    let Some(step) = steps.split(',').nth(place) else {
+        return false;
+    };
+    let step = step.trim();
+    match step.split_once(' ') {
+        Some((name, end)) => name == call && path.ends_with(end),
+        None => step == call,
+    }
+}
+
 impl Script {
     // Whether this call may come now. A draft may be removed after the call that failed.
     fn comes(&self, call: &str, path: &str) -> io::Result<()> {
@@ -32,15 +44,12 @@ impl Script {
         let steps = steps_of(case);
         let place = self.came.get();
         self.came.set(place.saturating_add(1));
-        let is_of_draft = call == "remove" && path.ends_with(".new");
-        let is_right = match steps.split(',').nth(place) {
-            Some(step) => {
-                let (name, end) = step.trim().split_once(' ').unwrap_or((step.trim(), ""));
-                name == call && path.ends_with(end)
-            }
-            None => false,
+        let may_come = if place > passes && call == "remove" && path.ends_with(".new") {
+            true
+        } else {
+            place != passes && is_step(steps, place, call, path)
         };
-        if steps.is_empty() || place > passes && is_of_draft || place != passes && is_right {
+        if steps.is_empty() || may_come {
             Ok(())
         } else {
             Err(io::Error::from(error))

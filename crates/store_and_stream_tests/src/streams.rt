@@ -1,7 +1,7 @@
 //! Inputs and outputs over readers and writers that fail in mid-stream, and over one that is interrupted.
 
 use relay_streams::{Input, InputFault, Output, ReadFault};
-use std::test::Fail;
+use std::alloc::Global;
 use test_helpers::Faulty;
 
 const TEXT: &[u8] = b"relay";
@@ -12,30 +12,43 @@ fn a_failed_read_is_remembered(rt: HostRuntime) {
         let mut input = Input::new(Faulty::failing(TEXT, passes));
         for (at, byte) in TEXT.iter().enumerate() {
             let failed = at >= passes;
-            let wanted = (!failed).then_some(Some(*byte)).ok_or(ReadFault::Read);
-            assert!(rt; input.next_byte() == wanted, "byte {at} of {passes}");
-            assert!(rt; input.has_failed() == failed, "byte {at} of {passes}");
+            let wanted = if failed {
+                Err(ReadFault::Read)
+            } else {
+                Ok(Some(*byte))
+            };
+            let is_read = input.next_byte() == wanted;
+            assert!(rt;
+                is_read && input.has_failed() == failed,
+                "byte {at} of {passes}"
+            );
         }
     }
 }
 
-// An interrupted read is made again; of a reader that fails, the first bytes are given where they come before.
+// Whether the first bytes are given of a reader that fails, where they come before it does.
+fn is_first(alloc: Global, passes: usize, limit: usize) -> bool {
+    let mut input = Input::new(Faulty::failing(TEXT, passes));
+    let is_right = match input.read_up_to(alloc, limit) {
+        Ok(first) => limit <= passes && Some(first.as_slice()) == TEXT.get(..limit),
+        Err(fault) => limit > passes && fault == InputFault::Read,
+    };
+    is_right && input.has_failed() == (limit > passes)
+}
+
+// An interrupted read is made again.
 #[test]
-fn the_first_bytes_are_read(rt: HostRuntime) -> Result<(), Fail> {
+fn the_first_bytes_are_read(rt: HostRuntime) {
     for passes in 0..TEXT.len() {
         let mut interrupted = Input::new(Faulty::interrupted(TEXT, passes));
-        let whole = interrupted.read_up_to(rt.alloc(), 100)?;
+        let whole = interrupted
+            .read_up_to(rt.alloc(), 100)
+            .expect(&rt, "it is done");
         assert!(rt; whole.as_slice() == TEXT && !interrupted.has_failed());
         for limit in 0..8 {
-            let mut input = Input::new(Faulty::failing(TEXT, passes));
-            let is_whole = match input.read_up_to(rt.alloc(), limit) {
-                Ok(first) => first.len() == limit && TEXT.starts_with(&first),
-                Err(fault) => fault == InputFault::Read && input.has_failed() && limit > passes,
-            };
-            assert!(rt; is_whole && input.has_failed() == (limit > passes));
+            assert!(rt; is_first(rt.alloc(), passes, limit), "{limit} of {passes}");
         }
     }
-    Ok(())
 }
 
 #[test]
@@ -49,16 +62,19 @@ fn a_buffer_is_filled(rt: HostRuntime) {
     assert!(rt; failing.fill(&mut buffer) == Err(ReadFault::Read) && failing.has_failed());
 }
 
-// The writer takes bytes again after it has failed: none comes.
+// Whether an output whose writer fails once remembers that. The writer takes bytes again: none comes.
+fn is_remembered(alloc: Global, passes: usize) -> bool {
+    let failed = passes < 13;
+    let mut output = Output::new(Faulty::failing_once(Vec::new(alloc), passes));
+    let is_told = output.put_refusal("Read").is_err() == failed && output.has_failed() == failed;
+    let is_kept = output.put(b"").is_err() == failed && (!failed || output.put(TEXT).is_err());
+    let written = Some(output.writer().taken());
+    is_told && is_kept && written == b"refused Read\n".get(..passes.min(13))
+}
+
 #[test]
 fn a_failed_write_is_remembered(rt: HostRuntime) {
     for passes in 0..14 {
-        let mut output = Output::new(Faulty::failing_once(Vec::new(rt.alloc()), passes));
-        let put = output.put_refusal("Read");
-        assert!(rt; put.is_err() == (passes < 13) && output.has_failed() == (passes < 13));
-        assert!(rt; output.has_failed() == output.put(b"").is_err());
-        assert!(rt; !output.has_failed() || output.put(TEXT).is_err());
-        let written = output.writer().taken();
-        assert!(rt; written.len() == passes.min(13) && b"refused Read\n".starts_with(written));
+        assert!(rt; is_remembered(rt.alloc(), passes), "{passes}");
     }
 }

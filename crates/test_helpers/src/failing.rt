@@ -19,25 +19,31 @@ pub type FaultyWriter = Faulty<Vec<u8>>;
 impl<S> Faulty<S> {
     /// A stream that fails each time after `passes` bytes.
     pub fn failing(stream: S, passes: usize) -> Faulty<S> {
-        Faulty::new(stream, passes, u32::MAX, ErrorKind::Other)
+        Faulty {
+            stream,
+            passes,
+            failures: u32::MAX,
+            error: ErrorKind::Other,
+        }
     }
 
     /// A stream that fails once, after `passes` bytes.
     pub fn failing_once(stream: S, passes: usize) -> Faulty<S> {
-        Faulty::new(stream, passes, 1, ErrorKind::Other)
+        Faulty {
+            stream,
+            passes,
+            failures: 1,
+            error: ErrorKind::Other,
+        }
     }
 
     /// A stream that is interrupted three times in a row, after `passes` bytes.
     pub fn interrupted(stream: S, passes: usize) -> Faulty<S> {
-        Faulty::new(stream, passes, 3, ErrorKind::Interrupted)
-    }
-
-    fn new(stream: S, passes: usize, failures: u32, error: ErrorKind) -> Faulty<S> {
         Faulty {
             stream,
             passes,
-            failures,
-            error,
+            failures: 3,
+            error: ErrorKind::Interrupted,
         }
     }
 

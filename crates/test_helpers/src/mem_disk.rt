@@ -116,7 +116,10 @@ pub(crate) fn note<A: Allocator>(
     ensures ok { OnOk result (calls.new.items ≡ call ∷ calls.old.items) }
     ensures err { OnErr result (calls.new.items ≡ calls.old.items) }
 {
-    calls.insert(0, call).map_err(|_| StoreFault::Memory)
+    match calls.insert(0, call) {
+        Ok(()) => Ok(()),
+        Err(_) => Err(StoreFault::Memory),
+    }
 }
 
 impl<A: Allocator + Copy> MemDisk<A> {

@@ -17,6 +17,21 @@ fn add_between(
     Ok(())
 }
 
+// Adds the copies that differ at the place between what is before it and what is after it.
+fn add_at(
+    copies: &mut Vec<Vec<u8>>,
+    alloc: Global,
+    before: &[u8],
+    after: &[u8],
+) -> Result<(), AllocError> {
+    copies.push(before.to_vec(alloc)?)?;
+    add_between(copies, alloc, before, after)?;
+    match after {
+        [_, rest @ ..] => add_between(copies, alloc, before, rest),
+        [] => Ok(()),
+    }
+}
+
 /// All copies that are one byte away: with each byte changed to each value (its own too), with each value put in at
 /// each place, and cut off at each place.
 ///
@@ -26,9 +41,7 @@ pub fn spoiled(alloc: Global, bytes: &[u8]) -> Result<Vec<Vec<u8>>, AllocError> 
     let mut copies = Vec::new(alloc);
     for at in 0..bytes.len() {
         let (before, after) = bytes.split_at(at);
-        copies.push(before.to_vec(alloc)?)?;
-        add_between(&mut copies, alloc, before, after)?;
-        add_between(&mut copies, alloc, before, &after[1..])?;
+        add_at(&mut copies, alloc, before, after)?;
     }
     add_between(&mut copies, alloc, bytes, &[])?;
     Ok(copies)

@@ -61,7 +61,10 @@ impl<D> Stopping<D> {
 // Counts a call.
 fn take(left: &mut Option<u32>, kept: Kept) -> Result<Turn, StoreFault> {
     let before = *left;
-    *left = before.and_then(|calls| calls.checked_sub(1));
+    *left = match before {
+        Some(calls) => calls.checked_sub(1),
+        None => None,
+    };
     match before {
         Some(0) if kept == Kept::New => Ok(Turn::Made),
         Some(0) | None => Err(StoreFault::Device),

@@ -13,7 +13,6 @@ use dm_size::Size;
 use dm_store::{MemSet, MemStore, NextSave, StoreSet};
 use std::alloc::{AllocError, Global};
 use std::process::Abort;
-use std::test::Fail;
 
 type MemDesk = Desk<MemSet>;
 
@@ -37,11 +36,16 @@ fn label(alloc: Global, (number, m, n, bytes): Scan) -> Option<Grid> {
 }
 
 // Whether the desk answers so to the label of a page.
-fn answers(alloc: Global, desk: &mut MemDesk, scan: Scan, answer: Result<Kind, ScanFault>) -> bool {
+fn answers<S: StoreSet>(
+    alloc: Global,
+    desk: &mut Desk<S>,
+    scan: Scan,
+    answer: Result<Kind, ScanFault>,
+) -> bool {
     let Some(grid) = label(alloc, scan) else {
         return false;
     };
-    match desk.accept(&grid) {
+    match desk.accept_lent(&grid.lend()) {
         Ok(Accepted { id, m, n, kind }) => {
             (id.number(), m, n) == (scan.0, scan.1, scan.2) && answer == Ok(kind)
         }
@@ -56,14 +60,19 @@ fn opened(rt: &impl Abort, alloc: Global, set: MemSet, capacity: u16) -> MemDesk
 }
 
 // Whether the document is given with these bytes.
-fn gives(desk: &MemDesk, id: FileId, bytes: &[u8]) -> bool {
-    desk.document(id)
-        .is_ok_and(|document| document.as_slice() == bytes)
+fn gives<S: StoreSet>(desk: &Desk<S>, id: FileId, bytes: &[u8]) -> bool {
+    match desk.document(id) {
+        Ok(document) => document.as_slice() == bytes,
+        Err(_) => false,
+    }
 }
 
 // Whether these bytes are the export.
-fn exports(desk: &MemDesk, id: FileId, bytes: &[u8]) -> bool {
-    desk.export(id).is_ok_and(|file| file.as_slice() == bytes)
+fn exports<S: StoreSet>(desk: &Desk<S>, id: FileId, bytes: &[u8]) -> bool {
+    match desk.export(id) {
+        Ok(file) => file.as_slice() == bytes,
+        Err(_) => false,
+    }
 }
 
 // The labels of two documents in any order, and some that disagree with these or find no room.
@@ -85,12 +94,15 @@ const SCANS: [(Scan, Result<Kind, ScanFault>); 14] = [
 ];
 
 // Whether a desk lists the documents 3 and 5, complete, and gives them.
-fn holds_both(desk: &MemDesk, third: FileId, fifth: FileId) -> bool {
+fn holds_both<S: StoreSet>(desk: &Desk<S>, third: FileId, fifth: FileId) -> bool {
     let Ok(held) = desk.held() else {
         return false;
     };
-    let told = |at: usize| held.get(at).map(|one| (one.id, one.n, one.mask));
-    (told(0), told(1), told(2)) == (Some((third, 2, 3)), Some((fifth, 3, 7)), None)
+    let [three, five] = held.as_slice() else {
+        return false;
+    };
+    (three.id, three.n, three.mask) == (third, 2, 3)
+        && (five.id, five.n, five.mask) == (fifth, 3, 7)
         && gives(desk, third, b"7890")
         && gives(desk, fifth, b"1256")
 }
@@ -106,7 +118,7 @@ fn documents_are_scanned(rt: HostRuntime) {
 }
 
 // Whether the second page of two is all that a desk holds of a document.
-fn holds_second(desk: &MemDesk, id: FileId) -> bool {
+fn holds_second<S: StoreSet>(desk: &Desk<S>, id: FileId) -> bool {
     let is_held = match desk.pages(id) {
         Some(pages) => (pages.n(), pages.missing(), pages.get(1), pages.get(2))
             == (2, 1, None, Some(b"34".as_slice())),
@@ -121,17 +133,24 @@ const FAILED_SAVES: [(NextSave, Kind); 2] = [
     (NextSave::FaultNew, Kind::Again),
 ];
 
+const SCAN: Scan = (0, 2, 2, b"34");
+
+// Whether the save of a desk fails, which then holds nothing and takes nothing.
+fn has_failed<S: StoreSet>(alloc: Global, desk: &mut Desk<S>, id: FileId) -> bool {
+    answers(alloc, desk, SCAN, Err(ScanFault::Save))
+        && desk.pages(id).is_none()
+        && answers(alloc, desk, SCAN, Err(ScanFault::Failed))
+}
+
 #[test]
 fn saves_fail(rt: HostRuntime) {
-    let (id, scan) = (id_of(&rt, 0), (0, 2, 2, b"34".as_slice()));
+    let id = id_of(&rt, 0);
     for (next, kind) in FAILED_SAVES {
         let mut desk = opened(&rt, rt.alloc(), MemSet::new(rt.alloc()), 4);
         desk.set_next(next);
-        assert!(rt; answers(rt.alloc(), &mut desk, scan, Err(ScanFault::Save)));
-        assert!(rt; desk.pages(id).is_none());
-        assert!(rt; answers(rt.alloc(), &mut desk, scan, Err(ScanFault::Failed)));
+        assert!(rt; has_failed(rt.alloc(), &mut desk, id));
         let mut desk = opened(&rt, rt.alloc(), desk.close(), 4);
-        assert!(rt; answers(rt.alloc(), &mut desk, scan, Ok(kind)) && holds_second(&desk, id));
+        assert!(rt; answers(rt.alloc(), &mut desk, SCAN, Ok(kind)) && holds_second(&desk, id));
     }
 }
 
@@ -151,12 +170,24 @@ const IMPORTS: [(&[u8], Result<(u16, Kind), ImportFault>); 8] = [
 ];
 
 // Whether an import is answered so.
-fn imports(desk: &mut MemDesk, bytes: &[u8], answer: Result<(u16, Kind), ImportFault>) -> bool {
+fn imports<S: StoreSet>(
+    desk: &mut Desk<S>,
+    bytes: &[u8],
+    answer: Result<(u16, Kind), ImportFault>,
+) -> bool {
     match desk.import(bytes) {
         Ok(Imported { id, n, added, kind }) => (id.number(), n) == (0, 2)
             && answer == Ok((added, kind)),
         Err(fault) => answer == Err(fault),
     }
+}
+
+// Whether a desk gives a whole document, and then forgets it.
+fn forgets<S: StoreSet>(desk: &mut Desk<S>, id: FileId) -> bool {
+    exports(desk, id, WHOLE)
+        && gives(desk, id, b"1234")
+        && desk.forget(id) == Ok(())
+        && desk.forget(id) == Err(ForgetFault::NotHeld)
 }
 
 #[test]
@@ -166,10 +197,8 @@ fn pages_come_and_go(rt: HostRuntime) {
     for (place, (bytes, answer)) in IMPORTS.iter().enumerate() {
         assert!(rt; imports(&mut desk, bytes, *answer), "{place}");
     }
-    assert!(rt; exports(&desk, id, WHOLE) && gives(&desk, id, b"1234"));
-    assert!(rt; desk.forget(id) == Ok(()) && desk.forget(id) == Err(ForgetFault::NotHeld));
-    assert!(rt; answers(rt.alloc(), &mut desk, (0, 2, 2, b"34"), Ok(Kind::New)));
-    assert!(rt; holds_second(&desk, id));
+    assert!(rt; forgets(&mut desk, id));
+    assert!(rt; answers(rt.alloc(), &mut desk, SCAN, Ok(Kind::New)) && holds_second(&desk, id));
     assert!(rt; desk.close().content(0) == Some(SECOND));
 }
 
@@ -257,27 +286,35 @@ fn is_moved(
     Ok([first, second] == answers && set.content(0) == Some(SECOND) && is_emptied)
 }
 
-#[test]
-fn a_joint_file_is_moved(rt: HostRuntime) -> Result<(), Fail> {
-    let mut set = MemSet::new(rt.alloc());
-    assert!(rt; is_moved(rt.alloc(), &mut set, [Ok(1), Ok(0)])?);
-    let mut set = MemSet::new(rt.alloc());
+// A set to which a joint file was moved, after its first save failed.
+fn moved_set(rt: &impl Abort, alloc: Global) -> Result<MemSet, AllocError> {
+    let mut set = MemSet::new(alloc);
     set.set_next(NextSave::FaultOld);
-    assert!(rt; is_moved(rt.alloc(), &mut set, [Err(MoveFault::Device), Ok(1)])?);
-    let mut desk = opened(&rt, rt.alloc(), set, 4);
-    assert!(rt; desk.forget(id_of(&rt, 0)) == Ok(()));
-    let mut set = desk.close();
-    assert!(rt; set.content(0) == None && set.keys(4)?.is_empty());
-    Ok(())
+    assert!(rt; is_moved(alloc, &mut set, [Err(MoveFault::Device), Ok(1)])?);
+    Ok(set)
 }
 
 #[test]
-fn a_joint_file_stays_beside_a_damaged_file(rt: HostRuntime) -> Result<(), Fail> {
+fn a_joint_file_is_moved(rt: HostRuntime) {
     let mut set = MemSet::new(rt.alloc());
-    set.replace(0, &SECOND[..9])?;
-    let mut old = joint_file(rt.alloc())?;
+    assert!(rt; is_moved(rt.alloc(), &mut set, [Ok(1), Ok(0)]).expect(&rt, "it is done"));
+    let mut desk = opened(
+        &rt,
+        rt.alloc(),
+        moved_set(&rt, rt.alloc()).expect(&rt, "it is done"),
+        4,
+    );
+    assert!(rt; desk.forget(id_of(&rt, 0)) == Ok(()));
+    let mut set = desk.close();
+    assert!(rt; set.content(0) == None && set.keys(4).expect(&rt, "it is done").is_empty());
+}
+
+#[test]
+fn a_joint_file_stays_beside_a_damaged_file(rt: HostRuntime) {
+    let mut set = MemSet::new(rt.alloc());
+    set.replace(0, &SECOND[..9]).expect(&rt, "it is done");
+    let mut old = joint_file(rt.alloc()).expect(&rt, "it is done");
     let moved = move_pages(rt.alloc(), &mut old, &mut set);
     assert!(rt; moved == Err(MoveFault::Damaged) && set.content(0) == Some(&SECOND[..9]));
-    assert!(rt; old.content() == joint_file(rt.alloc())?.content());
-    Ok(())
+    assert!(rt; old.content() == joint_file(rt.alloc()).expect(&rt, "it is done").content());
 }

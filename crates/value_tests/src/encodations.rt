@@ -5,6 +5,7 @@ use dm_size::Size;
 use std::alloc::Global;
 
 // An encodation, a text, the codewords before it, a size, and the data codewords of the symbol, or the first of them.
+// They are by the standard's tables, the pads by its 253-state algorithm, the bytes of Base 256 by that of 255 states.
 type Text = (Scheme, &'static [u8], &'static [u8], Size, &'static [u8]);
 
 #[rattlefmt::skip]
@@ -45,8 +46,13 @@ const READINGS: [Reading; 11] = [
 
 // Whether a row of `TEXTS` is written so.
 fn is_written(alloc: Global, (scheme, bytes, head, size, words): Text) -> bool {
-    head.len() <= size.data_words()
-        && encode(alloc, scheme, bytes, head, size).is_ok_and(|all| all.starts_with(words))
+    if head.len() > size.data_words() {
+        return false;
+    }
+    match encode(alloc, scheme, bytes, head, size) {
+        Ok(all) => all.starts_with(words),
+        Err(_) => false,
+    }
 }
 
 // Whether a row of `READINGS` is read so.

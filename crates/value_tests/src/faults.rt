@@ -6,7 +6,6 @@ use dm_encodation::{DecodeFault, EncodeFault, Scheme};
 use dm_finder_frame::{FrameFault, GridFault};
 use dm_size::Size;
 use dm_symbol::SymbolFault;
-use std::test::Fail;
 
 const OF_SYMBOLS: &str = "\
 no sound block is near enough to the block, block 3 has too many wrong codewords
@@ -21,7 +20,7 @@ block 7 has more wrong codewords than can be corrected";
 
 #[rattlefmt::skip]
 #[test]
-fn faults_of_symbols_say_what_is_wrong(rt: HostRuntime) -> Result<(), Fail> {
+fn faults_of_symbols_say_what_is_wrong(rt: HostRuntime) {
     let texts = format!(in rt.alloc();
         "{}, {}\n{}, {}\n{}\n{}\n{}, {}\n{}, {}\n{}, {}\n{}\n{}",
         Uncorrectable, BlockFault { block: 3 }, EncodeFault::TooLong, EncodeFault::Memory,
@@ -29,9 +28,8 @@ fn faults_of_symbols_say_what_is_wrong(rt: HostRuntime) -> Result<(), Fail> {
         DecodeFault::Cut { at: 1 }, DecodeFault::Memory, FrameFault::Border { wrong: 27 },
         FrameFault::Memory, GridFault::Side, GridFault::Memory, SymbolFault::Border { wrong: 27 },
         SymbolFault::Block { block: 7 },
-    )?;
+    ).expect(&rt, "it is done");
     assert!(rt; texts.as_str() == OF_SYMBOLS);
-    Ok(())
 }
 
 const OF_LABELS: &str = "\
@@ -44,15 +42,14 @@ the document does not fit sixteen labels of this size";
 
 #[rattlefmt::skip]
 #[test]
-fn faults_of_labels_say_what_is_wrong(rt: HostRuntime) -> Result<(), Fail> {
-    let too_long = cut(b"", Size::Side10, Scheme::Ascii).err().ok_or("a label of side 10")?;
+fn faults_of_labels_say_what_is_wrong(rt: HostRuntime) {
+    let too_long = cut(b"", Size::Side10, Scheme::Ascii).err().expect(&rt, "a label of side 10");
     let texts = format!(in rt.alloc();
         "{}\n{}\n{}, {}, {}\n{}, {}\n{}, {}\n{}",
         LabelFault::Border { wrong: 6 }, LabelFault::Block { block: 7 }, LabelFault::NotAppended,
         LabelFault::Sequence { word: 32 }, LabelFault::FileId,
         LabelFault::Content(DecodeFault::Cut { at: 3 }), LabelFault::Memory,
         SealFault::TooLong, SealFault::Memory, too_long,
-    )?;
+    ).expect(&rt, "it is done");
     assert!(rt; texts.as_str() == OF_LABELS);
-    Ok(())
 }

@@ -1,13 +1,14 @@
 //! Labels, the parts of documents, heads, and labels that are damaged.
 
 use crate::worked::flip_all;
-use dm_append_label::{FileId, LabelFault, Page, SealFault, cut, open_label, seal};
+use dm_append_label::{
+    FileId, LabelFault, MOST_PAGE_BYTES, Page, SealFault, cut, open_label, open_page, seal,
+};
 use dm_encodation::{DecodeFault, Scheme};
 use dm_finder_frame::Grid;
 use dm_size::Size;
 use dm_symbol::{correct_grid, draw_symbol, still_near};
 use std::alloc::{AllocError, Global};
-use std::test::Fail;
 
 // A label of the ID 0: the page m of n, its bytes, an encodation and a size.
 type Label = (u8, u8, &'static [u8], Scheme, Size);
@@ -55,13 +56,28 @@ fn opens(alloc: Global, grid: &Grid, (m, n, bytes, _, _): Label) -> bool {
         && page.bytes() == bytes
 }
 
+// Whether the page is found in a grid, in room that is lent.
+fn has_page(grid: &Grid, (m, n, bytes, _, _): Label) -> bool {
+    let mut room = [0u8; MOST_PAGE_BYTES];
+    match open_page(&grid.lend(), &mut room) {
+        Ok(page) => {
+            (page.m, page.n, page.id.words()) == (m, n, (1, 1))
+                && room.get(..page.count) == Some(bytes)
+        }
+        Err(_) => false,
+    }
+}
+
 // Whether a label has these data codewords first, and opens.
 fn is_sealed(alloc: Global, label: Label, words: &[u8]) -> bool {
     let Ok(grid) = sealed(alloc, label) else {
         return false;
     };
-    let begins = correct_grid(&grid.lend()).is_ok_and(|symbol| symbol.data().starts_with(words));
-    begins && opens(alloc, &grid, label)
+    let begins = match correct_grid(&grid.lend()) {
+        Ok(symbol) => symbol.data().starts_with(words),
+        Err(_) => false,
+    };
+    begins && opens(alloc, &grid, label) && has_page(&grid, label)
 }
 
 #[test]
@@ -100,13 +116,23 @@ fn documents_are_cut(rt: HostRuntime) {
     }
 }
 
+// Why a grid is no label, if both calls that open one say the same.
+fn refusal_of(alloc: Global, grid: &Grid) -> Option<LabelFault> {
+    let fault = open_page(&grid.lend(), &mut [0u8; MOST_PAGE_BYTES]).err()?;
+    if open_label(alloc, grid).err() == Some(fault) {
+        Some(fault)
+    } else {
+        None
+    }
+}
+
 // Why a symbol with these data codewords is no label, if it is none.
 fn fault_of(alloc: Global, size: Size, data: &[u8]) -> Result<Option<LabelFault>, AllocError> {
     if data.len() != size.data_words() {
         return Ok(None);
     }
     let grid = draw_symbol(alloc, size, data)?;
-    Ok(open_label(alloc, &grid).err())
+    Ok(refusal_of(alloc, &grid))
 }
 
 // Data codewords, a size, and why such a symbol is no label.
@@ -123,17 +149,15 @@ const NO_LABELS: [(&[u8], Size, LabelFault); 8] = [
 ];
 
 #[test]
-fn heads_are_told_apart(rt: HostRuntime) -> Result<(), Fail> {
+fn heads_are_told_apart(rt: HostRuntime) {
     for (place, (data, size, fault)) in NO_LABELS.iter().enumerate() {
         assert!(rt;
-            fault_of(rt.alloc(), *size, data)? == Some(*fault),
+            fault_of(rt.alloc(), *size, data).expect(&rt, "it is done") == Some(*fault),
             "{place}"
         );
     }
-    assert!(rt; FileId::of_words(255, 1) == None);
-    assert!(rt; FileId::of_words(254, 254).map(|id| id.number()) == Some(64_515));
-    assert!(rt; FileId::of_number(64_516) == None);
-    Ok(())
+    assert!(rt; FileId::of_words(254, 254).expect(&rt, "an ID").number() == 64_515);
+    assert!(rt; FileId::of_words(255, 1) == None && FileId::of_number(64_516) == None);
 }
 
 // How many codewords of a label were corrected, and how many modules on its frame are wrong.
@@ -149,24 +173,26 @@ const WORN: [(u16, u16); 8] = [(0, 0), (0, 1), (0, 2), (0, 3), (0, 4), (1, 9), (
 // Of side 12 an eighth of the 44 modules on the frame are 5, and a block with 7 error correction codewords has at most
 // 3 wrong codewords.
 #[test]
-fn labels_are_worn(rt: HostRuntime) -> Result<(), Fail> {
-    let mut label = sealed(rt.alloc(), ONE)?;
+fn labels_are_worn(rt: HostRuntime) {
+    let mut label = sealed(rt.alloc(), ONE).expect(&rt, "it is done");
     flip_all(&mut label, &WORN);
-    assert!(rt; wear(rt.alloc(), &label) == Ok((3, 5)));
+    assert!(rt; wear(rt.alloc(), &label) == Ok((3, 5)) && has_page(&label, ONE));
     flip_all(&mut label, &[(9, 8)]);
-    assert!(rt; wear(rt.alloc(), &label) == Err(LabelFault::Block { block: 0 }));
+    assert!(rt; refusal_of(rt.alloc(), &label) == Some(LabelFault::Block { block: 0 }));
     flip_all(&mut label, &[(0, 5)]);
-    assert!(rt; wear(rt.alloc(), &label) == Err(LabelFault::Border { wrong: 6 }));
-    Ok(())
+    assert!(rt; refusal_of(rt.alloc(), &label) == Some(LabelFault::Border { wrong: 6 }));
 }
 
 // One module of each of three codewords is flipped, and then one of a fourth.
 #[test]
 #[tactic(auto, unfolding(dm_size::specs::Sizes::row))]
-fn three_words_are_near_and_four_are_not(rt: HostRuntime) -> Result<(), Fail> {
-    let label = sealed(rt.alloc(), ONE)?;
+fn three_words_are_near_and_four_are_not(rt: HostRuntime) {
+    let label = sealed(rt.alloc(), ONE).expect(&rt, "it is done");
     assert!(rt; label.size() == Size::Side12);
-    assert!(rt; still_near(rt.alloc(), &label, &[(1, 9), (4, 6), (8, 3)])?);
-    assert!(rt; !still_near(rt.alloc(), &label, &[(1, 9), (4, 6), (8, 3), (9, 8)])?);
-    Ok(())
+    assert!(rt;
+        still_near(rt.alloc(), &label, &[(1, 9), (4, 6), (8, 3)]).expect(&rt, "it is done")
+    );
+    assert!(rt;
+        !still_near(rt.alloc(), &label, &[(1, 9), (4, 6), (8, 3), (9, 8)]).expect(&rt, "it is done")
+    );
 }

@@ -10,7 +10,6 @@ use dm_size::Size;
 use dm_store::{FuseStore, Kept, MemStore, NextSave, Store};
 use std::alloc::Global;
 use std::process::Abort;
-use std::test::Fail;
 
 type MemPrinter = Printer<MemStore>;
 
@@ -23,48 +22,72 @@ fn created(rt: &impl Abort, alloc: Global, number: u16, first: u16, last: u16) -
 
 // As `Printer::print`, of labels of side 12 in ASCII. These calls have no contract, so that a test which makes many of
 // them is proved in little time.
-fn print(printer: &mut MemPrinter, document: &[u8]) -> Result<Job, PrintFault> {
+fn print<S: Store>(printer: &mut Printer<S>, document: &[u8]) -> Result<Job, PrintFault> {
     printer.print(document, Size::Side12, Scheme::Ascii)
 }
 
 // The ticket of a range for a receiver, by its bytes.
-fn give(printer: &mut MemPrinter, to: u16, first: u16, last: u16) -> Result<[u8; 10], GiveFault> {
+fn give<S: Store>(
+    printer: &mut Printer<S>,
+    to: u16,
+    first: u16,
+    last: u16,
+) -> Result<[u8; 10], GiveFault> {
     Ok(printer.give(to, Range { first, last })?.bytes())
 }
 
 // Whether ten bytes are a ticket's that is taken, or refused so.
-fn is_taken(printer: &mut MemPrinter, bytes: &[u8; 10], answer: Result<(), TakeFault>) -> bool {
-    Ticket::of_bytes(bytes).is_some_and(|ticket| printer.take(&ticket) == answer)
+fn is_taken<S: Store>(
+    printer: &mut Printer<S>,
+    bytes: &[u8; 10],
+    answer: Result<(), TakeFault>,
+) -> bool {
+    match Ticket::of_bytes(bytes) {
+        Some(ticket) => printer.take(&ticket) == answer,
+        None => false,
+    }
 }
 
 // Whether the labels of a job are those of its document, in order.
-fn is_whole(alloc: Global, job: &mut Job, document: &[u8]) -> Result<bool, Fail> {
+fn is_whole(alloc: Global, job: &mut Job, document: &[u8]) -> bool {
     let (id, count) = (job.id(), job.count());
-    let mut read = Vec::new(alloc);
+    let mut rest = document;
     for m in 1..17u8 {
         let Some(grid) = job.next_label() else {
-            return Ok(m - 1 == count && read.as_slice() == document);
+            return m - 1 == count && rest.is_empty();
         };
-        let page = open_label(alloc, &grid)?.page;
+        let Ok(opened) = open_label(alloc, &grid) else {
+            return false;
+        };
+        let page = opened.page;
+        let Some(after) = rest.strip_prefix(page.bytes()) else {
+            return false;
+        };
         if (page.id(), page.m(), page.n()) != (id, m, count) {
-            return Ok(false);
+            return false;
         }
-        read.extend_from_slice(page.bytes())?;
+        rest = after;
     }
-    Ok(false)
+    false
+}
+
+// Whether a printer has one number more, and is used up then.
+fn is_used_up(mut printer: MemPrinter) -> Result<bool, PrintFault> {
+    let number = print(&mut printer, b"")?.id().number();
+    let fault = print(&mut printer, b"").err();
+    let saved = b"DMLG\x02\x00\x07\x00\x00\x00\x00\xff\xff".as_slice();
+    let is_saved = printer.close().content() == Some(saved);
+    Ok(number == 64_515 && fault == Some(PrintFault::Exhausted) && is_saved)
 }
 
 #[test]
-fn documents_are_printed(rt: HostRuntime) -> Result<(), Fail> {
+fn documents_are_printed(rt: HostRuntime) {
     let mut printer = created(&rt, rt.alloc(), 7, 64_514, 64_515);
-    let mut job = print(&mut printer, b"12345678")?;
+    let mut job = print(&mut printer, b"12345678").expect(&rt, "it is done");
     assert!(rt; (job.id().number(), job.count(), printer.left()) == (64_514, 4, 1));
-    assert!(rt; is_whole(rt.alloc(), &mut job, b"12345678")?);
-    assert!(rt; print(&mut printer, b"")?.id().number() == 64_515);
-    assert!(rt; print(&mut printer, b"").err() == Some(PrintFault::Exhausted));
-    let saved = b"DMLG\x02\x00\x07\x00\x00\x00\x00\xff\xff".as_slice();
-    assert!(rt; printer.close().content() == Some(saved));
-    Ok(())
+    assert!(rt;
+        is_whole(rt.alloc(), &mut job, b"12345678") && is_used_up(printer).expect(&rt, "it is done")
+    );
 }
 
 // A save that fails, how many numbers are free once the printer is opened again, and the ID of the next job.
@@ -73,19 +96,24 @@ const FAILED_SAVES: [(NextSave, u32, (u8, u8)); 2] = [
     (NextSave::FaultNew, 9, (1, 2)),
 ];
 
+// Whether a printer opens on a store with so many free numbers, and its next job has this ID.
+fn goes_on(alloc: Global, store: MemStore, left: u32, words: (u8, u8)) -> Result<bool, PrintFault> {
+    let Ok(mut printer) = Printer::open(alloc, store, 7) else {
+        return Ok(false);
+    };
+    Ok(printer.left() == left && print(&mut printer, b"")?.id().words() == words)
+}
+
 #[test]
-fn saves_fail(rt: HostRuntime) -> Result<(), Fail> {
+fn saves_fail(rt: HostRuntime) {
     for (next, left, words) in FAILED_SAVES {
         let mut printer = created(&rt, rt.alloc(), 7, 0, 9);
         printer.set_next(next);
-        assert!(rt; print(&mut printer, b"").err() == Some(PrintFault::Save));
-        assert!(rt; print(&mut printer, b"").err() == Some(PrintFault::Failed));
-        let again = Printer::open(rt.alloc(), printer.close(), 7).ok();
-        let mut again = again.expect(&rt, "it is opened");
-        assert!(rt; again.left() == left);
-        assert!(rt; print(&mut again, b"")?.id().words() == words);
+        let fault = print(&mut printer, b"").err();
+        let later = print(&mut printer, b"").err();
+        assert!(rt; (fault, later) == (Some(PrintFault::Save), Some(PrintFault::Failed)));
+        assert!(rt; goes_on(rt.alloc(), printer.close(), left, words).expect(&rt, "it is done"));
     }
-    Ok(())
 }
 
 // A printer is created on a store: the store then, and the fault, if there is one.
@@ -128,20 +156,26 @@ fn stores_stop_while_a_printer_is_created(rt: HostRuntime) {
     }
 }
 
-// Two tickets, of which the second is taken: then the first is old. Serials rise by one, and a number in the middle
-// leaves two ranges.
+// Two tickets of the printer 7 for the printer 8.
+const FIRST: [u8; 10] = [0, 7, 0, 0, 0, 8, 0, 5, 0, 9];
+
+const SECOND: [u8; 10] = [0, 7, 0, 1, 0, 8, 0, 2, 0, 3];
+
+// Serials rise by one, and a number in the middle leaves two ranges.
 #[test]
-fn tickets_are_given_and_taken(rt: HostRuntime) {
-    let second = [0, 7, 0, 1, 0, 8, 0, 2, 0, 3];
+fn tickets_are_given(rt: HostRuntime) {
     let mut giver = created(&rt, rt.alloc(), 7, 0, 9);
-    assert!(rt; give(&mut giver, 8, 5, 9) == Ok([0, 7, 0, 0, 0, 8, 0, 5, 0, 9]));
-    assert!(rt; give(&mut giver, 8, 2, 3) == Ok(second));
+    assert!(rt; give(&mut giver, 8, 5, 9) == Ok(FIRST) && give(&mut giver, 8, 2, 3) == Ok(SECOND));
     let saved = b"DMLG\x02\x00\x07\x00\x02\x02\x00\x00\x00\x01\x00\x04\x00\x04\x00\xff\xfc";
     assert!(rt; giver.close().content() == Some(saved.as_slice()));
+}
+
+// The second is taken: then the first is old.
+#[test]
+fn tickets_are_taken(rt: HostRuntime) {
     let mut taker = created(&rt, rt.alloc(), 8, 10, 19);
-    assert!(rt; is_taken(&mut taker, &second, Ok(())));
-    let old = Err(TakeFault::Old);
-    assert!(rt; is_taken(&mut taker, &[0, 7, 0, 0, 0, 8, 0, 5, 0, 9], old));
+    assert!(rt; is_taken(&mut taker, &SECOND, Ok(())));
+    assert!(rt; is_taken(&mut taker, &FIRST, Err(TakeFault::Old)));
     let saved =
         b"DMLG\x02\x00\x08\x00\x00\x02\x00\x02\x00\x03\x00\x0a\x00\x13\x01\x00\x07\x00\x01\xff\xf3";
     assert!(rt; taker.close().content() == Some(saved.as_slice()));
@@ -180,14 +214,20 @@ const LEDGERS: [(&[u8], Result<u32, OpenFault>); 14] = [
 ];
 
 #[test]
-fn ledgers_of_both_versions(rt: HostRuntime) -> Result<(), Fail> {
+fn ledgers_of_both_versions(rt: HostRuntime) {
     for (place, (bytes, answer)) in LEDGERS.iter().enumerate() {
-        let store = MemStore::with(rt.alloc(), bytes.to_vec(rt.alloc())?);
+        let store = MemStore::with(
+            rt.alloc(),
+            bytes.to_vec(rt.alloc()).expect(&rt, "it is done"),
+        );
         assert!(rt; opened(rt.alloc(), store) == *answer, "{place}");
     }
+}
+
+#[test]
+fn no_ledger_is_read_or_there(rt: HostRuntime) {
     let mut store = MemStore::new(rt.alloc());
     store.set_load(true);
     assert!(rt; opened(rt.alloc(), store) == Err(OpenFault::Device));
     assert!(rt; opened(rt.alloc(), MemStore::new(rt.alloc())) == Err(OpenFault::Absent));
-    Ok(())
 }

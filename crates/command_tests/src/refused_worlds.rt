@@ -7,7 +7,6 @@ use dm_event_world::{World, WorldFault, is_honest};
 use dm_print_ledger::{GiveFault, OpenFault, PrintFault, TakeFault};
 use relay_script::{Script, ScriptFault, read_script};
 use std::alloc::Allocator;
-use std::test::Fail;
 use test_helpers::Refusing;
 
 // More growths than any of these scripts and runs asks for.
@@ -152,106 +151,124 @@ fn given<A: Allocator + Copy>(
 }
 
 /// The script, which is asked for again where memory was refused.
-pub fn script_of<A: Allocator + Copy>(alloc: A, text: &str) -> Result<Script<A>, Fail> {
+pub fn script_of<A: Allocator + Copy>(alloc: A, text: &str) -> Option<Script<A>> {
     for _time in 0..MOST_TIMES {
         if let Ok(script) = read_script(alloc, text.as_bytes()) {
-            return Ok(script);
+            return Some(script);
         }
     }
-    Err("no script".into())
+    None
 }
 
 /// The world of a script, which is asked for again, too.
-pub fn world_of<A: Allocator + Copy>(alloc: A, script: &Script<A>) -> Result<World<A>, Fail> {
+pub fn world_of<A: Allocator + Copy>(alloc: A, script: &Script<A>) -> Option<World<A>> {
     for _time in 0..MOST_TIMES {
         if let Ok(world) = World::new(alloc, &script.ranges, &script.capacities) {
-            return Ok(world);
+            return Some(world);
         }
     }
-    Err("no world".into())
+    None
 }
 
-// Whether the replies to a script are these words, where each event that is refused for memory is given again. The
-// event after a restart names what was restarted.
-fn tells<A: Allocator + Copy>(alloc: A, text: &str, words: &str) -> Result<bool, Fail> {
-    let script = script_of(alloc, text)?;
-    let mut world = world_of(alloc, &script)?;
-    for (place, word) in words.split(',').enumerate() {
-        let Some(event) = script.events.get(place) else {
-            return Ok(false);
+// Whether the replies to events are these words, where each event that is refused for memory is given again. The event
+// after a restart names what was restarted.
+fn answers<A: Allocator + Copy>(world: &mut World<A>, events: &[Event<A>], words: &str) -> bool {
+    let mut rest = events;
+    for word in words.split(',') {
+        let [event, after @ ..] = rest else {
+            return false;
         };
-        let next = script.events.get(place.saturating_add(1)).unwrap_or(event);
-        if given(&mut world, event, next) != word {
-            return Ok(false);
+        if given(world, event, after.first().unwrap_or(event)) != word {
+            return false;
         }
+        rest = after;
     }
-    Ok(script.events.len() == words.split(',').count())
+    rest.is_empty()
+}
+
+// Whether the replies to a script are these words.
+fn tells<A: Allocator + Copy>(alloc: A, text: &str, words: &str) -> bool {
+    let Some(script) = script_of(alloc, text) else {
+        return false;
+    };
+    match world_of(alloc, &script) {
+        Some(mut world) => answers(&mut world, &script.events, words),
+        None => false,
+    }
 }
 
 // Whether no world begins with ranges that share a number.
-fn overlaps<A: Allocator + Copy>(alloc: A) -> Result<bool, Fail> {
-    let script = script_of(alloc, OVERLAPPING)?;
+fn overlaps<A: Allocator + Copy>(alloc: A) -> bool {
+    let Some(script) = script_of(alloc, OVERLAPPING) else {
+        return false;
+    };
     for _time in 0..MOST_TIMES {
         match World::new(alloc, &script.ranges, &script.capacities) {
             Err(WorldFault::Memory) => {}
-            ended => return Ok(matches!(ended, Err(WorldFault::Overlap))),
+            ended => return matches!(ended, Err(WorldFault::Overlap)),
         }
     }
-    Ok(false)
+    false
+}
+
+// Whether a text is refused as a script for want of memory, or for another reason, or is none, over memory that refuses
+// two growths in a row; and whether it refused any.
+fn read<A: Allocator + Copy>(alloc: A, growths: u64, text: &[u8]) -> (Option<ScriptFault>, bool) {
+    let second = Refusing::new(alloc, growths);
+    let memory = Refusing::new(&second, growths);
+    (read_script(&memory, text).err(), memory.is_spent())
 }
 
 // What is no script, if only by its last line, is refused for that with however little memory.
 #[test]
-fn refused_growths_of_a_script_are_named(rt: HostRuntime) -> Result<(), Fail> {
+fn refused_growths_of_a_script_are_named(rt: HostRuntime) {
     for growths in 0..MOST_GROWTHS {
-        let second = Refusing::new(rt.alloc(), growths);
-        let memory = Refusing::new(&second, growths);
-        let fault = read_script(&memory, SCRIPT).err();
-        if !memory.is_spent() {
+        let (fault, is_spent) = read(rt.alloc(), growths, SCRIPT);
+        if !is_spent {
             assert!(rt; fault.is_none() && growths > 5, "{growths}");
-            return Ok(());
+            return;
         }
         assert!(rt; matches!(fault, Some(ScriptFault::Memory)), "{growths}");
-        let second = Refusing::new(rt.alloc(), growths);
-        let memory = Refusing::new(&second, growths);
-        let fault = read_script(&memory, NO_SCRIPT).err();
+        let (fault, _) = read(rt.alloc(), growths, NO_SCRIPT);
         assert!(rt; matches!(fault, Some(ScriptFault::Script)), "{growths}");
     }
-    Err("growths without end".into())
+    panic!(rt; "growths without end")
 }
+
+// A script, and what the replies to its events tell.
+const TOLD: [(&str, &str); 4] = [
+    (GATHERING, GATHERED),
+    (FAILING, FAILED),
+    (STOPPING_PRINTERS, STOPPED_PRINTERS),
+    (STOPPING_DESKS, STOPPED_DESKS),
+];
 
 // The replies that remain are those of a world that has all the memory that it asks for.
 #[test]
-fn refused_growths_leave_the_replies(rt: HostRuntime) -> Result<(), Fail> {
-    for (text, words) in [
-        (GATHERING, GATHERED),
-        (FAILING, FAILED),
-        (STOPPING_PRINTERS, STOPPED_PRINTERS),
-        (STOPPING_DESKS, STOPPED_DESKS),
-    ] {
+fn refused_growths_leave_the_replies(rt: HostRuntime) {
+    for (text, words) in TOLD {
         let mut refusals = 0u64;
         for growths in 0..MOST_GROWTHS {
             let second = Refusing::new(rt.alloc(), growths);
             let memory = Refusing::new(&second, growths);
-            assert!(rt; tells(&memory, text, words)?, "{growths}");
+            assert!(rt; tells(&memory, text, words), "{growths}");
             if memory.is_spent() {
                 refusals = growths;
             }
         }
         assert!(rt; refusals > 20 && refusals < MOST_GROWTHS - 1, "{refusals}");
     }
-    Ok(())
 }
 
 #[test]
-fn refused_growths_begin_no_world(rt: HostRuntime) -> Result<(), Fail> {
+fn refused_growths_begin_no_world(rt: HostRuntime) {
     for growths in 0..MOST_GROWTHS {
         let second = Refusing::new(rt.alloc(), growths);
         let memory = Refusing::new(&second, growths);
-        assert!(rt; overlaps(&memory)?, "{growths}");
+        assert!(rt; overlaps(&memory), "{growths}");
         if !memory.is_spent() {
-            return Ok(());
+            return;
         }
     }
-    Err("growths without end".into())
+    panic!(rt; "growths without end")
 }

@@ -30,11 +30,16 @@ type Both<'a> = (MemStore<&'a Memory>, MemSet<&'a Memory>);
 
 // Whether each of the two documents is in the set, or else in the old store, with all others.
 fn are_joined((old, set): &Both<'_>) -> bool {
-    let is_joined = |key: u16, file: &[u8]| match set.content(key) {
-        Some(bytes) => bytes == file,
-        None => old.content() == Some(JOINT),
-    };
-    is_joined(0, FIRST) && is_joined(9, THIRD)
+    for (key, file) in [(0, FIRST), (9, THIRD)] {
+        let is_joined = match set.content(key) {
+            Some(bytes) => bytes == file,
+            None => old.content() == Some(JOINT),
+        };
+        if !is_joined {
+            return false;
+        }
+    }
+    true
 }
 
 // A move that may stop or be refused: the answer, and the two then.

@@ -11,7 +11,6 @@ use test_helpers::Refusing;
 pub type Memory = Refusing<Global>;
 
 // A call on the printer 0 of the numbers 0 to 9.
-#[derive(Clone, Copy)]
 pub enum Call {
     // A print of a document of two labels, which is to get this number.
     Print(u16),
@@ -36,24 +35,38 @@ pub const SECOND_PRINT: &[u8] =
 // More growths than all calls together ask for.
 const MANY: u32 = 1000;
 
+fn done_if(is_right: bool) -> &'static str {
+    if is_right { "done" } else { "another answer" }
+}
+
+// What is answered to a print.
+fn printed<S: Store>(printer: &mut Printer<S, &Memory>, id: u16) -> &'static str {
+    match printer.print(b"1234", Size::Side12, Scheme::Ascii) {
+        Ok(job) => done_if(job.id().number() == id),
+        Err(fault) => fault.name(),
+    }
+}
+
+// What is answered where the ticket is taken.
+fn taken<S: Store>(printer: &mut Printer<S, &Memory>) -> &'static str {
+    let Some(ticket) = Ticket::of_bytes(&TAKEN) else {
+        return "no ticket";
+    };
+    match printer.take(&ticket) {
+        Ok(()) => "done",
+        Err(fault) => fault.name(),
+    }
+}
+
 // What is answered to a call.
-pub fn made<S: Store>(printer: &mut Printer<S, &Memory>, call: Call) -> &'static str {
+pub fn made<S: Store>(printer: &mut Printer<S, &Memory>, call: &Call) -> &'static str {
     match call {
-        Call::Print(id) => match printer.print(b"1234", Size::Side12, Scheme::Ascii) {
-            Ok(job) if job.id().number() == id => "done",
-            Ok(_) => "another number",
-            Err(fault) => fault.name(),
-        },
+        Call::Print(id) => printed(printer, *id),
         Call::Give => match printer.give(3, Range { first: 5, last: 6 }) {
-            Ok(ticket) if ticket.bytes() == GIVEN => "done",
-            Ok(_) => "another ticket",
+            Ok(ticket) => done_if(ticket.bytes() == GIVEN),
             Err(fault) => fault.name(),
         },
-        Call::Take => match Ticket::of_bytes(&TAKEN).map(|ticket| printer.take(&ticket)) {
-            Some(Ok(())) => "done",
-            Some(Err(fault)) => fault.name(),
-            None => "no ticket",
-        },
+        Call::Take => taken(printer),
     }
 }
 
@@ -83,7 +96,11 @@ fn opened<'a>(memory: &'a Memory, mut store: MemStore<&'a Memory>) -> Option<Mem
 }
 
 // Whether a call is refused, and is done when it is made again; or none, if it isn't done then.
-fn is_refused<'a>(printer: &mut MemPrinter<'a>, memory: &'a Memory, call: Call) -> Option<bool> {
+fn is_refused<'a, S: Store>(
+    printer: &mut Printer<S, &'a Memory>,
+    memory: &'a Memory,
+    call: &Call,
+) -> Option<bool> {
     let answer = made(printer, call);
     if answer == "done" {
         return Some(false);
@@ -98,7 +115,7 @@ fn refused_calls(rt: &impl Abort, memory: &Memory) -> u8 {
     let mut printer = opened(memory, printer.close()).expect(rt, "it is opened");
     let mut refused = 0u8;
     for (place, call) in CALLS.iter().enumerate() {
-        if is_refused(&mut printer, memory, *call).expect(rt, "it is done") {
+        if is_refused(&mut printer, memory, call).expect(rt, "it is done") {
             refused |= 1u8 << (place % 8);
         }
     }

@@ -3,7 +3,7 @@
 use super::calls::{CALLS, Memory, filled, made};
 use super::{FIRST, FULL, THIRD, WHOLE};
 use dm_assembly_desk::{Desk, DeskFault};
-use dm_store::{FuseSet, Kept, MemSet};
+use dm_store::{FuseSet, Kept, MemSet, StoreSet};
 use std::process::Abort;
 use test_helpers::Refusing;
 
@@ -23,14 +23,14 @@ const SAVED: [Files; 6] =
 const STOPS: [(usize, usize); 9] = [(0, 0), (0, 0), (0, 0), (0, 1), (1, 2), (2, 3), (3, 4), (4, 5), (5, 5)];
 
 // The set of a desk after all calls, or after the first that was stopped.
-fn used<'a>(
+fn used<'a, S: StoreSet>(
     rt: &impl Abort,
     memory: &'a Memory,
-    mut desk: Desk<Fused<'a>, &'a Memory>,
-) -> Fused<'a> {
-    for (call, wanted) in CALLS {
+    mut desk: Desk<S, &'a Memory>,
+) -> S {
+    for (call, wanted) in CALLS.iter() {
         let answer = made(&mut desk, memory, call);
-        if answer != wanted {
+        if answer != *wanted {
             assert!(rt; answer == "Save" && made(&mut desk, memory, call) == "Failed");
             break;
         }

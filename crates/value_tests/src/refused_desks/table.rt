@@ -16,7 +16,7 @@
 //
 // and nothing after that.
 
-use crate::printers::number;
+use crate::refused_printers::number;
 
 // The number of the ID with which a document begins, or one above all numbers.
 pub fn id_at(document: &[u8]) -> u32 {

@@ -26,8 +26,8 @@ const SAVED: [(&[u8], u32); 5] = [
 const STOPS: [(usize, usize); 8] = [(0, 0), (0, 1), (1, 1), (1, 2), (2, 3), (3, 4), (4, 5), (5, 5)];
 
 // The store of a printer after all calls, or after the first that was stopped.
-fn used<'a>(rt: &impl Abort, mut printer: Printer<Fused<'a>, &'a Memory>) -> Fused<'a> {
-    for call in CALLS {
+fn used<'a, S: Store>(rt: &impl Abort, mut printer: Printer<S, &'a Memory>) -> S {
+    for call in CALLS.iter() {
         let answer = made(&mut printer, call);
         if answer != "done" {
             assert!(rt; answer == "Save" && made(&mut printer, call) == "Failed");

@@ -2,12 +2,11 @@
 // table of the format says, or is another sound file, and then a desk holds exactly that one.
 use super::JOINT;
 use super::table::{answer, id_at};
-use crate::printers::number;
+use crate::refused_printers::number;
 use dm_append_label::FileId;
 use dm_assembly_desk::{Desk, move_pages};
 use dm_store::{MemSet, MemStore, StoreSet};
 use std::alloc::{AllocError, Global};
-use std::test::Fail;
 use test_helpers::{count, spoiled};
 
 // Of the three pages of the document 9 the first is held, 12, and the third, Z.
@@ -29,13 +28,17 @@ fn sound_if(is_right: bool) -> &'static str {
 }
 
 // Whether a desk holds what a sound file does, and no more.
-fn holds(desk: &Desk<MemSet>, file: &[u8]) -> bool {
-    let number = u16::try_from(number_of(file)).ok();
-    let Some(id) = number.and_then(FileId::of_number) else {
+fn holds<S: StoreSet>(desk: &Desk<S>, file: &[u8]) -> bool {
+    let Ok(number) = u16::try_from(number_of(file)) else {
         return false;
     };
-    let is_held = desk.export(id).is_ok_and(|bytes| bytes.as_slice() == file);
-    is_held && desk.held().is_ok_and(|held| held.len() == 1)
+    let Some(id) = FileId::of_number(number) else {
+        return false;
+    };
+    match (desk.export(id), desk.held()) {
+        (Ok(bytes), Ok(held)) => bytes.as_slice() == file && held.len() == 1,
+        _ => false,
+    }
 }
 
 // What is answered to bytes as the file of the document 9.
@@ -75,7 +78,6 @@ fn moved(alloc: Global, file: &[u8]) -> Result<&'static str, AllocError> {
 }
 
 // What is done with bytes.
-#[derive(Clone, Copy)]
 enum How {
     Open,
     Import,
@@ -83,7 +85,7 @@ enum How {
 }
 
 // What is answered to bytes.
-fn answered(alloc: Global, how: How, file: &[u8]) -> Result<&'static str, AllocError> {
+fn answered(alloc: Global, how: &How, file: &[u8]) -> Result<&'static str, AllocError> {
     match how {
         How::Open => Ok(opened(alloc, file)),
         How::Import => Ok(imported(alloc, file)),
@@ -92,7 +94,7 @@ fn answered(alloc: Global, how: How, file: &[u8]) -> Result<&'static str, AllocE
 }
 
 // What is to be answered by the tables.
-fn wanted(how: How, file: &[u8]) -> &'static str {
+fn wanted(how: &How, file: &[u8]) -> &'static str {
     let is_other = number_of(file) != u32::from(KEY);
     let name = answer(file, if matches!(how, How::Move) { 1 } else { 2 });
     if name == "sound" && matches!(how, How::Open) && is_other {
@@ -115,15 +117,14 @@ const FILES: [(&[u8], How, [u32; 4]); 5] = [
 ];
 
 #[test]
-fn each_byte_is_spoiled(rt: HostRuntime) -> Result<(), Fail> {
-    for (file, how, counted) in FILES {
+fn each_byte_is_spoiled(rt: HostRuntime) {
+    for (file, how, counted) in FILES.iter() {
         let mut counts = [0u32; 4];
-        for copy in spoiled(rt.alloc(), file)?.iter() {
-            let name = answered(rt.alloc(), how, copy.as_slice())?;
+        for copy in spoiled(rt.alloc(), *file).expect(&rt, "it is done").iter() {
+            let name = answered(rt.alloc(), how, copy.as_slice()).expect(&rt, "it is done");
             assert!(rt; name == wanted(how, copy.as_slice()), "{copy:?}");
             count(&mut counts, &NAMES, name);
         }
-        assert!(rt; counts == counted);
+        assert!(rt; counts == *counted);
     }
-    Ok(())
 }

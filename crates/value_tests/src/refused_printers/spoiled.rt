@@ -6,7 +6,6 @@ use super::table::{answer, number};
 use dm_print_ledger::{Printer, Ticket};
 use dm_store::MemStore;
 use std::alloc::{AllocError, Global};
-use std::test::Fail;
 use test_helpers::{count, spoiled};
 
 // The printer 7: the serial 3, the ranges 1 to 4, 7 to 9 and 20 to 21, and the last serials of the givers 3 and 9.
@@ -48,20 +47,19 @@ fn open(alloc: Global, ledger: &[u8]) -> Result<&'static str, AllocError> {
 
 // The counts are those of a reader in another language.
 #[test]
-fn each_byte_of_a_ledger_is_spoiled(rt: HostRuntime) -> Result<(), Fail> {
+fn each_byte_of_a_ledger_is_spoiled(rt: HostRuntime) {
     for (ledger, wanted) in [
         (LEDGER, [2047, 509, 12042, 510, 2077]),
         (FIRST_LEDGER, [2047, 509, 3849, 0, 520]),
     ] {
         let mut counts = [0u32; 5];
-        for copy in spoiled(rt.alloc(), ledger)?.iter() {
-            let name = open(rt.alloc(), copy.as_slice())?;
+        for copy in spoiled(rt.alloc(), ledger).expect(&rt, "it is done").iter() {
+            let name = open(rt.alloc(), copy.as_slice()).expect(&rt, "it is done");
             assert!(rt; name == answer(copy.as_slice(), 7), "{copy:?}");
             count(&mut counts, &NAMES, name);
         }
         assert!(rt; counts == wanted);
     }
-    Ok(())
 }
 
 // The ticket 3 of the printer 9, for the printer 7: the numbers 30 to 35. A ticket has, of two bytes each, the giver,
@@ -111,13 +109,12 @@ fn take(alloc: Global, bytes: &[u8]) -> Result<&'static str, AllocError> {
 
 // The counts are those of a reader in another language.
 #[test]
-fn each_byte_of_a_ticket_is_spoiled(rt: HostRuntime) -> Result<(), Fail> {
+fn each_byte_of_a_ticket_is_spoiled(rt: HostRuntime) {
     let mut counts = [0u32; 5];
-    for copy in spoiled(rt.alloc(), TICKET)?.iter() {
-        let name = take(rt.alloc(), copy.as_slice())?;
+    for copy in spoiled(rt.alloc(), TICKET).expect(&rt, "it is done").iter() {
+        let name = take(rt.alloc(), copy.as_slice()).expect(&rt, "it is done");
         assert!(rt; name == wanted(copy.as_slice()), "{copy:?}");
         count(&mut counts, &ANSWERS, name);
     }
     assert!(rt; counts == [3335, 1515, 511, 3, 22]);
-    Ok(())
 }
