@@ -108,20 +108,27 @@ const NO_LABELS: [(u16, u16, u8, u8, &[u8], isize); 10] = [
 ];
 
 #[test]
-fn refuses_to_draw_and_writes_nothing(rt: HostRuntime) {
+fn refuses_to_draw_a_label_and_writes_nothing(rt: HostRuntime) {
     let mut image = [7; 40];
-    for side in [0, 11, 144] {
-        assert!(rt; relay_symbol_from_text(rt.alloc(), side, b"1234567", &mut image) == -1);
-        assert!(rt; relay_image_from_words(rt.alloc(), side, &WORDS, &mut image) == -1);
-    }
-    assert!(rt; relay_image_from_words(rt.alloc(), 10, &WORDS[..7], &mut image) == -2);
-    assert!(rt; relay_symbol_from_text(rt.alloc(), 10, b"1234567", &mut image) == -4);
-    assert!(rt; relay_symbol_from_text(rt.alloc(), 10, b"123456", &mut image[..32]) == -9);
     for (side, id, m, n, text, answer) in NO_LABELS {
         let count = relay_label_from_text(rt.alloc(), side, id, m, n, text, &mut image);
         assert!(rt; count == answer, "{side} {id} {m} {n}");
     }
     assert!(rt; image == [7; 40]);
+}
+
+#[test]
+fn refuses_to_draw_and_writes_nothing(rt: HostRuntime) {
+    let mut image = [7; 32];
+    for (side, answer) in [(0, -1), (11, -1), (144, -1), (10, -4)] {
+        assert!(rt; relay_symbol_from_text(rt.alloc(), side, b"1234567", &mut image) == answer);
+    }
+    for side in [0, 11, 144] {
+        assert!(rt; relay_image_from_words(rt.alloc(), side, &WORDS, &mut image) == -1);
+    }
+    assert!(rt; relay_image_from_words(rt.alloc(), 10, &WORDS[..7], &mut image) == -2);
+    assert!(rt; relay_symbol_from_text(rt.alloc(), 10, b"123456", &mut image) == -9);
+    assert!(rt; image == [7; 32]);
 }
 
 // Whether a text and a page are refused by this answer, and nothing is written.

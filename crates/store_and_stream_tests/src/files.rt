@@ -216,6 +216,11 @@ fn each_call_fails_and_is_refused(rt: HostRuntime) {
     fs::remove_dir_all(&rt, above.as_str()).expect(&rt, "it is done");
 }
 
+// Saves to any store, since what is over that of a system is proved in more time.
+fn put<S: Store>(mut store: S, bytes: &[u8]) -> Result<(), StoreFault> {
+    store.replace(bytes)
+}
+
 // Replaces what a file holds; a new file may be one that has to be new.
 fn replace(rt: &HostRuntime, file: &str, bytes: &[u8], is_new: bool) -> Result<(), StoreFault> {
     let path = String::from_str(rt.alloc(), file)?;
@@ -224,7 +229,7 @@ fn replace(rt: &HostRuntime, file: &str, bytes: &[u8], is_new: bool) -> Result<(
     } else {
         RealDisk::new(rt.alloc(), rt)
     };
-    FileStore::new(disk, path).replace(bytes)
+    put(FileStore::new(disk, path), bytes)
 }
 
 // Whether a file that is at the path of a new one stays, and so does what has the name of its first draft.
