@@ -23,11 +23,7 @@ const SAVED: [Files; 6] =
 const STOPS: [(usize, usize); 9] = [(0, 0), (0, 0), (0, 0), (0, 1), (1, 2), (2, 3), (3, 4), (4, 5), (5, 5)];
 
 // The set of a desk after all calls, or after the first that was stopped.
-fn used<'a, S: StoreSet>(
-    rt: &impl Abort,
-    memory: &'a Memory,
-    mut desk: Desk<S, &'a Memory>,
-) -> S {
+fn used<'a, S: StoreSet>(rt: &impl Abort, memory: &'a Memory, mut desk: Desk<S, &'a Memory>) -> S {
     for (call, wanted) in CALLS.iter() {
         let answer = made(&mut desk, memory, call);
         if answer != *wanted {
