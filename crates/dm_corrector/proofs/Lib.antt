@@ -5,7 +5,6 @@ pub mod Differences
 pub mod Dividing
 pub mod Entries
 pub mod ErrorValues
-pub mod Evaluation
 pub mod LowValues
 pub mod RootBound
 pub mod RootSearch

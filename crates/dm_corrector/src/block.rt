@@ -22,6 +22,7 @@ use thiserror::Error;
 pub struct Uncorrectable;
 
 /// The number of places where two words of one length differ.
+#[tactic(auto, using(crate::proofs::Differences::differ_other, crate::proofs::Differences::differ_same))]
 pub(crate) fn differing(left: &[u8], right: &[u8]) -> usize
     requires { length left.now ≡ length right.now }
     ensures places { result ≡ differ left.now right.now }
