@@ -1,17 +1,20 @@
 -- One step of each loop that makes a row: the modules so far are those of the square, and stay so.
 use Rattle.std.specs.Prelude.{◌%◌, OnOk}
 use Rattle.std.specs.List.{between}
-use Rattle.std.proofs.Common.{◌≡◌, ℕ, ◌+◌, ◌*◌, ◌<◌, ◌≤◌, List, [], ◌∷◌, ◌++◌, length, get_or, take, Bool, true, false, ◌==◌, Result, Ok, Err, is_ok, cond, refl, ap, ◌∙◌, subst, arith, length-append}
+use Rattle.std.proofs.Common.{◌≡◌, ℕ, ◌+◌, ◌*◌, ◌<◌, ◌≤◌, List, [], ◌∷◌, ◌++◌, length, get_or, take, Bool, true, false, ◌==◌, Result, Ok, Err, is_ok, cond, refl, ap, ◌∙◌, subst, arith, length-append, rules}
 use Rattle.std.proofs.{Math.Nat.mul-le-mul_right, lemmas.List.length-take-le, lemmas.List.Edits.length-between}
 use Rattle.std.proofs.lemmas.List.FromFn.{length-map-range_with_len}
-use Rattle.dm_size.specs.{declared.size.Size.Size, Sizes.side, Sizes.region, Sizes.across, Sizes.mapping}
+use Rattle.dm_size.specs.{declared.size.Size.Size, Sizes.side, Sizes.region, Sizes.regions, Sizes.across, Sizes.mapping}
 use Rattle.dm_size.specs.Squares.{Square, IsWhole}
 use Rattle.dm_finder_frame.specs.declared.framing.TheConstants.{TOP, BOTTOM}
-use Rattle.dm_finder_frame.specs.Frame.{mapping_place, grid_place, grid_module, matrix_module, GridView, IsWholeGrid, square_of}
+use Rattle.dm_finder_frame.specs.Frame.{frame_module_count, mapping_place, grid_place, grid_module, matrix_module, GridView, IsWholeGrid, square_of}
 use Rattle.dm_finder_frame.specs.inner.Filled.{first_modules}
 use Rattle.dm_finder_frame.proofs.{Begun.piece_more, Begun.in_row, Begun.row_length, FramedGrids.place_within}
 use Rattle.dm_finder_frame.proofs.FramedRows.{inner_piece, top_piece, bottom_piece, matrix_piece}
-use Rattle.dm_finder_frame.proofs.GridPlaces.{fills_side, most_mapping, most_side, mapping_place_below}
+use Rattle.dm_finder_frame.proofs.GridPlaces.{fills_side, most_side, mapping_place_below}
+
+-- how many modules are made
+pub ruleset module_counts = (length-map-range_with_len, length-take-le)
 
 -- the parts of the regions before one, and its own, fit in those of all
 pub parts_fit : (b q f : ℕ) → b < q → b * f + f ≤ q * f
@@ -145,14 +148,21 @@ if_added (Err x) P new xs zs e f = tt
 -- the mapping matrix has room for that part
 pub matrix_room : (g : GridView) (r b : ℕ) (xs : List Bool) → r < mapping g.size → b < across g.size
     → xs ≡ first_modules (mapping g.size) (matrix_module g) (r * mapping g.size + b * region g.size)
-    → length xs + region g.size ≤ 14400
+    → length xs + region g.size ≤ mapping g.size * mapping g.size
 matrix_room g r b xs row_in b_in begun =
     let n = mapping g.size in
-    let most = most_mapping g.size in
-    let rows : (r + 1) * n ≤ 120 * n = mul-le-mul_right n (let l : r + 1 ≤ 120 = omega arith in l) in
+    let rows : (r + 1) * n ≤ n * n = mul-le-mul_right n (let l : r + 1 ≤ n = omega arith in l) in
     omega (
       arith,
       parts_fit b (across g.size) (region g.size) b_in,
       rows,
       ap length begun ∙ length-map-range_with_len _ 0 (r * n + b * region g.size),
     )
+
+-- all rows are made
+pub all_rows : (s t : Size) (row end : ℕ) → s ≡ t → end ≡ mapping s → row ≡ end → row * mapping t ≡ mapping t * mapping t
+all_rows s t row end e is last = ap (λ (x : ℕ). x * mapping t) (last ∙ is ∙ ap mapping e)
+
+-- how many modules the finder patterns have
+pub counted : (s t : Size) (q h : ℕ) → s ≡ t → q ≡ regions s → h ≡ region s → q * (4 * h + 4) ≡ frame_module_count t
+counted s t q h e a b = search rules

@@ -83,6 +83,7 @@ fn push_row<A: Allocator>(
 ///
 /// # Errors
 /// Where the allocator refuses its memory.
+#[tactic(auto, using(crate::proofs::RowSteps::module_counts), unfolding(crate::specs::Frame::grid_modules))]
 pub fn frame<A: Allocator>(alloc: A, size: Size, matrix: &Matrix<A>) -> Result<Grid<A>, AllocError>
     requires same_side { matrix.now.side ≡ mapping size }
     ensures { IfOk result (λ grid. grid ≡ grid_of_matrix size matrix.now) }

@@ -21,4 +21,4 @@ pub use fault::{FrameFault, GridFault, WrongFrame};
 pub use framing::frame;
 pub use grid::{Grid, LentGrid};
 pub use region::cell_of;
-pub use unframing::{Framed, MOST_MODULES, modules_of, unframe, wrong_modules};
+pub use unframing::{Framed, MOST_MODULES, modules_in, modules_of, unframe, wrong_modules};

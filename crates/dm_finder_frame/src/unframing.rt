@@ -115,8 +115,9 @@ fn wrong_count(grid: &LentGrid) -> u16
 
 // Adds a row of the mapping matrix, from the grid.
 #[tactic(auto, using(crate::proofs::FramedGrids::place_within, crate::proofs::RowSteps::matrix_fits, crate::proofs::RowSteps::matrix_more))]
-fn push_row(modules: &mut ArrayVec<bool, MOST_MODULES>, grid: &LentGrid, row: u16)
+fn push_row<const ROOM: usize>(modules: &mut ArrayVec<bool, ROOM>, grid: &LentGrid, row: u16)
     requires row_in { row < mapping grid.now.size }
+    requires wide { let n = mapping grid.now.size in n * n ≤ ROOM }
     requires above { let n = mapping grid.now.size in
         modules.old.items ≡ first_modules n (matrix_module grid.now) (row * n) }
     ensures { let n = mapping grid.now.size in
@@ -136,7 +137,9 @@ fn push_row(modules: &mut ArrayVec<bool, MOST_MODULES>, grid: &LentGrid, row: u1
 
 /// Fills the caller's room with the modules of a grid's mapping matrix, row by row, whatever its finder patterns are
 /// (ISO/IEC 16022:2006, 5.8). It takes no memory, and copies no room.
-pub fn modules_of(grid: &LentGrid, modules: &mut ArrayVec<bool, MOST_MODULES>)
+#[tactic(auto, using(crate::proofs::RowSteps::all_rows), unfolding(crate::specs::Frame::matrix_modules))]
+pub fn modules_in<const ROOM: usize>(grid: &LentGrid, modules: &mut ArrayVec<bool, ROOM>)
+    requires { let n = mapping grid.now.size in n * n ≤ ROOM }
     ensures { modules.new.items ≡ (matrix_of_grid grid.now).modules }
 {
     modules.clear();
@@ -145,10 +148,18 @@ pub fn modules_of(grid: &LentGrid, modules: &mut ArrayVec<bool, MOST_MODULES>)
     }
 }
 
+/// [`modules_in`], of a room for any size.
+pub fn modules_of(grid: &LentGrid, modules: &mut ArrayVec<bool, MOST_MODULES>)
+    ensures { modules.new.items ≡ (matrix_of_grid grid.now).modules }
+{
+    modules_in(grid, modules);
+}
+
 /// How many modules of a grid's finder patterns are wrong. It takes no memory.
 ///
 /// # Errors
 /// Where more than an eighth of them are, with their number.
+#[tactic(auto, using(crate::proofs::RowSteps::counted))]
 pub fn wrong_modules(grid: &LentGrid) -> Result<u16, WrongFrame>
     ensures { MatchResult result (λ wrong. HasGoodFrame grid.now × (wrong ≡ wrong_frame_modules grid.now))
         (λ fault. HasBadFrame grid.now fault.wrong) }
@@ -167,6 +178,7 @@ pub fn wrong_modules(grid: &LentGrid) -> Result<u16, WrongFrame>
 /// # Errors
 /// `Border` where more than an eighth of the finder patterns' modules are wrong, with their number, before any memory
 /// is asked for; `Memory` where the allocator refuses.
+#[tactic(auto, using(crate::proofs::RowSteps::module_counts), unfolding(crate::specs::Frame::matrix_modules))]
 pub fn unframe<A: Allocator>(alloc: A, grid: &Grid<A>) -> Result<Framed<A>, FrameFault>
     ensures { Unframes grid.now result }
 {

@@ -1,6 +1,6 @@
 //! The codewords that a mapping matrix holds.
 
-ghost use Rattle.std.specs.Prelude.{◌≡◌, ◌<◌, ◌*◌, All, IfOk, length};
+ghost use Rattle.std.specs.Prelude.{◌≡◌, ◌<◌, ◌≤◌, ◌*◌, All, IfOk, length};
 ghost use Rattle.dm_size.specs.Sizes.{mapping, all_words};
 ghost use Rattle.dm_placement.specs.Placement.{lifted};
 ghost use Rattle.dm_placement.specs.inner.Places.{HasRead, word_from_places};
@@ -15,6 +15,7 @@ use std::alloc::{AllocError, Allocator};
 pub const MOST_WORDS: usize = 1800;
 
 // The codeword whose bits stand at these places, among these modules.
+#[tactic(auto, using(std::proofs::lemmas::Grind::common_steps, crate::proofs::BinaryDigits::byte_number, crate::proofs::BinaryDigits::more_below, crate::proofs::BinaryDigits::number_more))]
 #[inline(always)]
 fn word_at(places: &[usize; 8], modules: &[bool]) -> u8
     requires { All (λ place. place < length modules.now) places.now }
@@ -29,13 +30,14 @@ fn word_at(places: &[usize; 8], modules: &[bool]) -> u8
 
 // Reads the codewords of these modules.
 #[derive(Drop)]
-struct Lifting<'a> {
+struct Lifting<'a, const ROOM: usize> {
     modules: &'a [bool],
-    words: ArrayVec<u8, MOST_WORDS>,
+    words: ArrayVec<u8, ROOM>,
 }
 
-impl Taker for Lifting<'_> {
-    ghost has_taken = { λ first l s k. HasRead s l.modules.now k l.words.items × (l.modules.now ≡ first.modules.now) };
+impl<const ROOM: usize> Taker for Lifting<'_, ROOM> {
+    ghost has_taken = { λ first l s k. HasRead s l.modules.now k l.words.items
+        × (l.modules.now ≡ first.modules.now) × (all_words s ≤ ROOM) };
 
     #[inline(always)]
     fn take(&mut self, places: [usize; 8]) {
@@ -45,8 +47,10 @@ impl Taker for Lifting<'_> {
 
 /// The codewords that the modules of a mapping matrix hold, row by row, by a walk of its own. It takes no memory.
 #[tactic(auto, using(crate::proofs::TakenPlaces::read_all, crate::proofs::TakenPlaces::read_count))]
-pub fn words_of(size: Size, modules: &[bool]) -> ArrayVec<u8, MOST_WORDS>
+pub fn words_in<const ROOM: usize>(size: Size, modules: &[bool]) -> ArrayVec<u8, ROOM>
     requires whole { length modules.now ≡ mapping size * mapping size }
+    requires room { all_words size ≤ ROOM }
+    requires small { ROOM ≤ MOST_WORDS }
     ensures lifted { result.items ≡ lifted size (record { side = mapping size; modules = modules.now }) }
     ensures count { length result.items ≡ all_words size }
 {
@@ -56,6 +60,16 @@ pub fn words_of(size: Size, modules: &[bool]) -> ArrayVec<u8, MOST_WORDS>
     };
     walk(size, &mut lifting);
     lifting.words
+}
+
+/// [`words_in`], in a room for any size.
+#[tactic(auto, using(crate::proofs::EachSize::few_words))]
+pub fn words_of(size: Size, modules: &[bool]) -> ArrayVec<u8, MOST_WORDS>
+    requires whole { length modules.now ≡ mapping size * mapping size }
+    ensures lifted { result.items ≡ lifted size (record { side = mapping size; modules = modules.now }) }
+    ensures count { length result.items ≡ all_words size }
+{
+    words_in(size, modules)
 }
 
 /// The codewords that a mapping matrix holds, each bit read at its cell by Annex F of ISO/IEC 16022:2006: a dark module
@@ -79,6 +93,7 @@ pub fn lift<A: Allocator + Copy>(
 ///
 /// # Errors
 /// Where the allocator refuses the codewords' memory.
+#[tactic(auto, using(crate::proofs::EachSize::few_words))]
 pub fn lift_with<A: Allocator>(
     alloc: A,
     layout: &Layout<A>,
@@ -90,7 +105,7 @@ pub fn lift_with<A: Allocator>(
 {
     let mut lifting = Lifting {
         modules: matrix.modules(),
-        words: ArrayVec::new(),
+        words: ArrayVec::<u8, MOST_WORDS>::new(),
     };
     layout.hand_over(&mut lifting);
     Vec::from_slice(alloc, lifting.words.as_slice())

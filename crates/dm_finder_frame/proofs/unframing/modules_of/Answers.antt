@@ -1,12 +1,8 @@
-use Rattle.std.proofs.Common.{◌≡◌, ◌*◌, ℕ, ap, ◌∙◌, arith}
-use Rattle.dm_size.specs.{declared.size.Size.Size, Sizes.mapping}
-use Rattle.dm_finder_frame.specs.Frame.{matrix_modules}
+use Rattle.std.proofs.Common.{arith}
+use Rattle.std.proofs.Math.Nat.{mul-le-mul}
+use Rattle.dm_finder_frame.proofs.GridPlaces.{most_mapping}
 use Rattle.dm_finder_frame.proofs.unframing.modules_of.Goals as goal
 
--- all rows are made
-all_rows : (s t : Size) (row end : ℕ) → s ≡ t → end ≡ mapping s → row ≡ end → row * mapping t ≡ mapping t * mapping t
-all_rows s t row end e is last = ap (λ (x : ℕ). x * mapping t) (last ∙ is ∙ ap mapping e)
-
-pub returns : goal.returns
-unfolding matrix_modules
-returns c = grind (arith, all_rows)
+pub modules_in-requires : goal.modules_in-requires
+modules_in-requires c =
+    let most = most_mapping c.args.grid.now.size in (omega arith, mul-le-mul most most)
