@@ -1,6 +1,6 @@
 -- The run of a text in C40 or Text: how far it goes, byte by byte, and how many codewords it takes.
 use Rattle.std.proofs.lemmas.{Grind.common_steps, Bool.eqb-true, Bool.eq-eqb, Bool.ne_eqb, Bool.cond_both}
-use Rattle.std.proofs.Common.{◌≡◌, ◌≢◌, ℕ, zero, suc, ◌+◌, ◌*◌, ◌/◌, ◌%◌, ◌<◌, ◌≤◌, Bool, true, false, cond, eqb, List, [], ◌∷◌, ◌++◌, length, get_or, take, drop, refl, append_assoc, arith}
+use Rattle.std.proofs.Common.{◌≡◌, ◌≢◌, ℕ, zero, suc, ◌+◌, ◌*◌, ◌/◌, ◌%◌, ◌<◌, ◌≤◌, Bool, true, false, ◌&&◌, cond, eqb, ltb, List, [], ◌∷◌, ◌++◌, length, get_or, take, drop, refl, append_assoc, arith}
 use Rattle.std.specs.List.{flat_map}
 use Rattle.std.proofs.lemmas.List.{append-nil, length-append, length_push, length-take-le, length-drop, take_more, take_all, drop_all, take-append-le, drop-append-le}
 use Rattle.std.proofs.lemmas.List.Concat.{flat_map-append}
@@ -201,3 +201,13 @@ pub run_alone : (t : Letters) (k : ℕ) (bytes front out first second : List ℕ
     second ≡ out ++ run_and_rest t k bytes
 run_alone t k bytes front out first second ne le front-is a b =
     grind (arith, append_assoc, append-nil, drop_all, run_some)
+
+-- a run of no bytes, of some bytes and of all bytes of a text
+pub no_run : (n m : ℕ) → n ≡ 0 → false ≡ (ltb 0 n && eqb n m)
+no_run n m e = rw e refl
+
+pub part_run : (n m : ℕ) → n < m → false ≡ (ltb 0 n && eqb n m)
+part_run n m l = grind arith
+
+pub whole_run : (n m : ℕ) → n ≢ 0 → n ≡ m → true ≡ (ltb 0 n && eqb n m)
+whole_run n m ne e = grind arith

@@ -50,6 +50,7 @@ fn push_length<A: Allocator>(out: &mut Vec<u8, A>, count: usize) -> Result<(), A
 }
 
 /// Writes the codewords of a text after what was written before.
+#[tactic(auto, using(std::proofs::lemmas::Grind::common_steps, std::proofs::lemmas::Result::on_ok_weaker, crate::proofs::Base256Words::base_256_nil, crate::proofs::Base256Words::base_256_parts, crate::proofs::Base256Words::empty_is))]
 pub(crate) fn push_base_256<A: Allocator>(
     out: &mut Vec<u8, A>,
     bytes: &[u8],

@@ -7,6 +7,7 @@ use crate::counter::Counter;
 use crate::scheme::Scheme;
 
 /// The number of codewords that a text of any length takes, counted byte by byte.
+#[tactic(auto, using(std::proofs::lemmas::Grind::common_steps, crate::proofs::Counters::small))]
 pub(crate) fn word_count(scheme: Scheme, bytes: &[u8]) -> u128
     ensures { result ≡ need_of scheme bytes.now }
 {
@@ -27,6 +28,7 @@ pub fn need(scheme: Scheme, bytes: &[u8]) -> usize
 }
 
 // The greatest prefix that fits, where each prefix is looked at.
+#[tactic(auto, using(std::proofs::lemmas::Grind::common_steps, crate::proofs::Counters::small))]
 fn greatest_prefix(scheme: Scheme, bytes: &[u8], room: usize) -> usize
     ensures { IsGreatestPrefix scheme room bytes.now result }
 {

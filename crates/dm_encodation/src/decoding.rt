@@ -1,9 +1,9 @@
 //! The text of a symbol's data codewords.
 
-ghost use Rattle.std.specs.Prelude.{◌≡◌, ◌≢◌, ◌+◌, ◌-◌, ◌*◌, ◌≤◌, ◌++◌, ℕ, List, length, drop, take, IfOk, IfErr, IfSome};
+ghost use Rattle.std.specs.Prelude.{◌≡◌, ◌≢◌, ◌+◌, ◌-◌, ◌*◌, ◌≤◌, ◌++◌, ℕ, List, length, drop, take, IfOk, IfErr, IfSome, Ok, Some, None};
 ghost use Rattle.std.specs.Prelude.{IsErrOf};
 ghost use Rattle.dm_encodation.specs.Grammar.{ReadsOnly, StuckOnly};
-ghost use Rattle.dm_encodation.specs.inner.Reading.{reading, bytes_of, Collects, Holds};
+ghost use Rattle.dm_encodation.specs.inner.Reading.{reading, prepend, step, bytes_of, Collects, Holds};
 ghost use Rattle.dm_encodation.specs.declared.fault.DecodeFault.TheVariants.{Memory};
 ghost use Rattle.dm_encodation.specs.declared.mode.Mode.TheVariants.{Ascii};
 
@@ -19,6 +19,7 @@ fn put(room: &mut [u8], count: Option<usize>, bytes: &[u8]) -> Option<usize>
     requires { IfSome count (λ n. n ≤ length room.old) }
     ensures put { (before : List ℕ) → Holds room.old count before → Holds room.new result (before ++ bytes.now) }
     ensures same { length room.new ≡ length room.old }
+    ensures none { result ≡ None → room.new ≡ room.old }
 {
     let count = count?;
     if room.len() - count < bytes.len() {
@@ -44,15 +45,55 @@ fn put_output(room: &mut [u8], count: Option<usize>, output: Decoded) -> Option<
     }
 }
 
+// Writes the bytes of a codeword after the first of a room, if it is a character or two digits in ASCII, and has room.
+#[inline(always)]
+fn put_ascii(room: &mut [u8], count: usize, word: u8) -> Option<usize>
+    requires { count ≤ length room.old }
+    ensures put { IfSome result (λ n. (position : ℕ) (before : List ℕ) → Holds room.old (Some count) before
+        → (bytes : List ℕ) × (Ok (Ascii, bytes) ≡ step Ascii position word) × Holds room.new (Some n) (before ++ bytes)) }
+    ensures same { length room.new ≡ length room.old }
+    ensures none { result ≡ None → room.new ≡ room.old }
+{
+    match word {
+        1..=128 => put(room, Some(count), &[word - 1]),
+        130..=229 => {
+            let number = word - 130;
+            put(room, Some(count), &[b'0' + number / 10, b'0' + number % 10])
+        }
+        _ => None,
+    }
+}
+
+// Writes the bytes of the codewords from index `from` on up to one that is neither a character nor two digits in ASCII,
+// or has no room. Gives its index and how many bytes were written. Most texts are read by this loop alone, which has no
+// modes and is faster.
+fn read_ascii(room: &mut [u8], words: &[u8], from: usize) -> (usize, usize)
+    requires { from ≤ length words.now }
+    ensures read { (bytes : List ℕ) × (prepend bytes (reading Ascii (result.0 + 1) (drop result.0 words.now))
+        ≡ reading Ascii (from + 1) (drop from words.now)) × Holds room.new (Some result.1) bytes }
+    ensures within { result.0 ≤ length words.now }
+    ensures same { length room.new ≡ length room.old }
+{
+    let mut count = 0;
+    for at in from..words.len() {
+        match put_ascii(room, count, words[at]) {
+            Some(more) => count = more,
+            None => return (at, count),
+        }
+    }
+    (words.len(), count)
+}
+
 // Writes the bytes of the codewords at the front of a room, and gives how many they are, if they have room there.
 fn read_words(room: &mut [u8], words: &[u8], from: usize) -> Result<Option<usize>, DecodeFault>
     requires { from ≤ length words.now }
     ensures collects { Collects room.new result (reading Ascii (from + 1) (drop from words.now)) }
     ensures same { length room.new ≡ length room.old }
 {
-    let mut count = Some(0);
+    let (start, written) = read_ascii(room, words, from);
+    let mut count = Some(written);
     let mut mode = Mode::Ascii;
-    for at in from..words.len() {
+    for at in start..words.len() {
         if let Mode::Padded = mode {
             return Ok(count);
         }
@@ -70,6 +111,7 @@ fn read_words(room: &mut [u8], words: &[u8], from: usize) -> Result<Option<usize
 ///
 /// # Errors
 /// The first fault from the left, which is never `Memory`.
+#[tactic(auto, using(std::proofs::lemmas::Result::err_from_is_err_and, crate::proofs::Reread::bytes_from, crate::proofs::Reread::decided_fault, crate::proofs::Reread::never_memory))]
 pub fn decode_to_slice(words: &[u8], from: usize, room: &mut [u8]) -> Result<usize, DecodeFault>
     requires place { from ≤ length words.now }
     requires wide { 2 * (length words.now - from) ≤ length room.old }
@@ -89,6 +131,7 @@ pub fn decode_to_slice(words: &[u8], from: usize, room: &mut [u8]) -> Result<usi
 /// # Errors
 /// The first fault from the left. `Memory` comes only where the codewords have no fault, since all of
 /// them are looked through even if memory is refused.
+#[tactic(auto, using(std::proofs::lemmas::Result::err_from_is_err_and, crate::proofs::Reread::bytes_from, crate::proofs::Reread::decided_fault, crate::proofs::Reread::never_memory))]
 pub fn decode<A: Allocator + Copy>(
     alloc: A,
     words: &[u8],

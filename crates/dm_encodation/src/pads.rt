@@ -21,6 +21,7 @@ fn later_pad(position: usize) -> u8
 }
 
 // Fills the symbol up to `capacity` codewords with pads.
+#[tactic(auto, using(crate::proofs::Reread::pads_more, crate::proofs::Reread::pads_done))]
 fn push_pads<A: Allocator>(out: &mut Vec<u8, A>, capacity: usize) -> Result<(), AllocError>
     requires { capacity < 2 ^ 16 }
     ensures { OnOk result (out.new.items

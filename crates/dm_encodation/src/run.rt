@@ -97,6 +97,7 @@ fn push_pairs<A: Allocator>(
 }
 
 // The number of bytes of the run: the longest front whose values are whole triples.
+#[tactic(auto, using(std::proofs::lemmas::Grind::common_steps, crate::proofs::RunWords::over_more, crate::proofs::RunWords::run_within, crate::proofs::RunWords::whole_more, crate::proofs::RunWords::whole_same))]
 fn run_bytes(letters: Letters, bytes: &[u8]) -> usize
     ensures exact { result ≡ run_length letters bytes.now }
     ensures within { result ≤ length bytes.now }
@@ -124,6 +125,7 @@ fn latch_word(letters: Letters) -> u8
 
 /// Writes the codewords of a text after what was written before. Gives whether the text is a run and
 /// nothing else.
+#[tactic(auto, using(std::proofs::lemmas::Grind::common_steps, crate::proofs::RunWords::no_run, crate::proofs::RunWords::part_run, crate::proofs::RunWords::run_alone, crate::proofs::RunWords::run_none, crate::proofs::RunWords::run_parts, crate::proofs::RunWords::whole_run))]
 pub(crate) fn push_run<A: Allocator>(
     out: &mut Vec<u8, A>,
     letters: Letters,

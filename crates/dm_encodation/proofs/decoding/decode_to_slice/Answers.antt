@@ -1,12 +1,9 @@
 use Rattle.std.proofs.Common.{ℕ, ◌+◌, drop, Option, subst, arith}
-use Rattle.std.proofs.lemmas.{List.length-drop, Result.err_from_is_err_and}
+use Rattle.std.proofs.lemmas.{List.length-drop}
 use Rattle.dm_encodation.specs.inner.Reading.{Holds}
 use Rattle.dm_encodation.proofs.Lengths.{reads_short}
-use Rattle.dm_encodation.proofs.Reread.{decided, decided_fault, bytes_from, never_memory}
+use Rattle.dm_encodation.proofs.Reread.{decided, bytes_from}
 use Rattle.dm_encodation.proofs.decoding.decode_to_slice.Goals as goal
-
-pub returns-in_err-count-clause-stuck : goal.returns-in_err-count-clause-stuck
-returns-in_err-count-clause-stuck c = grind (arith, err_from_is_err_and, bytes_from, decided_fault, never_memory)
 
 pub unreachable-requires : goal.unreachable-requires
 unreachable-requires c =

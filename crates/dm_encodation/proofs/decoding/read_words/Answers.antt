@@ -1,13 +1,12 @@
-use Rattle.std.proofs.Common.{◌++◌, [], drop, ◌+◌, refl, ◌∙◌, arith}
+use Rattle.std.proofs.Common.{◌++◌, drop, ◌+◌, ◌∙◌, arith}
 use Rattle.std.proofs.lemmas.{Result.err_from_is_err_and}
 use Rattle.dm_encodation.specs.{inner.Reading.bytes_of, inner.Reading.reading, declared.mode.Mode.TheVariants.Ascii}
-use Rattle.dm_encodation.proofs.ReadsToReading.{prepend-nil}
 use Rattle.dm_encodation.proofs.DecodeLoopSteps.{goes_on, fails_at, finishes, fails_last, padded_so}
 use Rattle.dm_encodation.proofs.decoding.read_words.Goals as goal
 
 pub loop-at-init : goal.loop-at-init
 loop-at-init c =
-    record { mode = tt; so_far = ([], prepend-nil _, (omega arith, refl)); same = refl }
+    record { mode = tt; so_far = c.read_ascii-start.ensures.read; same = c.read_ascii-start.ensures.same }
 
 pub returns-in-Padded-clause-collects : goal.returns-in-Padded-clause-collects
 returns-in-Padded-clause-collects c =
