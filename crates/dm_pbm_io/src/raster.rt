@@ -11,19 +11,6 @@ use crate::packed::draw_next;
 use crate::source::{ByteSource, next_byte};
 use std::alloc::Allocator;
 
-// Adds a pixel, for which there is room.
-fn push_pixel<A: Allocator>(pixels: &mut Vec<bool, A>, pixel: bool)
-    requires { vec_len pixels.old < vec_capacity pixels.old }
-    ensures items { pixels.new.items ≡ pixels.old.items ++ pixel ∷ [] }
-    ensures len { vec_len pixels.new ≡ vec_len pixels.old + 1 }
-    ensures capacity { vec_capacity pixels.old ≤ vec_capacity pixels.new }
-{
-    match pixels.push(pixel) {
-        Ok(()) => {}
-        Err(_) => unreachable!(),
-    }
-}
-
 // The pixel that a digit stands for.
 fn pixel_of(sign: u8) -> Option<bool>
     ensures { MatchOption result (is_pixel_digit sign ≡ false) (λ pixel. sign ≡ digit_of pixel) }
@@ -63,7 +50,7 @@ pub(crate) fn read_plain<M, S: ByteSource<M>, A: Allocator>(
         let Some(pixel) = pixel_of(byte) else {
             return Err(PbmFault::Pixel);
         };
-        push_pixel(pixels, pixel);
+        pixels.push_reserved(pixel);
         if pixels.len() == count {
             return Ok(());
         }

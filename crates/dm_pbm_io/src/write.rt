@@ -55,6 +55,7 @@ fn is_black(row: &[bool], k: usize) -> bool
 const GATHER: u64 = 0x8040_2010_0804_0201;
 
 // The byte of the first eight pixels of a row that has as many.
+#[tactic(auto, using(crate::proofs::Eight::gathers_row))]
 fn byte_of_eight(row: &[bool]) -> u8
     requires { 8 ≤ length row.now }
     ensures { result ≡ number_of_first 0 row.now 8 }
@@ -73,6 +74,7 @@ fn byte_of_eight(row: &[bool]) -> u8
 }
 
 // The byte of the pixels that are left of a row. Past its end they are light.
+#[tactic(auto, using(std::proofs::lemmas::Grind::common_steps, crate::proofs::Written::bound_more, crate::proofs::Written::number_more))]
 fn byte_of_rest(row: &[bool]) -> u8
     ensures { result ≡ number_of_first 0 row.now 8 }
 {
@@ -191,6 +193,7 @@ fn write_row<M, K: ByteSink<M>>(sink: &mut K, plain: bool, row: &[bool]) -> Resu
 }
 
 // Writes the rows of an image.
+#[tactic(auto, using(std::proofs::lemmas::Grind::common_steps, crate::proofs::Written::rows_room))]
 fn write_rows<M, K: ByteSink<M>>(
     sink: &mut K,
     plain: bool,
