@@ -128,5 +128,6 @@ pub fn is_saved<R: Files, A: Allocator>(
     }
     file.sync_all()?;
     sync_folder(runtime, folder_of(path))?;
+    check_name(runtime, &file, path, REPLACED)?;
     Ok(true)
 }

@@ -78,9 +78,9 @@ pub static EXPLANATIONS: [&str; 45] = [
     correct what the line names. After `ledger`, check with `left`: the ledger\n  may be there.\n",
     "Save\n  From: all that save, except `ledger`.\n  \
     The save failed. Perhaps the disk is full, the folder is missing, the lock\n  \
-    file was removed, or the file of `--to` or `--all` has something else, or is\n  \
-    where none may be (LIMITS.md). Nothing was printed or given. But the ID or\n  \
-    the range may be used up, the ticket taken, the page held, or the document\n  forgotten.\n  \
+    file was removed, or the file of `--to` or `--all` exists and isn't just the\n  \
+    document, or is where none may be (LIMITS.md). Nothing was printed or given.\n  \
+    But the ID or the range may be used up, the ticket taken, the page held, or\n  the document forgotten.\n  \
     What to do: read the line `relay: PATH: WHY`, and correct what it names.\n  \
     Then run the command again. Before you repeat a `give`, look with `left`:\n  its IDs may be lost.\n",
     "Write\n  From: all (`read` and `scan` say nothing).\n  \

@@ -261,7 +261,7 @@ Example:
 Writes just the document, which stays at the desk. If a page is missing, nothing
 is written but `refused Incomplete`, to standard error. With `--to` the document
 is on the disk once the command exits with 0. A FILE that is there already is
-left as it is, and refused unless it has this document.
+left as it is, and refused unless it is just this document.
 
 With `--all` the same holds of each complete document, with DIR/IIII as FILE;
 DIR must be there. If a file has something else, its document is refused `Save`,
@@ -298,13 +298,12 @@ Example:
         more: "\
 The pages stay at the desk. `relay import` takes them in at another. A refusal
 goes to standard error. With `--to` the pages are on the disk once the command
-exits with 0. A FILE that is there already is left as it is, and refused unless
-it has these pages.
+exits with 0; FILE must not exist before.
 
 With `--all` the same holds of each document, complete or not, with DIR/IIII as
-FILE; DIR must be there. If a file has something else, its document is refused
-`Save`, and the next ones are saved all the same. If the desk can't be opened,
-nothing is saved.
+FILE; DIR must be there. A file that is there already stays as it was, its
+document is refused `Save`, and the next ones are saved all the same. If the
+desk can't be opened, nothing is saved.
 
 Examples:
   relay export --file desk --id 0101 > 0101.export

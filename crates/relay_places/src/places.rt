@@ -75,8 +75,8 @@ pub trait Places: Drop {
         ensures { IfOk result (λ given. Self.Input.known given ≡ known self.now name.now) };
 
     /// Saves the bytes as a new file, as stores are saved: whenever the machine stops, the whole file is there or none.
-    /// Nothing is replaced: a path that has a file with other bytes, or is that of a desk, is refused. It is done, too,
-    /// if the file has these bytes already.
+    /// Nothing is replaced: a path that has a file with other bytes, or is that of a desk, is refused. It may be done,
+    /// too, if the file has these bytes already.
     fn save_new(&mut self, path: &str, bytes: &[u8]) -> SavedNew
         ensures { SavesNew path.now bytes.now (state self.old) result.answer (state self.new) };
 }

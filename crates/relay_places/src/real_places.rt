@@ -86,19 +86,30 @@ fn folder_of<'a>(files: &Rc<CommandFiles<'a>>) -> Result<FileSet<LockedDisk<'a>>
     Ok(FileSet::new(Locked::new(files.clone()?, disk), path))
 }
 
+// What is to be said of a desk that was made, if one was, and then this.
+fn with_new_desk(files: &CommandFiles<'_>, note: Option<String>) -> Option<String> {
+    if !files.has_made_desk.get() {
+        return note;
+    }
+    let alloc = files.rt.alloc();
+    let made = note_of_reason(alloc, &files.place, Reason::NewDesk)?;
+    match note {
+        Some(note) => format!(in alloc; "{made}{note}").ok(),
+        None => Some(made),
+    }
+}
+
 // Closes the files of a command, and gives what was found out of them.
 fn close_files(files: &CommandFiles<'_>, status: u8) -> Closed {
     let reason = files.reason.get();
     let note = if status != 0 || reason.is_some() {
         note_of(files)
-    } else if files.has_made_desk.get() {
-        note_of_reason(files.rt.alloc(), &files.place, Reason::NewDesk)
     } else {
         None
     };
     files.take_lock_away();
     Closed {
-        note,
+        note: with_new_desk(files, note),
         is_absent: matches!(reason, Some(Reason::NoDesk)),
     }
 }

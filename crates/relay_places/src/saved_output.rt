@@ -46,13 +46,22 @@ fn save_at(rt: &HostRuntime, place: &Place, bytes: &[u8]) -> SavedNew {
     SavedNew { answer, note }
 }
 
-// Whether the bytes are saved at a place already, which is that of no ledger and no desk.
-fn is_saved_at(rt: &HostRuntime, place: &Place, bytes: &[u8]) -> bool {
-    let path = place.named.as_str();
-    obstacle_at(rt, place).is_none() && matches!(is_saved(rt.alloc(), rt, path, bytes), Ok(true))
+// Whether bytes may be those of a ledger, or of a file of pages.
+fn may_be_own(bytes: &[u8]) -> bool {
+    bytes.starts_with(b"DMLG") || bytes.starts_with(b"DMPG")
 }
 
-/// Saves the bytes as a new file, as stores are saved. It is done, too, if the file is there and has these bytes.
+// Whether the bytes are saved at a place already. A file that may be a ledger's or a desk's own is not theirs, since it
+// may go or change with that.
+fn is_saved_at(rt: &HostRuntime, place: &Place, bytes: &[u8]) -> bool {
+    let path = place.named.as_str();
+    !may_be_own(bytes)
+        && obstacle_at(rt, place).is_none()
+        && matches!(is_saved(rt.alloc(), rt, path, bytes), Ok(true))
+}
+
+/// Saves the bytes as a new file, as stores are saved. It is done, too, if the file is there and has these bytes, and
+/// they aren't those of a ledger or of pages.
 pub(crate) fn save_new(rt: &HostRuntime, name: &str, bytes: &[u8]) -> SavedNew {
     let named = Named {
         file: name,
