@@ -6,7 +6,7 @@ ghost use Rattle.dm_size.specs.Sizes.{all_words, blocks, block_checks, block_dat
 ghost use Rattle.dm_check_blocks.specs.Blocks.{block_of, IsSymbol};
 ghost use Rattle.dm_corrector.specs.Symbols.{Corrects, CorrectsSymbol, IsFirstFaulty, block_fault_name};
 
-use crate::block::{Uncorrectable, correct_completed, differing};
+use crate::block::{Uncorrectable, correct, correct_completed, differing};
 use crate::massey::Massey;
 use crate::syndromes::MOST_BLOCK_WORDS;
 use dm_check_blocks::complete_blocks;
@@ -100,7 +100,7 @@ fn correct_block(
 ///
 /// # Errors
 /// The first block to which no sound block is near enough; all codewords are then unchanged.
-#[tactic(auto, using(crate::proofs::SymbolBlocks::same_data))]
+#[tactic(auto, using(crate::proofs::SymbolBlocks::same_data, crate::proofs::SymbolBlocks::symbol_alone, crate::proofs::SymbolBlocks::none_alone))]
 pub fn correct_symbol(size: Size, words: &mut [u8]) -> Result<u16, BlockFault>
     requires { length words.old ≡ all_words size }
     ensures near { OnOk result (CorrectsSymbol size words.old words.new) }
@@ -113,6 +113,12 @@ pub fn correct_symbol(size: Size, words: &mut [u8]) -> Result<u16, BlockFault>
     ensures unchanged { OnErr result (words.new ≡ words.old) }
 {
     let blocks = size.blocks();
+    if blocks == 1 {
+        return match correct(words, size.block_checks()) {
+            Ok(changed) => Ok(u16::from(changed)),
+            Err(Uncorrectable) => Err(BlockFault { block: 0 }),
+        };
+    }
     let mut room = [0; MOST_SYMBOL_WORDS];
     let completed = &mut room[..words.len()];
     completed.copy_from_slice(words);

@@ -5,7 +5,7 @@ use Rattle.dm_check_blocks.specs.Blocks.{block_of}
 use Rattle.dm_corrector.specs.Symbols.{Corrects, CorrectsSymbol}
 use Rattle.dm_gf256.specs.Field.{IsSoundBlock}
 use Rattle.dm_gf256.proofs.OneBlockWord.{differ-self}
-use Rattle.dm_corrector.proofs.SymbolBlocks.{one_symbol, sound_symbol}
+use Rattle.dm_corrector.proofs.SymbolBlocks.{block_alone, one_symbol, sound_symbol, symbol_alone}
 use Rattle.dm_corrector.proofs.symbol.correct_symbol.Goals as goal
 
 -- words that were completed to themselves are clean
@@ -17,8 +17,22 @@ clean s words completed same count sound bytes =
     (subst (λ (v : List ℕ). (b : ℕ) → b < blocks s → IsSoundBlock (block_checks s) (block_of s b v)) same sound)
     (subst (λ (v : List ℕ). All (λ word. word < 256) v) same bytes)
 
-pub returns-in-Err-clause-first : goal.returns-in-Err-clause-first
-returns-in-Err-clause-first c =
+pub returns-in-Ok-clause-near : goal.returns-in-Ok-clause-near
+returns-in-Ok-clause-near c = block_alone c.args.size _ _ c.args.words.now c.correct.new.block
+    c.blocks-blocks.ensures.value c.if-blocks-eq1.true c.block_checks.ensures.value c.requires c.in-Ok.ensures.near
+
+pub returns-in-Ok-clause-block_words : goal.returns-in-Ok-clause-block_words
+returns-in-Ok-clause-block_words c =
+    let is = block_alone c.args.size _ _ c.args.words.now c.correct.new.block
+    c.blocks-blocks.ensures.value c.if-blocks-eq1.true c.block_checks.ensures.value c.requires c.in-Ok.ensures.near in
+    record { count = is.count; bytes = c.in-Ok.ensures.near.bytes; block_words = λ b l. (is.each_block b l).block_word }
+
+pub returns-in-Ok-clause-only : goal.returns-in-Ok-clause-only
+returns-in-Ok-clause-only c = λ w r. c.in-Ok.ensures.only w (symbol_alone c.args.size _ _ c.args.words.now w
+    c.blocks-blocks.ensures.value c.if-blocks-eq1.true c.block_checks.ensures.value c.requires r)
+
+pub returns-in-Err-correct_block-clause-first : goal.returns-in-Err-correct_block-clause-first
+returns-in-Err-correct_block-clause-first c =
     let s = c.args.size in
     let k = c.loop-block.block in
     let inside : k < blocks s = (let e : c.blocks-blocks.result ≡ blocks s = c.blocks-blocks.ensures.value in
@@ -26,7 +40,7 @@ returns-in-Err-clause-first c =
     let P : List ℕ → Type 0 = λ v. (w : List ℕ) → Corrects (block_checks s) v w → ⊥ in
     record {
       in_range = inside;
-      faulty = subst P (c.loop-block.invariant.rest k (omega arith) inside) c.in-Err.ensures.none;
+      faulty = subst P (c.loop-block.invariant.rest k (omega arith) inside) c.in-Err-correct_block.ensures.none;
       earlier = λ b l. (block_of s b c.loop-block.corrected, c.loop-block.invariant.done b l);
     }
 
