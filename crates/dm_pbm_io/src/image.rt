@@ -1,9 +1,8 @@
 //! Images, and their reading.
 
 ghost use Rattle.std.specs.Prelude.{◌≡◌, ◌<◌, ◌≤◌, ◌*◌, ℕ, List, [], ◌∷◌, ◌++◌, vec_capacity, Some, IsErrOf, MatchResult, MatchOption, ◌⊎◌, true};
-ghost use Rattle.std.specs.Io.KnownBytes.{Consumes, Keeps, IsAtEnd};
 ghost use Rattle.dm_pbm_io.specs.Header.{magic, StopsInRaster};
-ghost use Rattle.dm_pbm_io.specs.Image.{IsNoMagic, IsRaster, Spells, SpellsAfterMagic, Refuses, RefusesAfterMagic, picture};
+ghost use Rattle.dm_pbm_io.specs.Image.{IsNoMagic, IsRaster, Reads, Spells, SpellsAfterMagic, Refuses, RefusesAfterMagic, picture};
 ghost use Rattle.dm_pbm_io.specs.inner.Streaming.{FindsEnd, TakesBytes, TakesUntil};
 
 use crate::fault::PbmFault;
@@ -145,13 +144,7 @@ pub fn read_image<R: Read, A: Allocator + Copy>(
     alloc: A,
     reader: &mut R,
 ) -> Result<Option<Image<A>>, PbmFault>
-    ensures { MatchResult result
-        (λ found. MatchOption found
-        (Keeps (R.remaining reader.old) (R.remaining reader.new) × IsAtEnd (R.remaining reader.new))
-        (λ image. (taken : List ℕ) × Consumes (R.remaining reader.old) (R.remaining reader.new) taken
-        × Spells taken (picture image)))
-        (λ fault. (taken : List ℕ) × Consumes (R.remaining reader.old) (R.remaining reader.new) taken
-        × Refuses fault taken (R.remaining reader.new)) }
+    ensures { Reads (R.remaining reader.old) (R.remaining reader.new) result }
 {
     read_from(alloc, reader)
 }
@@ -180,13 +173,7 @@ impl<A: Allocator + Copy> Image<A> {
     /// of the input inside an image; `Memory` after the header, where the allocator refuses the pixels; `Read` where a
     /// read failed.
     pub fn read<R: Read>(alloc: A, input: &mut Input<R>) -> Result<Option<Image<A>>, PbmFault>
-        ensures read { MatchResult result
-            (λ found. MatchOption found
-            (Keeps input.old.remaining input.new.remaining × IsAtEnd input.new.remaining)
-            (λ image. (taken : List ℕ) × Consumes input.old.remaining input.new.remaining taken
-            × Spells taken (picture image)))
-            (λ fault. (taken : List ℕ) × Consumes input.old.remaining input.new.remaining taken
-            × Refuses fault taken input.new.remaining) }
+        ensures read { Reads input.old.remaining input.new.remaining result }
         ensures failed { IsErrOf result PbmFault.Read → input.new.has_failed ≡ true }
         ensures kept { IsErrOf result PbmFault.Read ⊎ (input.new.has_failed ≡ input.old.has_failed) }
     {
