@@ -1,6 +1,6 @@
 //! Images, and their reading.
 
-ghost use Rattle.std.specs.Prelude.{◌≡◌, ◌<◌, ◌≤◌, ◌*◌, ℕ, List, [], ◌∷◌, ◌++◌, vec_capacity, Some, IsErrOf, MatchResult, MatchOption, ◌⊎◌, true};
+ghost use Rattle.std.specs.Prelude.{◌≡◌, ◌<◌, ◌≤◌, ◌*◌, ℕ, List, [], ◌∷◌, ◌++◌, length, Some, IsErrOf, MatchResult, MatchOption, ◌⊎◌, true};
 ghost use Rattle.dm_pbm_io.specs.Header.{magic, StopsInRaster};
 ghost use Rattle.dm_pbm_io.specs.Image.{IsNoMagic, IsRaster, Reads, Spells, SpellsAfterMagic, Refuses, RefusesAfterMagic, picture};
 ghost use Rattle.dm_pbm_io.specs.inner.Streaming.{FindsEnd, TakesBytes, TakesUntil};
@@ -8,7 +8,7 @@ ghost use Rattle.dm_pbm_io.specs.inner.Streaming.{FindsEnd, TakesBytes, TakesUnt
 use crate::fault::PbmFault;
 use crate::header::read_size;
 use crate::limits::GREATEST_SIDE;
-use crate::raster::{push_light, read_packed, read_plain};
+use crate::raster::{read_packed, read_plain};
 use crate::source::{ByteSource, InMemory, read_byte};
 use relay_streams::Input;
 use std::alloc::{Allocator, Global};
@@ -58,30 +58,27 @@ fn read_magic<M, S: ByteSource<M>>(source: &mut S) -> Result<Option<bool>, PbmFa
     }
 }
 
-// The pixels of an image, for which there is room.
-fn read_raster<M, S: ByteSource<M>, A: Allocator>(
+// The pixels of an image, drawn over other pixels.
+fn read_raster<M, S: ByteSource<M>>(
     source: &mut S,
-    pixels: &mut Vec<bool, A>,
+    pixels: &mut [bool],
     plain: bool,
     width: u16,
     height: u16,
 ) -> Result<(), PbmFault>
-    requires empty { pixels.old.items ≡ [] }
     requires width { (0 < width) × (width ≤ GREATEST_SIDE) }
     requires height { (0 < height) × (height ≤ GREATEST_SIDE) }
-    requires room { width * height ≤ vec_capacity pixels.old }
+    requires count { length pixels.old ≡ width * height }
     ensures { MatchResult result
         (λ _. (raster : List ℕ) × TakesBytes (S.view source.old) (S.view source.new) raster
-        × IsRaster plain raster width height pixels.new.items)
+        × IsRaster plain raster width height pixels.new)
         (λ fault. (raster : List ℕ) × TakesUntil (S.view source.old) (S.view source.new) raster fault
         × StopsInRaster plain raster width height (S.view source.new).remaining fault) }
 {
-    let (width, height) = (usize::from(width), usize::from(height));
     if plain {
-        read_plain(source, pixels, width * height)
+        read_plain(source, pixels)
     } else {
-        push_light(pixels, width * height);
-        read_packed(source, pixels.as_mut_slice(), width, height)
+        read_packed(source, pixels, usize::from(width), usize::from(height))
     }
 }
 
@@ -102,7 +99,7 @@ fn read_after_magic<M, S: ByteSource<M>, A: Allocator + Copy>(
         return Err(PbmFault::TooLarge);
     }
     let count = usize::from(width) * usize::from(height);
-    let Ok(mut pixels) = Vec::with_capacity(alloc, count) else {
+    let Ok(mut pixels) = vec![in alloc; false; count] else {
         return Err(PbmFault::Memory);
     };
     read_raster(source, &mut pixels, plain, width, height)?;

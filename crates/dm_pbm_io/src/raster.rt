@@ -1,6 +1,6 @@
 //! The rasters of packed and plain images.
 
-ghost use Rattle.std.specs.Prelude.{◌≡◌, ℕ, ◌+◌, ◌*◌, ◌<◌, ◌≤◌, List, [], ◌∷◌, ◌++◌, length, replicate, vec_len, vec_capacity, MatchResult, MatchOption, false};
+ghost use Rattle.std.specs.Prelude.{◌≡◌, ℕ, ◌*◌, ◌<◌, ◌≤◌, List, length, MatchResult, MatchOption, false};
 ghost use Rattle.dm_pbm_io.specs.Header.{digit_of, is_pixel_digit, IsPackedRaster, IsPlainRaster, StopsInPlain, StopsInPacked};
 ghost use Rattle.dm_pbm_io.specs.inner.Streaming.{TakesBytes, TakesUntil};
 
@@ -9,7 +9,6 @@ use crate::header::{is_hidden, is_white};
 use crate::limits::{GREATEST_SIDE, PLAIN_BYTES};
 use crate::packed::draw_next;
 use crate::source::{ByteSource, next_byte};
-use std::alloc::Allocator;
 
 // The pixel that a digit stands for.
 fn pixel_of(sign: u8) -> Option<bool>
@@ -22,22 +21,20 @@ fn pixel_of(sign: u8) -> Option<bool>
     }
 }
 
-/// The plain raster of `count` pixels.
-pub(crate) fn read_plain<M, S: ByteSource<M>, A: Allocator>(
+/// The plain raster, drawn over other pixels.
+pub(crate) fn read_plain<M, S: ByteSource<M>>(
     source: &mut S,
-    pixels: &mut Vec<bool, A>,
-    count: usize,
+    pixels: &mut [bool],
 ) -> Result<(), PbmFault>
-    requires empty { pixels.old.items ≡ [] }
-    requires some { 0 < count }
-    requires room { count ≤ vec_capacity pixels.old }
+    requires { 0 < length pixels.old }
     ensures { MatchResult result
         (λ _. (raster : List ℕ) × TakesBytes (S.view source.old) (S.view source.new) raster
-        × IsPlainRaster raster count pixels.new.items)
+        × IsPlainRaster raster (length pixels.old) pixels.new)
         (λ fault. (raster : List ℕ) × TakesUntil (S.view source.old) (S.view source.new) raster fault
-        × StopsInPlain raster count (S.view source.new).remaining fault) }
+        × StopsInPlain raster (length pixels.old) (S.view source.new).remaining fault) }
 {
     let mut inside = false;
+    let mut drawn = 0;
     for taken in 0..PLAIN_BYTES {
         let byte = next_byte(source)?;
         inside = is_hidden(inside, byte);
@@ -50,24 +47,13 @@ pub(crate) fn read_plain<M, S: ByteSource<M>, A: Allocator>(
         let Some(pixel) = pixel_of(byte) else {
             return Err(PbmFault::Pixel);
         };
-        pixels.push_reserved(pixel);
-        if pixels.len() == count {
+        pixels[drawn] = pixel;
+        drawn += 1;
+        if drawn == pixels.len() {
             return Ok(());
         }
     }
     Err(PbmFault::TooLarge)
-}
-
-/// Adds light pixels, for which there is room.
-pub(crate) fn push_light<A: Allocator>(pixels: &mut Vec<bool, A>, count: usize)
-    requires { vec_len pixels.old + count ≤ vec_capacity pixels.old }
-    ensures items { pixels.new.items ≡ pixels.old.items ++ replicate count false }
-    ensures capacity { vec_capacity pixels.old ≤ vec_capacity pixels.new }
-{
-    match pixels.resize(pixels.len() + count, false) {
-        Ok(()) => {}
-        Err(_) => unreachable!(),
-    }
 }
 
 /// The packed raster of `height` rows, drawn over other pixels.

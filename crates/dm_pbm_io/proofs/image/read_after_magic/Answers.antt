@@ -1,6 +1,6 @@
-use Rattle.std.proofs.Common.{◌++◌, refl, arith}
-use Rattle.std.proofs.lemmas.Result.{err_from_is_err_and}
-use Rattle.dm_pbm_io.proofs.Streaming.{takes-trans, until-trans, until-now, too_large_not_read, memory_not_read}
+use Rattle.std.proofs.Common.{◌++◌, length, drop, refl, arith}
+use Rattle.std.proofs.lemmas.{List.take_at, Result.err_from_is_err_and}
+use Rattle.dm_pbm_io.proofs.Streaming.{takes-trans, until-trans, until-now}
 use Rattle.dm_pbm_io.specs.Image.RefusesAfterMagic.{in_header, too_large, no_memory, in_raster}
 use Rattle.dm_pbm_io.proofs.Sizes.{small, above}
 use Rattle.dm_pbm_io.proofs.image.read_after_magic.Goals as goal
@@ -15,7 +15,7 @@ pub returns-then-width-gt-GREATEST_SIDE : goal.returns-then-width-gt-GREATEST_SI
 returns-then-width-gt-GREATEST_SIDE g c =
     let size = c.in_ok-width.ensures in (
       size.0,
-      until-now _ _ _ _ size.3 too_large_not_read,
+      until-now _ _ _ _ size.3 (λ e. cc),
       too_large size.1 size.2 size.4
           (above size.1 size.2 _ _ size.5 size.6 c.then-width-gt-GREATEST_SIDE.either),
     )
@@ -24,7 +24,7 @@ pub returns-in_default : goal.returns-in_default
 returns-in_default g c =
     let size = c.in_ok-width.ensures in (
       size.0,
-      until-now _ _ _ _ size.3 memory_not_read,
+      until-now _ _ _ _ size.3 (λ e. cc),
       no_memory c.in_ok-width.width c.in_ok-width.height
           (small size.0 size.1 size.2 _ _ size.4 size.5 size.6 (omega arith) (omega arith)),
     )
@@ -53,7 +53,8 @@ returns g c =
         raster = read.0;
         bytes_are = refl;
         header = small size.0 size.1 size.2 _ _ size.4 size.5 size.6 (omega arith) (omega arith);
-        raster_is = read.2;
+        raster_is = rw (take_at c.read_raster.new.pixels
+            (drop (length c.read_raster.new.pixels) c.in-Ok.pixels.items) c.in-Ok.pixels.len (omega (arith, c.read_raster.auto.pixels))) read.2;
       },
       refl,
     )
