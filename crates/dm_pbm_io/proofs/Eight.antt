@@ -1,5 +1,5 @@
 -- Eight pixels that are gathered by one multiplication.
-use Rattle.std.proofs.Common.{arith, ◌≡◌, ◌==◌, ℕ, zero, suc, ◌*◌, ◌/◌, ◌%◌, Bool, true, false, ◌&&◌, List, [], ◌∷◌, get_or, length, map, refl, sym, ◌∙◌}
+use Rattle.std.proofs.Common.{arith, ◌≡◌, ◌==◌, ℕ, zero, suc, ◌*◌, ◌/◌, ◌%◌, Bool, true, false, ◌&&◌, List, [], ◌∷◌, get_or, length, map, refl, ◌∙◌}
 use Rattle.std.proofs.lemmas.Bool.{and_parts, eqb-true}
 use Rattle.std.specs.Int.{from_le_bytes, w64}
 use mir.Val.{bool_byte}
@@ -11,11 +11,11 @@ abbrev pub gathered : List ℕ → ℕ
 gathered bytes = from_le_bytes w64 bytes * 9241421688590303745 % 18446744073709551616 / 72057594037927936
 
 -- whether a test holds of each row of so many pixels
-holds_of_all : ℕ → (List Bool → Bool) → Bool
+unfoldable pub holds_of_all : ℕ → (List Bool → Bool) → Bool
 holds_of_all zero test = test []
 holds_of_all (suc n) test = holds_of_all n (λ row. test (true ∷ row)) && holds_of_all n (λ row. test (false ∷ row))
 
-holds_of_one : (n : ℕ) (test : List Bool → Bool) (row : List Bool) → length row ≡ n → holds_of_all n test ≡ true
+pub holds_of_one : (n : ℕ) (test : List Bool → Bool) (row : List Bool) → length row ≡ n → holds_of_all n test ≡ true
     → test row ≡ true
 unfolding holds_of_all
 holds_of_one zero test [] count all = all

@@ -14,9 +14,7 @@ pub fronts : (a b x y : List ℕ) → a ++ x ≡ b ++ y
     → ((d : List ℕ) × (b ≡ a ++ d) × (x ≡ d ++ y)) ⊎ ((d : List ℕ) × (a ≡ b ++ d) × (y ≡ d ++ x))
 fronts [] b x y e = inl (b, refl, e)
 fronts (u ∷ a) [] x y e = inr (u ∷ a, refl, sym e)
-fronts (u ∷ a) (v ∷ b) x y e =
-    let h : u ≡ v = cc in
-    let t : a ++ x ≡ b ++ y = cc in grind (arith, fronts a b x y t)
+fronts (u ∷ a) (v ∷ b) x y e = let h : u ≡ v = cc in grind (arith, fronts a b x y (cc))
 
 -- what shows no sign and ends outside of a comment is nothing
 open_stays : (d : List ℕ) → signs_from true d ≡ [] → in_comment true d ≡ true
@@ -55,9 +53,7 @@ same_fronts [] [] x y n e = (refl, e)
 same_fronts [] (v ∷ b) x y n e = absurd (omega arith)
 same_fronts (u ∷ a) [] x y n e = absurd (omega arith)
 same_fronts (u ∷ a) (v ∷ b) x y n e =
-    let h : u ≡ v = cc in
-    let t : a ++ x ≡ b ++ y = cc in
-    let m = same_fronts a b x y (omega arith) t in (cc (h, m.0), m.1)
+    let h : u ≡ v = cc in let m = same_fronts a b x y (omega arith) (cc) in (cc (h, m.0), m.1)
 
 same_rows : (n : ℕ) (a b : List (List ℕ)) → AllByRecursion (λ r. length r ≡ n) a → AllByRecursion (λ r. length r ≡ n) b
     → length a ≡ length b → concat a ≡ concat b → a ≡ b
@@ -86,8 +82,7 @@ same_digits [] [] e = refl
 same_digits [] (v ∷ q) e = cc
 same_digits (u ∷ p) [] e = cc
 same_digits (u ∷ p) (v ∷ q) e =
-    let h : digit_of u ≡ digit_of v = cc in
-    let t : map digit_of p ≡ map digit_of q = cc in grind (arith, same_digits p q t)
+    let h : digit_of u ≡ digit_of v = cc in grind (arith, same_digits p q (cc))
 
 pub length-digits : (p : List Bool) → length (map digit_of p) ≡ length p
 length-digits [] = refl

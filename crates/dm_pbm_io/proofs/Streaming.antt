@@ -6,7 +6,7 @@ use Rattle.relay_streams.proofs.Parts.{part_more, part_after}
 use Rattle.relay_streams.specs.Streams.{AppendsPart, InputView, OutputView}
 use Rattle.dm_pbm_io.specs.inner.Streaming.{TakesBytes, FindsEnd, Remembers, TakesUntil, AppendsText}
 use Rattle.dm_pbm_io.specs.declared.fault.PbmFault.{PbmFault}
-use Rattle.dm_pbm_io.specs.declared.fault.PbmFault.TheVariants.{Magic, Header, TooLarge, Cut, Pixel, Read, Memory}
+use Rattle.dm_pbm_io.specs.declared.fault.PbmFault.TheVariants.{Read}
 
 -- nothing is taken yet
 pub takes-nil : (a : InputView) → TakesBytes a a []
@@ -53,25 +53,6 @@ until-now a b bs fault p n = record { consumed = p.consumed; remembers = remembe
 pub until-end : (a b c : InputView) (bs : List ℕ) (fault : PbmFault) → TakesBytes a b bs → FindsEnd b c → fault ≢ Read →
     TakesUntil a c bs fault
 until-end a b c bs fault p q n = grind arith
-
--- the faults that are not `Read`
-pub magic_not_read : Magic ≢ Read
-magic_not_read e = cc
-
-pub header_not_read : Header ≢ Read
-header_not_read e = cc
-
-pub too_large_not_read : TooLarge ≢ Read
-too_large_not_read e = cc
-
-pub cut_not_read : Cut ≢ Read
-cut_not_read e = cc
-
-pub pixel_not_read : Pixel ≢ Read
-pixel_not_read e = cc
-
-pub memory_not_read : Memory ≢ Read
-memory_not_read e = cc
 
 -- nothing is written yet
 pub adds-nil : (a : OutputView) → AppendsText a a []

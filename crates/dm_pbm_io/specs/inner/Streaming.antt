@@ -76,9 +76,8 @@ walk (Some state) (s ∷ text) = walk (next_state state s) text
 
 -- the number at the state stays within its bound
 abbrev pub HasNumber : HeaderState → Type 0
-HasNumber AfterMagic = Unit {0}
-HasNumber BeforeWidth = Unit {0}
 HasNumber (InWidth n) = n ≤ 1025
 HasNumber (BeforeHeight w) = w ≤ 1025
 HasNumber (InHeight w n) = (w ≤ 1025) × (n ≤ 1025)
 HasNumber (Done w h) = (w ≤ 1025) × (h ≤ 1025)
+HasNumber _ = Unit {0}

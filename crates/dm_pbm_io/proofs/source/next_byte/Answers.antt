@@ -1,6 +1,6 @@
 use Rattle.std.proofs.lemmas.Result.{err_from_is_err_and}
 use Rattle.dm_pbm_io.specs.Header.HasNoByte.{ended, failed}
-use Rattle.dm_pbm_io.proofs.Streaming.{takes-nil, until-end, cut_not_read}
+use Rattle.dm_pbm_io.proofs.Streaming.{takes-nil, until-end}
 use Rattle.dm_pbm_io.proofs.source.next_byte.Goals as goal
 
 pub returns-in_err-byte : goal.returns-in_err-byte
@@ -12,4 +12,4 @@ returns-in_err-byte g c =
 pub returns-in-None : goal.returns-in-None
 returns-in-None g c =
     let end = rw c.in-None.is at c.in_ok-byte.ensures in
-    (until-end _ _ _ _ _ (takes-nil _) end cut_not_read, ended end.end)
+    (until-end _ _ _ _ _ (takes-nil _) end (λ e. cc), ended end.end)

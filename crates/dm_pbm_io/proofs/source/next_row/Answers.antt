@@ -1,13 +1,13 @@
 use Rattle.std.proofs.Common.{take, refl, rules, arith}
 use Rattle.dm_pbm_io.specs.Header.HasNoByte.{ended, failed}
-use Rattle.dm_pbm_io.proofs.Streaming.{remembers-other, cut_not_read}
+use Rattle.dm_pbm_io.proofs.Streaming.{remembers-other}
 use Rattle.dm_pbm_io.proofs.source.next_row.Goals as goal
 
 pub returns-in-Ok : goal.returns-in-Ok
 returns-in-Ok g c =
     let front = c.in-Ok.ensures.taken in (
       take c.in-Ok.count c.fill_buffer.new.buffer,
-      record { consumed = front.filled.consumed; remembers = remembers-other _ _ _ front.kept cut_not_read },
+      record { consumed = front.filled.consumed; remembers = remembers-other _ _ _ front.kept (λ e. cc) },
       search rules,
       ended (front.filled.ended (omega arith)),
     )
