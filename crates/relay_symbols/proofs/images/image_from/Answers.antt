@@ -1,16 +1,9 @@
-use Rattle.std.proofs.Common.{rules, inl, refl, arith, ◌≡◌, ◌+◌, Bool, true, false, ◌++◌, ℕ, List, [], Some, length, ◌∙◌, sym}
-use Rattle.dm_pbm_io.specs.{Header.magic, Image.Refuses, Laws.IsNotRefused, Laws.IsOfBytes, declared.fault.PbmFault.PbmFault}
+use Rattle.std.proofs.Common.{rules, inl, refl, arith, ◌≡◌, ◌++◌, ℕ, List, Some, ◌∙◌, sym}
+use Rattle.dm_pbm_io.specs.{Image.Refuses, Laws.IsNotRefused, Laws.IsOfBytes, declared.fault.PbmFault.PbmFault}
 use Rattle.relay_symbols.specs.Symbols.{ShowsNone}
 use Rattle.relay_symbols.proofs.images.image_from.Goals as goal
 
--- When bytes show no grid.
-starts : (plain : Bool) (rest : List ℕ) → length (magic plain ++ rest) ≡ 2 + length rest
-starts true rest = omega arith
-starts false rest = omega arith
-
-none_of_nothing : (bytes : List ℕ) → bytes ≡ [] → ShowsNone bytes
-none_of_nothing bytes e grid s = grind (arith, starts s.shown.plain)
-
+-- what is refused shows no grid
 none_of_refused : IsNotRefused → (bytes : List ℕ) (fault : PbmFault) (taken rest : List ℕ) → bytes ≡ taken ++ rest
     → IsOfBytes fault → Refuses fault taken (Some rest) → ShowsNone bytes
 none_of_refused law bytes fault taken rest e of_bytes refused grid s =

@@ -1,4 +1,4 @@
-use Rattle.std.proofs.Common.{◌≡◌, ◌∙◌, sym, subst, refl, ℕ, List}
+use Rattle.std.proofs.Common.{◌∙◌, sym, subst, refl, ℕ, List}
 use Rattle.dm_pbm_io.specs.{Image.HasShape, Image.Picture, Laws.HasOneImage}
 use Rattle.relay_symbols.specs.Symbols.{BeginsWithPicture, ShowsNone}
 use Rattle.relay_symbols.proofs.images.lent_grid.Goals as goal
