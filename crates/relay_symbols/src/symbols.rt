@@ -6,8 +6,9 @@ ghost use Rattle.relay_symbols.specs.Symbols.{AnswersCode, DrawsText, DrawsWords
 use crate::images::{grid_image, image_from, lent_grid};
 use crate::refusal::{Refusal, answer};
 use dm_encodation::{DecodeFault, EncodeFault, Scheme, decode, encode};
+use dm_placement::MOST_WORDS;
 use dm_size::Size;
-use dm_symbol::{correct_grid, draw_symbol, draw_words};
+use dm_symbol::{correct_words, draw_symbol, draw_words};
 use std::alloc::{Allocator, Global};
 
 // The bytes of the image of the symbol of a text.
@@ -80,10 +81,12 @@ fn text_of<A: Allocator + Copy>(alloc: A, image: &[u8]) -> Result<Vec<u8, A>, Re
 {
     let image = image_from(alloc, image)?;
     let grid = lent_grid(&image)?;
-    let Ok(symbol) = correct_grid(&grid) else {
+    let mut room = [0; MOST_WORDS];
+    let words = &mut room[..grid.size().all_words()];
+    let Ok(_) = correct_words(&grid, words) else {
         return Err(Refusal::TooManyWrong);
     };
-    match decode(alloc, symbol.data(), 0) {
+    match decode(alloc, &words[..grid.size().data_words()], 0) {
         Ok(text) => Ok(text),
         Err(DecodeFault::Memory) => Err(Refusal::NoMemory),
         Err(_) => Err(Refusal::NoText),
