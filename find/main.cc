@@ -42,7 +42,7 @@ int number_in(const char *word) {
     return length >= 1 && length <= 4 && strspn(word, "0123456789") == length ? atoi(word) : 0;
 }
 
-// Reads the words of a command line; false where one is wrong.
+// Reads the words of a command line. Where one is wrong, says so and answers false.
 bool read_line(int count, char **words, Line &line) {
     bool are_names = false;
     for (int i = 1; i < count; i++) {
@@ -53,7 +53,11 @@ bool read_line(int count, char **words, Line &line) {
             line.names.push_back(nullptr);
         } else if (word == "--") {
             are_names = true;
-        } else if (word != "--labels" || i + 1 == count || (line.labels = number_in(words[++i])) == 0) {
+        } else if (word != "--labels") {
+            fprintf(stderr, "relay-find: there is no option %s; --help says more\n", word.c_str());
+            return false;
+        } else if (i + 1 == count || (line.labels = number_in(words[++i])) == 0) {
+            fputs("relay-find: --labels needs a number from 1 to 9999\n", stderr);
             return false;
         }
     }
@@ -135,7 +139,6 @@ int main(int count, char **words) {
     }
     Line line;
     if (!read_line(count, words, line)) {
-        fputs(USAGE, stderr);
         return 2;
     }
     bool is_well = true;
