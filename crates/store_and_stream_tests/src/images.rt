@@ -40,6 +40,33 @@ fn bytes_are_refused(rt: HostRuntime) {
     }
 }
 
+// The fault of these bytes and more of one kind, and how many of them are not read.
+fn left_unread(
+    alloc: Global,
+    begin: &[u8],
+    more: u8,
+    count: usize,
+) -> Result<(Option<PbmFault>, usize), AllocError> {
+    let mut bytes = Vec::new(alloc);
+    bytes.extend_from_slice(begin)?;
+    let rest = vec![in alloc; more; count]?;
+    bytes.extend_from_slice(&rest)?;
+    let mut reader = bytes.as_slice();
+    let fault = read_image(alloc, &mut reader).err();
+    Ok((fault, reader.len()))
+}
+
+// A header has at most 4,096 bytes, and a plain raster 4,194,304. Nothing beyond is read.
+#[test]
+fn input_without_an_end_is_read_up_to_its_limit(rt: HostRuntime) {
+    let header = left_unread(rt.alloc(), b"P4", b' ', 5_000).expect(&rt, "memory");
+    assert!(rt; header == (Some(PbmFault::Header), 906));
+    let remark = left_unread(rt.alloc(), b"P4 #", b'x', 5_000).expect(&rt, "memory");
+    assert!(rt; remark == (Some(PbmFault::Header), 908));
+    let raster = left_unread(rt.alloc(), b"P1 12 12\n#", b'x', 4_200_000).expect(&rt, "memory");
+    assert!(rt; raster == (Some(PbmFault::TooLarge), 5_697));
+}
+
 // A black image of one row.
 fn black_row(alloc: Global, width: u16, plain: bool) -> Result<Image, AllocError>
     ensures { IfOk result (λ image. length image.pixels.items ≡ image.width * image.height) }

@@ -81,11 +81,13 @@ fn words_are_placed_and_lifted(rt: HostRuntime) {
     assert!(rt; is_lifted(rt.alloc(), &drawn).expect(&rt, "it is done"));
 }
 
-// Of the 36 modules on the frame of side 10 nine are light. No size has 11 modules along a side.
+// Of the 36 modules on the frame of side 10 nine are light, and 27 dark. No size has 11 modules along a side.
 #[test]
 fn grids_without_a_frame_are_refused(rt: HostRuntime) {
     let dark = Grid::of_modules(rt.alloc(), 10, &[true; 100]).expect(&rt, "it is done");
     assert!(rt; unframe(rt.alloc(), &dark).err() == Some(FrameFault::Border { wrong: 9 }));
+    let light = Grid::of_modules(rt.alloc(), 10, &[false; 100]).expect(&rt, "it is done");
+    assert!(rt; unframe(rt.alloc(), &light).err() == Some(FrameFault::Border { wrong: 27 }));
     assert!(rt; Grid::of_modules(rt.alloc(), 11, &[true; 121]).err() == Some(GridFault::Side));
     assert!(rt; Grid::of_modules(rt.alloc(), 10, &[true; 99]).err() == Some(GridFault::Side));
 }
