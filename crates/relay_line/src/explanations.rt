@@ -5,8 +5,8 @@ pub static EXPLANATIONS: [&str; 45] = [
     "Side\n  From: `words`, `draw`, `print`, `copy`.\n  No symbol has this side.\n  \
     What to do: use an even side from 10 to 26, or 32, 36, 40, 44, 48, 52, 64,\n  72, 80, 88, 96, 104, 120 or 132.\n",
     "TooLong\n  From: `words`, `draw`, `print`, `plan`, `copy`.\n  \
-    The document doesn't fit the symbol, 16 labels, or as many as `--labels`\n  \
-    allows. For `copy`, the page doesn't fit. Side 10 is too small for a label.\n  \
+    The document doesn't fit into the symbol, into 16 labels, or into as many as\n  \
+    `--labels` allows. For `copy`, the page doesn't fit. Side 10 is too small\n  for a label.\n  \
     What to do: use a larger side, more labels or another scheme (`plan` shows\n  which), or split the document.\n",
     "Range\n  From: `ledger`, `give`, `world`.\n  The first ID is above the last, or the last is above 64,515.\n  \
     What to do: correct the IDs.\n",
@@ -58,9 +58,9 @@ pub static EXPLANATIONS: [&str; 45] = [
     a page may be misread or foreign: `forget` its ID, and scan your own labels\n  again.\n",
     "Full\n  The desk of `scan` or `import` already holds as many documents as its\n  capacity.\n  \
     What to do: `deliver` and `forget` complete documents, or give a larger\n  `--capacity`, up to 1,024.\n",
-    "TooMany\n  More follows in one file after 65,536 images. Or `audit` got more than\n  \
-    1,048,576 bytes of tickets.\n  What to do: split the file. For `audit`, no two parts together may exceed\n  \
-    that: run it on every pair.\n\n  From: the commands of desks, except `held` without `--long`.\n  \
+    "TooMany\n  A file has more than 65,536 images. Or `audit` got more than 1,048,576 bytes\n  of tickets.\n  \
+    What to do: split the file. For `audit`, no two parts together may exceed\n  that: run it on every pair.\n\n  \
+    From: the commands of desks, except `held` without `--long`.\n  \
     The desk holds more documents than its capacity. Without `--capacity`, that\n  \
     is 64 for `scan` and `import`, and 1,024 for others.\n  \
     What to do: give a larger `--capacity`, up to 1,024. Beyond that, while no\n  \
@@ -87,7 +87,9 @@ pub static EXPLANATIONS: [&str; 45] = [
     The output refused a write. What was saved stays saved: the ledger is made,\n  \
     the ID used, the range given or taken, the pages held, or the document\n  forgotten.\n  \
     What to do: check with `left` or `held` first. If labels were cut off, print\n  \
-    the document again, and forget the old ID at each desk. The ticket of a\n  `give` is lost.\n",
+    the document again, and forget the old ID at each desk. The ticket of a\n  \
+    `give` isn't printed again: write its digits yourself (FORMATS), with the\n  \
+    serial that `left` shows as `given`, less one.\n",
     "NotALedger\n  From: `print`, `give`, `take`, `left`, `audit`.\n  The file is not a ledger, or it is damaged.\n  \
     What to do: check the file's name. A damaged ledger is lost: replace it\n  (LIMITS.md).\n",
     "Damaged\n  From: `print`, `give`, `take`, `left`, `audit`.\n  The file is not a ledger, or it is damaged.\n  \

@@ -246,8 +246,7 @@ desks, it first moves documents in an old file at DESK to DESK.pages.
 
 A desk is made with its first page. The capacity is not remembered: give it at
 each `scan` and `import`. A desk that holds more documents than that is refused
-`TooMany`. Other commands take up to 1024, `held` without --long
-any number.
+`TooMany`. Other commands take up to 1024, `held` without --long any number.
 
 Example:
   relay scan --file desk < labels.pbm",
@@ -275,7 +274,7 @@ can't be saved, none is forgotten. Incomplete documents stay. After a stop
 run it again with the same DIR, which keeps what was forgotten.
 
 Examples:
-  relay deliver --file desk --id 0101 > letter
+  relay deliver --file desk --id 0101 --to letter
   relay deliver --file desk --all folder",
     },
     Page {
@@ -336,10 +335,11 @@ Prints a line for each document of which a page is held: `IIII n complete`, or
 `IIII n lacks 3 7 12`: its ID, its number of pages, and which are missing. With
 --id it prints the line of that document alone, or a refusal. A file that can't
 be used doesn't hide the others: `file FILE NAME ID` comes in its place, and the
-exit status is 1. FILE is its name in the folder DESK.pages, which goes with ID,
-if with any, or `joint` for an old file at DESK, which may hold the document of
---id. Without --long nothing is saved, and another program may save meanwhile.
-A refusal goes to standard output: `refused Absent` where no desk is.
+exit status is 1. FILE is its name in the folder DESK.pages, and ID the one that
+this name stands for, if any; or FILE is `joint`, an old file at DESK, which may
+hold the document of --id. Without --long nothing is saved, and another program
+may save meanwhile. A refusal goes to standard output: `refused Absent` where no
+desk is.
 
 With --long each line says more:
   0101 3 lacks 2, 2 of 3 labels, 512 bytes, \"Dear Sir,\\n\"
