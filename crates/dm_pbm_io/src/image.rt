@@ -2,7 +2,7 @@
 
 ghost use Rattle.std.specs.Prelude.{◌≡◌, ◌<◌, ◌≤◌, ◌*◌, ℕ, List, [], ◌∷◌, ◌++◌, length, Some, IsErrOf, MatchResult, MatchOption, ◌⊎◌, true};
 ghost use Rattle.dm_pbm_io.specs.Header.{magic, StopsInRaster};
-ghost use Rattle.dm_pbm_io.specs.Image.{IsNoMagic, IsRaster, Reads, Spells, SpellsAfterMagic, Refuses, RefusesAfterMagic, picture};
+ghost use Rattle.dm_pbm_io.specs.Image.{IsNoMagic, IsRaster, ReadsImage, Spells, SpellsAfterMagic, Refuses, RefusesAfterMagic, picture};
 ghost use Rattle.dm_pbm_io.specs.inner.Streaming.{FindsEnd, TakesBytes, TakesUntil};
 
 use crate::fault::PbmFault;
@@ -141,7 +141,7 @@ pub fn read_image<R: Read, A: Allocator + Copy>(
     alloc: A,
     reader: &mut R,
 ) -> Result<Option<Image<A>>, PbmFault>
-    ensures { Reads (R.remaining reader.old) (R.remaining reader.new) result }
+    ensures { ReadsImage (R.remaining reader.old) (R.remaining reader.new) result }
 {
     read_from(alloc, reader)
 }
@@ -170,7 +170,7 @@ impl<A: Allocator + Copy> Image<A> {
     /// of the input inside an image; `Memory` after the header, where the allocator refuses the pixels; `Read` where a
     /// read failed.
     pub fn read<R: Read>(alloc: A, input: &mut Input<R>) -> Result<Option<Image<A>>, PbmFault>
-        ensures read { Reads input.old.remaining input.new.remaining result }
+        ensures read { ReadsImage input.old.remaining input.new.remaining result }
         ensures failed { IsErrOf result PbmFault.Read → input.new.has_failed ≡ true }
         ensures kept { IsErrOf result PbmFault.Read ⊎ (input.new.has_failed ≡ input.old.has_failed) }
     {
