@@ -85,7 +85,7 @@ module _ (old new : DiskState) (name draft : List ℕ) (wanted : Content) where
 
   -- or at the sync of the entry
   pub ends_late : (mid : DiskState) (put answer : Answer) → IsOk put → PutsFile old name draft wanted put mid
-      → KeepsAll mid new → SyncsEntry mid name answer new → SavesFile old name draft wanted answer new
+      → KeepsAll mid new → SyncsEntry name answer new → SavesFile old name draft wanted answer new
   ends_late mid put answer ok puts still syncs =
       let entry = still name in
       let on : mid.is_synced name = puts.synced (inl ok) in
@@ -98,7 +98,7 @@ module _ (old new : DiskState) (name draft : List ℕ) (wanted : Content) where
           synced = λ _. entry.synced on;
           left = λ content leaves. puts.left content (entry.left content leaves);
         };
-        lasting = λ done. syncs done on;
+        lasting = λ done. syncs done (entry.synced on);
       }
 
   -- calls on the draft come before a save

@@ -1,6 +1,6 @@
 -- What contracts see of a disk: what a reader finds under each name, and what a stop of the machine may leave there.
 -- A stop may come at any moment: a call that it cuts short is a call that fails, and so is each later one.
-use Rattle.std.specs.Prelude.{◌≡◌, ◌≢◌, ◌+◌, ◌⊎◌, ◌++◌, ℕ, Bool, List, take, codes, Option, None, Some, option_map, Result, IsOk, IsErr, IsSome, IfOk, ◌<◌, ◌/◌, ◌%◌, ◌^◌, zero, suc, false, true, [], ◌∷◌, if◌then◌else◌, ⊤}
+use Rattle.std.specs.Prelude.{◌≡◌, ◌≢◌, ◌+◌, ◌⊎◌, ◌++◌, ℕ, Bool, List, take, codes, Option, None, Some, option_map, Result, IsOk, IsErr, IsSome, IfOk, ◌<◌, ◌/◌, ◌%◌, ◌^◌, zero, suc, false, true, [], ◌∷◌, if◌then◌else◌, IsTrue, ⊤}
 use Rattle.std.specs.Fmt.{digit_glyph}
 use Rattle.std.specs.FinMap as map
 use Rattle.dm_store.specs.declared.store.StoreFault.{StoreFault}
@@ -88,8 +88,8 @@ IsSettled disk name = (content : Content) → disk.may_leave name content → co
 
 -- The entry of the name in its folder, or its absence, is brought to the disk. If the file's bytes are there too, the
 -- name is settled then.
-abbrev pub SyncsEntry : DiskState → List ℕ → Result (Unit {0}) StoreFault → DiskState → Type 0
-SyncsEntry old name answer new = IsOk answer → old.is_synced name → IsSettled new name
+abbrev pub SyncsEntry : List ℕ → Result (Unit {0}) StoreFault → DiskState → Type 0
+SyncsEntry name answer new = IsOk answer → new.is_synced name → IsSettled new name
 
 -- A save of this content under a name by way of a draft, or a remove, done or not. A stop in it, or after it, leaves
 -- what it might have left before, or this content; once it is done, only this content. No third name is touched.
@@ -117,8 +117,8 @@ abbrev pub key_path : List ℕ → ℕ → List ℕ
 key_path folder key = path_in folder (key_name key)
 
 -- the entry of each key's file in a folder is brought to the disk
-abbrev pub SettlesFolder : DiskState → List ℕ → Result (Unit {0}) StoreFault → DiskState → Type 0
-SettlesFolder old folder answer new = (key : ℕ) → key < 2 ^ 16 → SyncsEntry old (key_path folder key) answer new
+abbrev pub SettlesFolder : List ℕ → Result (Unit {0}) StoreFault → DiskState → Type 0
+SettlesFolder folder answer new = (key : ℕ) → key < 2 ^ 16 → SyncsEntry (key_path folder key) answer new
 
 -- the map with what is found at a key
 abbrev pub with_found : Contents → ℕ → Content → Contents
@@ -147,6 +147,13 @@ set_in disk folder = record {
   load_plan = LoadsOpen;
   save_plan = SavesOpen;
 }
+
+-- of an honest disk: no stop takes back the file under a name, if its bytes are on the disk; nor any file of a folder
+abbrev pub IsFileSettled : DiskState → List ℕ → Type 0
+IsFileSettled disk name = IsTrue disk.is_honest → disk.is_synced name → IsSettled disk name
+
+abbrev pub IsFolderSettled : DiskState → List ℕ → Type 0
+IsFolderSettled disk folder = (key : ℕ) → key < 2 ^ 16 → IsFileSettled disk (key_path folder key)
 
 -- what contracts see of a store in a file: its disk, and the name of its file; and the same of a set in a folder
 pub record Filed (D : Type 0) : Type 0 where

@@ -60,14 +60,14 @@ pub trait Disk: Drop {
         ensures honesty { (state self.new).is_honest ≡ (state self.old).is_honest }
         ensures kept { KeepsAll (state self.old) (state self.new) }
         ensures syncs { IsTrue (state self.old).is_honest
-            → SyncsEntry (state self.old) name.now result (state self.new) };
+            → SyncsEntry name.now result (state self.new) };
 
     /// The same for what a reader found, which a file system that can't sync folders keeps as it can: that is no fault.
     fn settle_entry(&mut self, name: &str) -> Result<(), StoreFault>
         ensures honesty { (state self.new).is_honest ≡ (state self.old).is_honest }
         ensures kept { KeepsAll (state self.old) (state self.new) }
         ensures syncs { IsTrue (state self.old).is_honest
-            → SyncsEntry (state self.old) name.now result (state self.new) }
+            → SyncsEntry name.now result (state self.new) }
     {
         self.sync_entry(name)
     }
@@ -95,5 +95,5 @@ pub trait Folders: Disk {
         ensures honesty { (Self.state self.new).is_honest ≡ (Self.state self.old).is_honest }
         ensures kept { KeepsAll (Self.state self.old) (Self.state self.new) }
         ensures settles { IsTrue (Self.state self.old).is_honest
-            → SettlesFolder (Self.state self.old) folder.now result (Self.state self.new) };
+            → SettlesFolder folder.now result (Self.state self.new) };
 }

@@ -1,7 +1,7 @@
 //! A set of stores in a folder of a disk, with a file for each key.
 
 ghost use Rattle.std.specs.Prelude.{◌≡◌, ◌<◌, ◌≢◌, ◌^◌, ℕ, None, Some, Err, IsErr, IsOk, IsErrOf, IsTrue};
-ghost use Rattle.dm_disk.specs.Disk.{KeepsFile, KeepsAll, SavesFile, IsSettled, draft_of, key_path, set_in};
+ghost use Rattle.dm_disk.specs.Disk.{KeepsFile, KeepsAll, SavesFile, IsFolderSettled, draft_of, key_path, set_in};
 ghost use Rattle.dm_store.specs.Saved.{ListsKeys, LoadsKey, Settles, SavesKey, RemovesKey, MayLackMemory};
 
 use crate::disk::{Disk, Folders};
@@ -66,6 +66,8 @@ impl<D: Folders, A: Allocator> StoreSet for Filed<D, AtFolder, A> {
 
     ghost state = { λ f. set_in (D.state f.disk) f.path };
 
+    ghost is_settled = { λ f. IsFolderSettled (D.state f.disk) f.path };
+
     fn keys(&mut self, limit: usize) -> Result<Vec<u16, D::Memory>, StoreFault>
         ensures lists { ListsKeys (λ keys. keys.items)
             (set_in (D.state self.old.disk) self.old.path) limit result
@@ -95,10 +97,7 @@ impl<D: Folders, A: Allocator> StoreSet for Filed<D, AtFolder, A> {
             (set_in (D.state self.new.disk) self.new.path) }
         ensures folder { self.new.path ≡ self.old.path }
         ensures kept { KeepsAll (D.state self.old.disk) (D.state self.new.disk) }
-        // No stop takes back a file of the folder, if its bytes are on the disk, as those of a save are.
-        ensures settled { IsTrue (D.state self.old.disk).is_honest → IsOk result → (key : ℕ) → key < 2 ^ 16
-            → (D.state self.old.disk).is_synced (key_path self.old.path key)
-            → IsSettled (D.state self.new.disk) (key_path self.new.path key) }
+        ensures settled { IsOk result → IsFolderSettled (D.state self.new.disk) self.new.path }
     {
         self.disk.settle_folder(self.path.as_str())
     }

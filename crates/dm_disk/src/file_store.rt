@@ -1,7 +1,7 @@
 //! A store in a file of a disk.
 
 ghost use Rattle.std.specs.Prelude.{◌≡◌, ◌≢◌, ℕ, List, None, Some, Err, IfOk, IsOk, IsErrOf, IsSome, IsTrue};
-ghost use Rattle.dm_disk.specs.Disk.{KeepsFile, KeepsAll, KeepsName, SavesFile, IsSettled, draft_of, Content, saved_under};
+ghost use Rattle.dm_disk.specs.Disk.{KeepsFile, KeepsAll, KeepsName, SavesFile, IsFileSettled, IsSettled, draft_of, Content, saved_under};
 ghost use Rattle.dm_store.specs.Saved.{Loads, Replaces, MayLackMemory, SavesOpen, HeldAfterFault};
 
 use crate::disk::Disk;
@@ -80,16 +80,15 @@ impl<D: Disk, A: Allocator> Store for Filed<D, AtFile, A> {
 
     ghost state = { λ f. saved_under (D.state f.disk) f.path };
 
+    ghost is_settled = { λ f. IsFileSettled (D.state f.disk) f.path };
+
     fn load(&mut self, limit: usize) -> Result<Option<Vec<u8, D::Memory>>, StoreFault>
         ensures loads { Loads (λ bytes. bytes.items)
             (saved_under (D.state self.old.disk) self.old.path) limit result
             (saved_under (D.state self.new.disk) self.new.path) }
         ensures path { self.new.path ≡ self.old.path }
         ensures kept { KeepsAll (D.state self.old.disk) (D.state self.new.disk) }
-        // No stop takes back what is loaded, if the file's bytes are on the disk, as those of a save are.
-        ensures settles { IsTrue (D.state self.old.disk).is_honest
-            → (D.state self.old.disk).is_synced self.old.path
-            → IfOk result (λ loaded. IsSome loaded → IsSettled (D.state self.new.disk) self.new.path) }
+        ensures settled { IfOk result (λ loaded. IsSome loaded → IsFileSettled (D.state self.new.disk) self.new.path) }
     {
         let Some(bytes) = self.disk.read(self.path.as_str(), limit)? else {
             return Ok(None);

@@ -1,6 +1,6 @@
 //! What a ledger says to somebody who only looks at it.
 
-ghost use Rattle.std.specs.Prelude.{◌≡◌, ◌≢◌, ◌==◌, ◌&&◌, not, Err, Ok, IsTrue, IfOk};
+ghost use Rattle.std.specs.Prelude.{◌≡◌, ◌≢◌, ◌==◌, ◌&&◌, not, Err, Ok, IsOk, IsTrue, IfOk};
 ghost use Rattle.std.specs.List.{list_any, All};
 ghost use Rattle.dm_print_ledger.specs.Ledger.{is_old as test_of_old, read_ledger, ShownView, is_sound, free_count, is_range};
 ghost use Rattle.dm_print_ledger.specs.Verdicts.{LoadsLedger, are_of_one, is_behind as test_of_behind, lacks_gift, is_of as test_of_number, lacks_ticket, numbered, share_numbers, share_ticket, show_verdict, shown_of_none, shown_of_ticket};
@@ -44,6 +44,8 @@ impl Shown {
     pub fn load<S: Store>(store: &mut S) -> Result<Shown, OpenFault>
         ensures loads { LoadsLedger (S.state store.old) (show_verdict (S.state store.old).content) result }
         ensures same { S.state store.new ≡ S.state store.old }
+        // No stop takes back what is shown.
+        ensures settled { IsOk result → S.is_settled store.new }
     {
         match store.load(MOST_BYTES) {
             Ok(None) => Err(OpenFault::Absent),

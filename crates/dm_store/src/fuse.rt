@@ -1,6 +1,6 @@
 //! A store, or a set of stores, behind a fuse: its first calls pass, and each later one is stopped.
 
-ghost use Rattle.std.specs.Prelude.{◌≡◌, Some, IsTrue, IsNone, ◌↔◌};
+ghost use Rattle.std.specs.Prelude.{◌≡◌, Some, IfOk, IsOk, IsSome, IsTrue, IsNone, ◌↔◌};
 ghost use Rattle.dm_store.specs.Saved.{turn_of_load, turn_of_save, after_call, Fused, Loads, Replaces, MayLackMemory, with_open_plans, Goes, ListsKeys, LoadsKey, Settles, SavesKey, RemovesKey};
 
 use crate::set::StoreSet;
@@ -114,9 +114,12 @@ impl<S: Store> Store for Fuse<S> {
 
     ghost state = { λ fused. with_open_plans (S.state fused.inner) };
 
+    ghost is_settled = { λ fused. S.is_settled fused.inner };
+
     fn load(&mut self, limit: usize) -> Result<Option<Vec<u8, S::Memory>>, StoreFault>
         ensures loads { Loads (λ bytes. bytes.items) (with_open_plans (S.state self.old.inner)) limit result
             (with_open_plans (S.state self.new.inner)) }
+        ensures settled { IfOk result (λ loaded. IsSome loaded → S.is_settled self.new.inner) }
         ensures goes { Goes (turn_of_load self.old.left) StoreFault.Device
             (λ answer inner. Loads (λ bytes. bytes.items) (S.state self.old.inner) limit answer (S.state inner))
             self.old.inner result self.new.inner }
@@ -153,6 +156,8 @@ impl<S: StoreSet> StoreSet for Fuse<S> {
 
     ghost state = { λ fused. with_open_plans (S.state fused.inner) };
 
+    ghost is_settled = { λ fused. S.is_settled fused.inner };
+
     fn keys(&mut self, limit: usize) -> Result<Vec<u16, S::Memory>, StoreFault>
         ensures lists { ListsKeys (λ keys. keys.items) (with_open_plans (S.state self.old.inner)) limit result
             (with_open_plans (S.state self.new.inner)) }
@@ -184,6 +189,7 @@ impl<S: StoreSet> StoreSet for Fuse<S> {
     fn settle(&mut self) -> Result<(), StoreFault>
         ensures settles { Settles (with_open_plans (S.state self.old.inner)) result
             (with_open_plans (S.state self.new.inner)) }
+        ensures settled { IsOk result → S.is_settled self.new.inner }
         ensures goes { Goes (turn_of_load self.old.left) StoreFault.Device
             (λ answer inner. Settles (S.state self.old.inner) answer (S.state inner))
             self.old.inner result self.new.inner }

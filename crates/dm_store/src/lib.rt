@@ -9,6 +9,7 @@
 //! - After a save that answers `Ok` an honest store holds the new content. After `Memory` nothing has changed. After
 //!   `Device` it holds the old or the new content, as its plan for the save said. An honest set changes no other key.
 //! - No call changes the honesty or what loads may do.
+//! - After a settle that answers `Ok`, and a load of bytes by a store, no stop takes back what is held (`is_settled`).
 //!
 //! [`MemStore`] and [`MemSet`] are honest, and meet a device fault exactly where they were set to. A [`Fuse`] stops a
 //! store or a set after a number of calls. [`KeyMap`] is the map that a set in memory is made of. [`Unsettled`] is a

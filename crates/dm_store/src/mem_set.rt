@@ -98,6 +98,8 @@ impl<A: Allocator + Copy> StoreSet for MemSet<A> {
 
     ghost state = { λ set. set };
 
+    ghost is_settled = { λ _. Unit {0} };
+
     fn keys(&mut self, limit: usize) -> Result<Vec<u16, A>, StoreFault>
         ensures lists { ListsKeys (λ keys. keys.items) self.old limit result self.new }
         ensures device { IsErrOf result StoreFault.Device ↔ (self.old.load_plan ≡ LoadsOpen) }

@@ -86,6 +86,8 @@ impl<A: Allocator + Copy> Store for MemStore<A> {
 
     ghost state = { λ store. store };
 
+    ghost is_settled = { λ _. Unit {0} };
+
     fn load(&mut self, limit: usize) -> Result<Option<Vec<u8, A>>, StoreFault>
         ensures loads { Loads (λ bytes. bytes.items) self.old limit result self.new }
         ensures device { IsErrOf result StoreFault.Device ↔ (self.old.load_plan ≡ LoadsOpen) }

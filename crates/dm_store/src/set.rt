@@ -1,6 +1,6 @@
 //! What a set of stores promises.
 
-ghost use Rattle.std.specs.Prelude.{◌≡◌};
+ghost use Rattle.std.specs.Prelude.{◌≡◌, IsOk};
 ghost use Rattle.dm_store.specs.Saved.{MayLackMemory, SavedSet, ListsKeys, LoadsKey, Settles, SavesKey, RemovesKey};
 
 use crate::store::StoreFault;
@@ -14,6 +14,9 @@ pub trait StoreSet: Drop {
     /// What it holds, whether it is honest, and its plans.
     ghost state: { Self → SavedSet };
 
+    /// That no stop of the machine takes back what it holds, but of files whose bytes somebody left unsynced.
+    ghost is_settled: { Self → Type 0 };
+
     /// The keys under which bytes are saved, rising: all, or the first `limit + 1` where there are more.
     fn keys(&mut self, limit: usize) -> Result<Vec<u16, Self::Memory>, StoreFault>
         ensures lists { ListsKeys (λ keys. keys.items) (state self.old) limit result (state self.new) };
@@ -25,7 +28,8 @@ pub trait StoreSet: Drop {
     /// Settles what the calls before have found, the keys and the bytes: no stop of the machine takes it back then.
     /// Whoever answers by loads calls it once, after all of them.
     fn settle(&mut self) -> Result<(), StoreFault>
-        ensures settles { Settles (state self.old) result (state self.new) };
+        ensures settles { Settles (state self.old) result (state self.new) }
+        ensures settled { IsOk result → is_settled self.new };
 
     /// Puts the bytes in place of those saved under a key, if any.
     fn replace(&mut self, key: u16, bytes: &[u8]) -> Result<(), StoreFault>

@@ -1,6 +1,6 @@
 //! What a store promises, and its faults.
 
-ghost use Rattle.std.specs.Prelude.{◌≡◌};
+ghost use Rattle.std.specs.Prelude.{◌≡◌, IfOk, IsSome};
 ghost use Rattle.dm_store.specs.declared.store.StoreFault.TheVariants.{Memory};
 ghost use Rattle.dm_store.specs.Saved.{Saved, Loads, Replaces, MayLackMemory};
 
@@ -45,9 +45,13 @@ pub trait Store: Drop {
     /// What it holds, whether it is honest, and its plans.
     ghost state: { Self → Saved };
 
+    /// That no stop of the machine takes back what it holds, but of a file whose bytes somebody left unsynced.
+    ghost is_settled: { Self → Type 0 };
+
     /// The saved bytes, or their first `limit + 1` where they are longer, or `None` where nothing is saved.
     fn load(&mut self, limit: usize) -> Result<Option<Vec<u8, Self::Memory>>, StoreFault>
-        ensures loads { Loads (λ bytes. bytes.items) (state self.old) limit result (state self.new) };
+        ensures loads { Loads (λ bytes. bytes.items) (state self.old) limit result (state self.new) }
+        ensures settled { IfOk result (λ loaded. IsSome loaded → is_settled self.new) };
 
     /// The same, but a stop of the machine may take back what it gives: for those who tell nothing of it before their
     /// next save is done.

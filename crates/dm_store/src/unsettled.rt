@@ -14,6 +14,9 @@ impl<S: Store> Store for Unsettled<S> {
 
     ghost state = { λ unsettled. S.state unsettled.0 };
 
+    // Its loads settle nothing.
+    ghost is_settled = { λ _. Unit {0} };
+
     fn load(&mut self, limit: usize) -> Result<Option<Vec<u8, S::Memory>>, StoreFault> {
         self.0.load_unsettled(limit)
     }

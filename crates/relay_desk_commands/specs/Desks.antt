@@ -1,5 +1,5 @@
 -- What the commands of desks do to files and streams, and the lines that they write, which are this project's own.
-use Rattle.std.specs.Prelude.{ℕ, List, [], ◌∷◌, ◌++◌, codes, zero, suc, take, ◌+◌, ◌^◌, ◌==◌, Bool, if◌then◌else◌, ◌≡◌, ◌<◌, Option, None, IfSome, Result, Ok, Err, MatchResult, true, false, ◌⊎◌, ◌||◌, Some, is_err, IsOk, IsTrue, IsSomeAnd, IsSome, IfOk, All, filter, is_some, length, nat_lt, nat_le, not, ◌&&◌, option_map, map as each}
+use Rattle.std.specs.Prelude.{ℕ, List, [], ◌∷◌, ◌++◌, codes, zero, suc, take, ◌+◌, ◌^◌, ◌==◌, Bool, if◌then◌else◌, ◌≡◌, ◌<◌, Option, None, IfSome, Result, Ok, Err, MatchResult, true, false, ◌⊎◌, ◌||◌, Some, is_err, IsOk, IsTrue, IsSomeAnd, IsSome, IfOk, All, filter, is_some, length, nat_lt, nat_le, not, ◌&&◌, option_map, map as each, ◌≢◌}
 use Rattle.std.specs.{Fmt.decimal, List.count_by, List.flat_map, List.list_all}
 use Rattle.dm_assembly_desk.specs.Documents.{names, Documents, DeskView, KeepsPages, DeskIsInOrder, Pages, summaries, summary, count_at, document_of, page, page_at}
 use Rattle.dm_assembly_desk.specs.declared.{reply.Held.Held, limits.TheConstants.MOST_CAPACITY, reply.Accepted.Accepted, reply.Imported.Imported}
@@ -10,7 +10,7 @@ use Rattle.dm_store.specs.Saved.{Saved, SavedSet, ListsKeys, LoadsOpen, Settles}
 use Rattle.dm_append_label.specs.Labels.{id_words, PageView, Carries, Fits, IsTooLong, Seals}
 use Rattle.dm_append_label.specs.{Opening.OpensAs, declared.fault.LabelFault.LabelFault, declared.opening.Opened.Opened}
 use Rattle.dm_assembly_desk.specs.Desk.{Asks, Exports, Forgets, ImportsBytes, AcceptsGrid, kind_name, ask_fault_name, desk_fault_name, export_fault_name, forget_fault_name, import_fault_name, move_fault_name, scan_fault_name, move_fault_of, Moves, HasDeskFault, DeskOpens, HasJointFileFault, HoldsJointFile, SeesKey}
-use Rattle.dm_assembly_desk.specs.declared.fault.{DeskFault.DeskFault, ImportFault.ImportFault, MoveFault.MoveFault, ScanFault.ScanFault}
+use Rattle.dm_assembly_desk.specs.declared.fault.{DeskFault.DeskFault, ForgetFault.ForgetFault, ForgetFault.TheVariants.NotHeld, ImportFault.ImportFault, MoveFault.MoveFault, ScanFault.ScanFault}
 use Rattle.relay_streams.specs.Streams.{input_fault_name, OutputView, ReadsFirst, refused_line}
 use Rattle.relay_streams.specs.declared.fault.InputFault.{InputFault}
 use Rattle.relay_desk_commands.specs.declared.documents.Given.{Given, TheVariants.Document, TheVariants.File}
@@ -146,6 +146,34 @@ pub data EndsOnId (Refuses : List ℕ → StreamsView → ℕ → StreamsView �
       → Refuses (refusal_name refusals.FileId) old.streams status new.streams
       → EndsOnId Refuses text Ends old status new
   of_id : (id : ℕ) → IsTextOfId text id → Ends id old status new → EndsOnId Refuses text Ends old status new
+
+-- ---- what no stop takes back
+
+-- A command that only reads settles the set of its desk before it tells what it found. These are the ends at which it
+-- tells nothing of that.
+
+-- there is no desk, and a refusal says why
+abbrev pub HasNoOpenDesk : (List ℕ → StreamsView → ℕ → StreamsView → Type 0) → OnDesk → ℕ → OnDesk → Type 0
+HasNoOpenDesk Refuses = EndsAtDesk Refuses MOST_CAPACITY (λ desk old status new. ⊥)
+
+-- the text is no ID, or there is no desk
+abbrev pub IsUnopened : (List ℕ → StreamsView → ℕ → StreamsView → Type 0) → List ℕ → OnDesk → ℕ → OnDesk → Type 0
+IsUnopened Refuses text = EndsOnId Refuses text (λ id. HasNoOpenDesk Refuses)
+
+-- the same of a command for which the text may be left out
+abbrev pub IsUnseen : Option (List ℕ) → OnDesk → ℕ → OnDesk → Type 0
+IsUnseen None = HasNoOpenDesk RefusesOnOutput
+IsUnseen (Some text) = IsUnopened RefusesOnOutput text
+
+-- what `held` saw could not be settled, or memory was refused for it
+abbrev pub IsUnsettledHeld : StreamsView → ℕ → StreamsView → Type 0
+IsUnsettledHeld old status new = (why : StoreFault) × RefusesOnOutput (move_fault_name (move_fault_of why)) old status new
+
+-- the text is no ID, there is no desk, or `forget` tells something else than that the document is not held
+abbrev pub IsNotToldNotHeld : List ℕ → OnDesk → ℕ → OnDesk → Type 0
+IsNotToldNotHeld text = EndsOnId RefusesOnOutput text (λ id. EndsAtDesk RefusesOnOutput MOST_CAPACITY
+    (λ desk old status new. (reply : Result (Unit {0}) ForgetFault) × (reply ≢ Err NotHeld)
+    × TellsAnswer (λ _. forgotten_line id) forget_fault_name reply old.output status new.streams.output))
 
 -- ---- what is given out
 

@@ -1,14 +1,13 @@
 //! What a desk gives of all documents that it holds: in memory, since it goes to files and not to the output.
 
-ghost use Rattle.std.specs.Prelude.{◌≡◌, false, true, IfOk, MatchOption, MatchResult, Ok, Some, string_bytes};
+ghost use Rattle.std.specs.Prelude.{◌≡◌, false, true, Err, IfOk, MatchOption, MatchResult, Ok, Some, string_bytes};
 ghost use Rattle.std.specs.FinMap as map;
 ghost use Rattle.dm_assembly_desk.specs.Documents.{Pages, DeskView};
 ghost use Rattle.relay_shared.specs.Lines.{id_text};
 ghost use Rattle.relay_desk_commands.specs.Desks.{EndsOpening, GivesAll, HasNoDesk, IsTextOfId, OpensDesk, Yields, desk_at, is_given};
 
-use crate::desk_opening::{OpenDesk, Unopened, open_desk, settled_desk};
+use crate::desk_opening::{ClosedDesk, Unopened, desk_of, open_desk};
 use crate::documents::Given;
-use crate::settling::Settled;
 use dm_append_label::FileId;
 use dm_assembly_desk::{AskFault, Desk, DeskFault, MOST_CAPACITY};
 use dm_store::{Store, StoreSet};
@@ -82,7 +81,6 @@ fn given_of<T: StoreSet, A: Allocator + Copy>(
 // What is given of all documents of an open desk.
 fn given_of_each<T: StoreSet, A: Allocator + Copy>(
     alloc: A,
-    _settled: &Settled,
     desk: &Desk<T, A>,
     given: Given,
 ) -> Result<GivenAll<A>, AllocError>
@@ -103,6 +101,17 @@ fn given_of_each<T: StoreSet, A: Allocator + Copy>(
     })
 }
 
+// Nothing was given, since there is no desk.
+fn without_desk<S: Store, T: StoreSet, A: Allocator>(unopened: Unopened<S, T>) -> EndedAll<S, T, A>
+    ensures answer { result.answer ≡ Err unopened.name }
+    ensures store { S.state result.store ≡ S.state unopened.store }
+    ensures set { T.state result.set ≡ T.state unopened.set }
+{
+    let Unopened { name, store, set } = unopened;
+    let answer = Err(name);
+    EndedAll { answer, store, set }
+}
+
 /// Opens a desk, and gives of each document that it holds, by rising ID, what `deliver` or `export` writes; or says why
 /// not, by the name of a refusal. Of no document is something given where memory is refused for another.
 pub fn give_all<A: Allocator + Copy, S: Store, T: StoreSet>(
@@ -111,30 +120,29 @@ pub fn give_all<A: Allocator + Copy, S: Store, T: StoreSet>(
     set: T,
     given: Given,
 ) -> EndedAll<S, T, A>
-    ensures { MatchResult result.answer
+    ensures ends { MatchResult result.answer
         (λ all. (desk : DeskView) × OpensDesk (record { joint = S.state store; set = T.state set }) MOST_CAPACITY
         (S.state result.store) desk × (T.state result.set ≡ desk.saved) × GivesAll given desk.held all)
         (λ name. HasNoDesk (record { joint = S.state store; set = T.state set }) MOST_CAPACITY name.now
         (record { joint = S.state result.store; set = T.state result.set })) }
+    // No stop takes back what is given.
+    ensures settled { IfOk result.answer (λ _. T.is_settled result.set) }
 {
-    let opened = match settled_desk(alloc, store, set, MOST_CAPACITY) {
+    let opened = match desk_of(alloc, store, set, MOST_CAPACITY) {
         Ok(opened) => opened,
-        Err(unopened) => {
-            let Unopened { name, store, set } = unopened;
-            return EndedAll {
-                answer: Err(name),
-                store,
-                set,
-            };
-        }
+        Err(unopened) => return without_desk(unopened),
     };
-    let answer = match given_of_each(alloc, &opened.settled, &opened.desk, given) {
+    let answer = match given_of_each(alloc, &opened.desk, given) {
         Ok(all) => Ok(all),
         Err(AllocError) => Err(DeskFault::Memory.name()),
     };
-    let OpenDesk { store, desk, .. } = opened;
-    let set = desk.close();
-    EndedAll { answer, store, set }
+    match opened.close() {
+        Ok(closed) => {
+            let ClosedDesk { store, set } = closed;
+            EndedAll { answer, store, set }
+        }
+        Err(unopened) => without_desk(unopened),
+    }
 }
 
 /// Opens a desk, and closes it again, as is done before anything is given of all its documents. A refusal is a line on
@@ -148,8 +156,12 @@ pub fn opening_command<A: Allocator + Copy, S: Store, T: StoreSet, R: Read, W: W
     ensures { EndsOpening (desk_at (S.state store) (T.state set) streams.old) result.status
         (desk_at (S.state result.store) (T.state result.set) streams.new) }
 {
-    match open_desk(alloc, store, set, &mut streams.errors, MOST_CAPACITY) {
-        Ok(opened) => opened.end(0),
-        Err(ended) => ended,
+    let opened = match open_desk(alloc, store, set, &mut streams.errors, MOST_CAPACITY) {
+        Ok(opened) => opened,
+        Err(ended) => return ended,
+    };
+    match opened.close() {
+        Ok(closed) => closed.end(0),
+        Err(unopened) => unopened.refuse(&mut streams.errors),
     }
 }

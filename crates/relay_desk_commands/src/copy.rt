@@ -1,14 +1,15 @@
 //! `relay copy`: the label of a page that a desk holds, again.
 
-ghost use Rattle.std.specs.Prelude.{◌≡◌, ◌≤◌, ◌*◌, true, false, length, IfOk, MatchResult, Ok, Err, Some};
+ghost use Rattle.std.specs.Prelude.{◌≡◌, ◌⊎◌, ◌≤◌, ◌*◌, true, false, length, IfOk, MatchResult, Ok, Err, Some};
 ghost use Rattle.dm_append_label.specs.Labels.{Fits, IsTooLong};
 ghost use Rattle.dm_append_label.specs.declared.opening.TheConstants.{MOST_PAGE_BYTES};
 ghost use Rattle.dm_assembly_desk.specs.Documents.{Documents, count_at, lent_bytes, page, page_at};
 ghost use Rattle.dm_pbm_io.specs.Image.{picture, written};
-ghost use Rattle.relay_desk_commands.specs.Desks.{EndsCopy, GivesCopy, desk_at};
+ghost use Rattle.relay_desk_commands.specs.Desks.{EndsCopy, GivesCopy, IsUnopened, desk_at};
+ghost use Rattle.relay_shared.specs.Command.{RefusesOnErrors};
+ghost use Rattle.dm_size.specs.Sizes.{IsSide};
 
-use crate::desk_opening::{OpenDesk, id_of, open_desk};
-use crate::settling::Settled;
+use crate::desk_opening::{id_of, open_desk};
 use dm_append_label::{FileId, Page, SealFault, seal};
 use dm_assembly_desk::{Desk, MOST_CAPACITY, Pages};
 use dm_encodation::{Scheme, need};
@@ -78,7 +79,6 @@ fn image_of_label<A: Allocator + Copy>(
 // The image of the label of page m of a document; or why there is none, by name.
 fn copy_of<A: Allocator + Copy, T: StoreSet>(
     alloc: A,
-    _settled: &Settled,
     desk: &Desk<T, A>,
     id: FileId,
     m: u16,
@@ -115,7 +115,11 @@ pub fn copy_command<A: Allocator + Copy, S: Store, T: StoreSet, R: Read, W: Writ
     streams: &mut Streams<R, W, E>,
     options: CopyOptions,
 ) -> EndedDesk<S, T>
-    ensures { EndsCopy options.entry (desk_at (S.state store) (T.state set) streams.old) result.status
+    ensures ends { EndsCopy options.entry (desk_at (S.state store) (T.state set) streams.old) result.status
+        (desk_at (S.state result.store) (T.state result.set) streams.new) }
+    // No stop takes back what it tells, unless that is of no desk, or of the side.
+    ensures settled { T.is_settled result.set ⊎ (¬ IsSide options.entry.side) ⊎ IsUnopened RefusesOnErrors options.entry.id.now
+        (desk_at (S.state store) (T.state set) streams.old) result.status
         (desk_at (S.state result.store) (T.state result.set) streams.new) }
 {
     let Some(id) = id_of(options.id) else {
@@ -130,13 +134,17 @@ pub fn copy_command<A: Allocator + Copy, S: Store, T: StoreSet, R: Read, W: Writ
         Ok(opened) => opened,
         Err(ended) => return ended,
     };
-    let OpenDesk { desk, settled, .. } = &opened;
-    let status = match copy_of(alloc, settled, desk, id, options.page, size, options.scheme) {
+    let copy = copy_of(alloc, &opened.desk, id, options.page, size, options.scheme);
+    let closed = match opened.close() {
+        Ok(closed) => closed,
+        Err(unopened) => return unopened.refuse(&mut streams.errors),
+    };
+    let status = match copy {
         Ok(image) => {
             let put = image.write(&mut streams.output);
             status_after_bytes(&mut streams.errors, put)
         }
         Err(name) => refuse(&mut streams.errors, name),
     };
-    opened.end(status)
+    closed.end(status)
 }

@@ -24,35 +24,66 @@ pub(crate) fn id_of(text: &str) -> Option<FileId>
 }
 
 /// An open desk, and the store of the joint file of an older version, whose documents were moved to the desk's set.
-/// What was found is settled, or, if it has `()` for that, not yet.
+/// What was found is not settled yet.
 #[derive(Drop)]
-pub(crate) struct OpenDesk<S: Store, T: StoreSet, A: Allocator + Copy, K: Drop = Settled> {
+pub(crate) struct OpenDesk<S: Store, T: StoreSet, A: Allocator + Copy> {
     pub(crate) store: S,
     pub(crate) desk: Desk<T, A>,
-    pub(crate) settled: K,
 }
 
-impl<S: Store, T: StoreSet, A: Allocator + Copy> OpenDesk<S, T, A, ()> {
-    /// Settles what was found when the desk was opened; or there is no desk, and why.
-    pub(crate) fn settle(self) -> Result<OpenDesk<S, T, A>, Unopened<S, T>>
+/// The stores of a desk that was closed, once what was found there is settled.
+#[derive(Drop)]
+pub(crate) struct ClosedDesk<S: Store, T: StoreSet> {
+    pub(crate) store: S,
+    pub(crate) set: T,
+}
+
+impl<S: Store, T: StoreSet> ClosedDesk<S, T> {
+    /// Ends the command with this status.
+    pub(crate) fn end(self, status: u8) -> EndedDesk<S, T>
+        ensures status { result.status ≡ status }
+        ensures store { result.store ≡ self.store }
+        ensures set { result.set ≡ self.set }
+    {
+        let ClosedDesk { store, set } = self;
+        EndedDesk { status, store, set }
+    }
+}
+
+impl<S: Store, T: StoreSet, A: Allocator + Copy> OpenDesk<S, T, A> {
+    /// Closes the desk, and settles what was found when it was opened; or there is no desk, and why.
+    pub(crate) fn close(self) -> Result<ClosedDesk<S, T>, Unopened<S, T>>
         ensures { MatchResult result
-            (λ opened. (S.state opened.store ≡ S.state self.store) × (opened.desk ≡ self.desk))
+            (λ closed. (S.state closed.store ≡ S.state self.store) × (T.state closed.set ≡ self.desk.saved)
+            × T.is_settled closed.set)
             (λ unopened. (before : DeskFiles) (capacity : ℕ)
             → OpensDesk before capacity (S.state self.store) self.desk
             → HasNoDesk before capacity unopened.name.now
             (record { joint = S.state unopened.store; set = T.state unopened.set })) }
     {
-        let OpenDesk {
-            store,
-            mut desk,
-            settled: (),
-        } = self;
+        let OpenDesk { store, desk } = self;
+        let mut set = desk.close();
+        match set.settle() {
+            Ok(()) => Ok(ClosedDesk { store, set }),
+            Err(fault) => {
+                let name = MoveFault::from(fault).name();
+                Err(Unopened { name, store, set })
+            }
+        }
+    }
+
+    /// Settles what was found, before the desk answers; or there is no desk, and why.
+    pub(crate) fn settle(self) -> Result<(OpenDesk<S, T, A>, Settled), Unopened<S, T>>
+        ensures { MatchResult result
+            (λ opened. (S.state opened.0.store ≡ S.state self.store) × (opened.0.desk ≡ self.desk))
+            (λ unopened. (before : DeskFiles) (capacity : ℕ)
+            → OpensDesk before capacity (S.state self.store) self.desk
+            → HasNoDesk before capacity unopened.name.now
+            (record { joint = S.state unopened.store; set = T.state unopened.set })) }
+    {
+        let OpenDesk { store, mut desk } = self;
         match settle_desk(&mut desk) {
-            Ok(settled) => Ok(OpenDesk {
-                store,
-                desk,
-                settled,
-            }),
+            Ok(settled) => Ok((OpenDesk { store, desk }, settled)),
             Err(fault) => {
                 let name = MoveFault::from(fault).name();
                 let set = desk.close();
@@ -60,9 +91,7 @@ impl<S: Store, T: StoreSet, A: Allocator + Copy> OpenDesk<S, T, A, ()> {
             }
         }
     }
-}
 
-impl<S: Store, T: StoreSet, A: Allocator + Copy, K: Drop> OpenDesk<S, T, A, K> {
     /// Closes the desk, and ends the command with this status.
     pub(crate) fn end(self, status: u8) -> EndedDesk<S, T>
         ensures status { result.status ≡ status }
@@ -98,32 +127,13 @@ impl<S: Store, T: StoreSet> Unopened<S, T> {
     }
 }
 
-/// Moves the documents of a joint file to the set, opens the desk, and settles what was found; or says why not.
-pub(crate) fn settled_desk<A: Allocator + Copy, S: Store, T: StoreSet>(
+/// Moves the documents of a joint file to the set, and opens the desk; or says why not.
+pub(crate) fn desk_of<A: Allocator + Copy, S: Store, T: StoreSet>(
     alloc: A,
     store: S,
     set: T,
     capacity: u16,
 ) -> Result<OpenDesk<S, T, A>, Unopened<S, T>>
-    ensures { MatchResult result
-        (λ opened. OpensDesk (record { joint = S.state store; set = T.state set }) capacity (S.state opened.store)
-        opened.desk × DeskIsInOrder opened.desk)
-        (λ unopened. HasNoDesk (record { joint = S.state store; set = T.state set }) capacity unopened.name.now
-        (record { joint = S.state unopened.store; set = T.state unopened.set })) }
-{
-    match unsettled_desk(alloc, store, set, capacity) {
-        Ok(opened) => opened.settle(),
-        Err(unopened) => Err(unopened),
-    }
-}
-
-// The same, but what was found is not settled.
-fn unsettled_desk<A: Allocator + Copy, S: Store, T: StoreSet>(
-    alloc: A,
-    store: S,
-    set: T,
-    capacity: u16,
-) -> Result<OpenDesk<S, T, A, ()>, Unopened<S, T>>
     ensures { MatchResult result
         (λ opened. OpensDesk (record { joint = S.state store; set = T.state set }) capacity (S.state opened.store)
         opened.desk × DeskIsInOrder opened.desk)
@@ -140,11 +150,7 @@ fn unsettled_desk<A: Allocator + Copy, S: Store, T: StoreSet>(
         }
     }
     match Desk::open_unsettled(alloc, set, capacity) {
-        Ok(desk) => Ok(OpenDesk {
-            store,
-            desk,
-            settled: (),
-        }),
+        Ok(desk) => Ok(OpenDesk { store, desk }),
         Err(refused) => {
             let name = refused.fault.name();
             let set = refused.store;
@@ -153,8 +159,7 @@ fn unsettled_desk<A: Allocator + Copy, S: Store, T: StoreSet>(
     }
 }
 
-/// Moves the documents of a joint file to the set, opens the desk, and settles what was found; or writes the line
-/// `refused NAME`, and says how the command ends.
+/// The same; or writes the line `refused NAME`, and says how the command ends.
 pub(crate) fn open_desk<A: Allocator + Copy, S: Store, T: StoreSet, W: Write>(
     alloc: A,
     store: S,
@@ -169,28 +174,7 @@ pub(crate) fn open_desk<A: Allocator + Copy, S: Store, T: StoreSet, W: Write>(
         (record { joint = S.state ended.store; set = T.state ended.set })
         × TellsRefusal name output.old ended.status output.new) }
 {
-    match settled_desk(alloc, store, set, capacity) {
-        Ok(opened) => Ok(opened),
-        Err(unopened) => Err(unopened.refuse(output)),
-    }
-}
-
-/// The same, but what was found is not settled.
-pub(crate) fn open_unsettled<A: Allocator + Copy, S: Store, T: StoreSet, W: Write>(
-    alloc: A,
-    store: S,
-    set: T,
-    output: &mut Output<W>,
-    capacity: u16,
-) -> Result<OpenDesk<S, T, A, ()>, EndedDesk<S, T>>
-    ensures { MatchResult result
-        (λ opened. OpensDesk (record { joint = S.state store; set = T.state set }) capacity (S.state opened.store)
-        opened.desk × (output.new ≡ output.old) × DeskIsInOrder opened.desk)
-        (λ ended. (name : List ℕ) × HasNoDesk (record { joint = S.state store; set = T.state set }) capacity name
-        (record { joint = S.state ended.store; set = T.state ended.set })
-        × TellsRefusal name output.old ended.status output.new) }
-{
-    match unsettled_desk(alloc, store, set, capacity) {
+    match desk_of(alloc, store, set, capacity) {
         Ok(opened) => Ok(opened),
         Err(unopened) => Err(unopened.refuse(output)),
     }

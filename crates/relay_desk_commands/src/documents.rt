@@ -3,12 +3,11 @@
 
 ghost use Rattle.std.specs.Prelude.{◌≡◌, ◌⊎◌, ℕ, List, MatchResult, Ok, Err};
 ghost use Rattle.dm_assembly_desk.specs.Desk.{forget_fault_name};
-ghost use Rattle.relay_shared.specs.{Command.TellsRefusal, Files.DeskFiles};
-ghost use Rattle.relay_desk_commands.specs.Desks.{EndsDeliver, EndsExport, EndsForget, EndsGiving, HasNoDesk, OpensDesk, Yields, desk_at};
+ghost use Rattle.relay_shared.specs.{Command.RefusesOnErrors, Command.TellsRefusal, Files.DeskFiles};
+ghost use Rattle.relay_desk_commands.specs.Desks.{EndsDeliver, EndsExport, EndsForget, EndsGiving, HasNoDesk, IsNotToldNotHeld, IsUnopened, OpensDesk, Yields, desk_at};
 
-use crate::desk_opening::{OpenDesk, id_of, open_desk, open_unsettled};
+use crate::desk_opening::{OpenDesk, id_of, open_desk};
 use crate::lines::put_forgotten;
-use crate::settling::Settled;
 use dm_append_label::FileId;
 use dm_assembly_desk::{AskFault, Desk, ExportFault, ForgetFault, MOST_CAPACITY};
 use dm_store::{Store, StoreSet};
@@ -27,7 +26,6 @@ pub enum Given {
 }
 
 fn bytes_of<A: Allocator + Copy, T: StoreSet>(
-    _settled: &Settled,
     desk: &Desk<T, A>,
     id: FileId,
     given: Given,
@@ -50,7 +48,10 @@ fn give_out<A: Allocator + Copy, S: Store, T: StoreSet, R: Read, W: Write, E: Wr
     text: &str,
     given: Given,
 ) -> EndedDesk<S, T>
-    ensures { EndsGiving given text.now (desk_at (S.state store) (T.state set) streams.old) result.status
+    ensures ends { EndsGiving given text.now (desk_at (S.state store) (T.state set) streams.old) result.status
+        (desk_at (S.state result.store) (T.state result.set) streams.new) }
+    ensures settled { T.is_settled result.set ⊎ IsUnopened RefusesOnErrors text.now
+        (desk_at (S.state store) (T.state set) streams.old) result.status
         (desk_at (S.state result.store) (T.state result.set) streams.new) }
 {
     let Some(id) = id_of(text) else {
@@ -61,14 +62,19 @@ fn give_out<A: Allocator + Copy, S: Store, T: StoreSet, R: Read, W: Write, E: Wr
         Ok(opened) => opened,
         Err(ended) => return ended,
     };
-    let status = match bytes_of(&opened.settled, &opened.desk, id, given) {
+    let answer = bytes_of(&opened.desk, id, given);
+    let closed = match opened.close() {
+        Ok(closed) => closed,
+        Err(unopened) => return unopened.refuse(&mut streams.errors),
+    };
+    let status = match answer {
         Ok(bytes) => {
             let put = streams.output.put(&bytes);
             status_after_bytes(&mut streams.errors, put)
         }
         Err(name) => refuse(&mut streams.errors, name),
     };
-    opened.end(status)
+    closed.end(status)
 }
 
 /// Writes the document of an ID, whose two codewords the text has in hexadecimal, where each of its pages is
@@ -80,7 +86,11 @@ pub fn deliver_command<A: Allocator + Copy, S: Store, T: StoreSet, R: Read, W: W
     streams: &mut Streams<R, W, E>,
     text: &str,
 ) -> EndedDesk<S, T>
-    ensures { EndsDeliver text.now (desk_at (S.state store) (T.state set) streams.old) result.status
+    ensures ends { EndsDeliver text.now (desk_at (S.state store) (T.state set) streams.old) result.status
+        (desk_at (S.state result.store) (T.state result.set) streams.new) }
+    // No stop takes back what it tells, unless that is of no desk.
+    ensures settled { T.is_settled result.set ⊎ IsUnopened RefusesOnErrors text.now
+        (desk_at (S.state store) (T.state set) streams.old) result.status
         (desk_at (S.state result.store) (T.state result.set) streams.new) }
 {
     give_out(alloc, store, set, streams, text, Given::Document)
@@ -95,36 +105,31 @@ pub fn export_command<A: Allocator + Copy, S: Store, T: StoreSet, R: Read, W: Wr
     streams: &mut Streams<R, W, E>,
     text: &str,
 ) -> EndedDesk<S, T>
-    ensures { EndsExport text.now (desk_at (S.state store) (T.state set) streams.old) result.status
+    ensures ends { EndsExport text.now (desk_at (S.state store) (T.state set) streams.old) result.status
+        (desk_at (S.state result.store) (T.state result.set) streams.new) }
+    // No stop takes back what it tells, unless that is of no desk.
+    ensures settled { T.is_settled result.set ⊎ IsUnopened RefusesOnErrors text.now
+        (desk_at (S.state store) (T.state set) streams.old) result.status
         (desk_at (S.state result.store) (T.state result.set) streams.new) }
 {
     give_out(alloc, store, set, streams, text, Given::File)
 }
 
-// Says that no page of a document is held.
-fn tell_not_held<W: Write>(_settled: &Settled, output: &mut Output<W>) -> u8
-    ensures { TellsRefusal (forget_fault_name ForgetFault.NotHeld) output.old result output.new }
-{
-    refuse(output, ForgetFault::NotHeld.name())
-}
-
 // Says that no page of a document is held, once what was found is settled; or why that can't be. A document that was held
 // is forgotten by a save of its own, so its desk needs no settling.
 fn refuse_not_held<A: Allocator + Copy, S: Store, T: StoreSet, W: Write>(
-    opened: OpenDesk<S, T, A, ()>,
+    opened: OpenDesk<S, T, A>,
     output: &mut Output<W>,
 ) -> EndedDesk<S, T>
     ensures { ((S.state result.store ≡ S.state opened.store) × (T.state result.set ≡ opened.desk.saved)
-        × TellsRefusal (forget_fault_name ForgetFault.NotHeld) output.old result.status output.new)
+        × TellsRefusal (forget_fault_name ForgetFault.NotHeld) output.old result.status output.new
+        × T.is_settled result.set)
         ⊎ ((name : List ℕ) × TellsRefusal name output.old result.status output.new
         × ((before : DeskFiles) (capacity : ℕ) → OpensDesk before capacity (S.state opened.store) opened.desk
         → HasNoDesk before capacity name (record { joint = S.state result.store; set = T.state result.set }))) }
 {
-    match opened.settle() {
-        Ok(opened) => {
-            let status = tell_not_held(&opened.settled, output);
-            opened.end(status)
-        }
+    match opened.close() {
+        Ok(closed) => closed.end(refuse(output, ForgetFault::NotHeld.name())),
         Err(unopened) => unopened.refuse(output),
     }
 }
@@ -138,21 +143,29 @@ pub fn forget_command<A: Allocator + Copy, S: Store, T: StoreSet, R: Read, W: Wr
     streams: &mut Streams<R, W, E>,
     text: &str,
 ) -> EndedDesk<S, T>
-    ensures { EndsForget text.now (desk_at (S.state store) (T.state set) streams.old) result.status
+    ensures ends { EndsForget text.now (desk_at (S.state store) (T.state set) streams.old) result.status
+        (desk_at (S.state result.store) (T.state result.set) streams.new) }
+    // No stop takes back that nothing is held of the document.
+    ensures settled { T.is_settled result.set ⊎ IsNotToldNotHeld text.now
+        (desk_at (S.state store) (T.state set) streams.old) result.status
         (desk_at (S.state result.store) (T.state result.set) streams.new) }
 {
     let Some(id) = id_of(text) else {
         let status = refuse(&mut streams.output, Refusal::FileId.name());
         return EndedDesk { status, store, set };
     };
-    let mut opened = match open_unsettled(alloc, store, set, &mut streams.output, MOST_CAPACITY) {
+    let mut opened = match open_desk(alloc, store, set, &mut streams.output, MOST_CAPACITY) {
         Ok(opened) => opened,
         Err(ended) => return ended,
     };
     let status = match opened.desk.forget(id) {
         Ok(()) => status_after(put_forgotten(&mut streams.output, id)),
-        Err(ForgetFault::NotHeld) => return refuse_not_held(opened, &mut streams.output),
-        Err(fault) => refuse(&mut streams.output, fault.name()),
+        Err(fault) => {
+            if fault == ForgetFault::NotHeld {
+                return refuse_not_held(opened, &mut streams.output);
+            }
+            refuse(&mut streams.output, fault.name())
+        }
     };
     opened.end(status)
 }

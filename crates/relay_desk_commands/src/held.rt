@@ -1,18 +1,17 @@
 //! `relay held`: what the files of a desk hold, told without a desk.
 
-ghost use Rattle.std.specs.Prelude.{◌≡◌, ◌+◌, ◌++◌, ◌<◌, ◌≤◌, [], false, Option, None, Some, IfOk, IfSome, IsTrue, List, ℕ};
+ghost use Rattle.std.specs.Prelude.{◌≡◌, ◌⊎◌, ◌+◌, ◌++◌, ◌<◌, ◌≤◌, [], false, Option, None, Some, IfOk, IfSome, IsTrue, List, ℕ};
 ghost use Rattle.std.specs.FinMap as map;
 ghost use Rattle.std.specs.Option.{option_copied};
 ghost use Rattle.dm_store.specs.Saved.{Loads, Saved, SavedSet};
 ghost use Rattle.dm_assembly_desk.specs.Desk.{IsFirstFrom};
 ghost use Rattle.relay_streams.specs.Streams.{OutputView};
-ghost use Rattle.relay_shared.specs.Command.{PutsText};
-ghost use Rattle.relay_desk_commands.specs.Desks.{desk_at, EndsHeld, EndsHeldOf, SeenJoint, SeesJoint, SeesNumber, TellsHeld, documents_in, joint_line, seen_line};
+ghost use Rattle.relay_shared.specs.Command.{PutsText, RefusesOnOutput, refusal_name};
+ghost use Rattle.relay_desk_commands.specs.Desks.{desk_at, EndsHeld, EndsHeldOf, IsUnsettledHeld, SeenJoint, SeesJoint, SeesNumber, TellsHeld, documents_in, joint_line, seen_line};
 ghost use Rattle.relay_desk_commands.specs.inner.Gathered.{GathersHeld};
 
 use crate::desk_opening::id_of;
 use crate::lines::{put_held, put_unsound, put_unsound_joint};
-use crate::settling::{Settled, settle_set};
 use dm_append_label::FileId;
 use dm_assembly_desk::{
     AskFault, DeskFault, Held, JointFile, MOST_JOINT_FILE_BYTES, MoveFault, held_at, is_listed,
@@ -177,9 +176,8 @@ fn tell<T: StoreSet, W: Write>(
     }
 }
 
-// Writes what was gathered of files that are settled now; or that memory was refused for it.
+// Writes what was gathered; or that memory was refused for it.
 fn put_gathered<A: Allocator, W: Write>(
-    _settled: &Settled,
     output: &mut Output<W>,
     gathered: Output<Vec<u8, A>>,
     status: u8,
@@ -204,8 +202,9 @@ fn held_of<A: Allocator + Copy, S: Store, T: StoreSet, R: Read, W: Write, E: Wri
     streams: &mut Streams<R, W, E>,
     id: Option<FileId>,
 ) -> EndedDesk<S, T>
-    ensures { EndsHeldOf id (desk_at (S.state store) (T.state set) streams.old) result.status
+    ensures ends { EndsHeldOf id (desk_at (S.state store) (T.state set) streams.old) result.status
         (desk_at (S.state result.store) (T.state result.set) streams.new) }
+    ensures settled { T.is_settled result.set ⊎ IsUnsettledHeld streams.old result.status streams.new }
 {
     let mut store = store;
     let mut set = set;
@@ -213,8 +212,8 @@ fn held_of<A: Allocator + Copy, S: Store, T: StoreSet, R: Read, W: Write, E: Wri
     let joint = joint_in(&loaded);
     let mut gathered = Output::new(Vec::new(alloc));
     let status = tell(&mut set, &mut gathered, &joint, id);
-    let status = match settle_set(&mut set) {
-        Ok(settled) => put_gathered(&settled, &mut streams.output, gathered, status),
+    let status = match set.settle() {
+        Ok(()) => put_gathered(&mut streams.output, gathered, status),
         Err(fault) => refuse(&mut streams.output, MoveFault::from(fault).name()),
     };
     EndedDesk { status, store, set }
@@ -235,8 +234,11 @@ pub fn held_command<A: Allocator + Copy, S: Store, T: StoreSet, R: Read, W: Writ
     streams: &mut Streams<R, W, E>,
     text: Option<&str>,
 ) -> EndedDesk<S, T>
-    ensures { EndsHeld (option_copied text.entry) (desk_at (S.state store) (T.state set) streams.old) result.status
+    ensures ends { EndsHeld (option_copied text.entry) (desk_at (S.state store) (T.state set) streams.old) result.status
         (desk_at (S.state result.store) (T.state result.set) streams.new) }
+    // No stop takes back what it tells, unless it has refused the text or could not settle what it saw.
+    ensures settled { T.is_settled result.set ⊎ RefusesOnOutput (refusal_name Refusal.FileId) streams.old result.status streams.new
+        ⊎ IsUnsettledHeld streams.old result.status streams.new }
 {
     let Some(text) = text else {
         return held_of(alloc, store, set, streams, None);

@@ -1,15 +1,15 @@
 //! `relay held --long`: what a desk holds of each document, how much that is, and how it begins.
 
-ghost use Rattle.std.specs.Prelude.{◌≡◌, ◌++◌, ◌≤◌, is_some, length, option_map, take, IfOk, OnOk, string_bytes};
+ghost use Rattle.std.specs.Prelude.{◌≡◌, ◌⊎◌, ◌++◌, ◌≤◌, ℕ, Option, is_some, length, option_map, take, IfOk, OnOk, string_bytes};
 ghost use Rattle.std.specs.FinMap.{entries};
 ghost use Rattle.std.specs.Option.{option_copied};
 ghost use Rattle.std.specs.List.{AllByRecursion, count_by, flat_map};
-ghost use Rattle.dm_assembly_desk.specs.Documents.{IsEntry, IsShort, document_of, lent_bytes};
-ghost use Rattle.relay_desk_commands.specs.Desks.{EndsHeldLong, EndsHeldLongOf, TellsLong, amount_text, beginning, desk_at, long_line, long_text, shown_byte};
+ghost use Rattle.dm_assembly_desk.specs.Documents.{Documents, IsEntry, IsShort, document_of, lent_bytes};
+ghost use Rattle.relay_shared.specs.Command.{RefusesOnOutput};
+ghost use Rattle.relay_desk_commands.specs.Desks.{EndsHeldLong, EndsHeldLongOf, HasNoOpenDesk, IsUnseen, TellsLong, amount_text, beginning, desk_at, long_line, long_text, shown_byte};
 
 use crate::desk_opening::{id_of, open_desk};
 use crate::lines::held_end;
-use crate::settling::Settled;
 use dm_append_label::FileId;
 use dm_assembly_desk::{AskFault, Desk, Held, MOST_CAPACITY, Pages};
 use dm_store::{Store, StoreSet};
@@ -157,17 +157,15 @@ fn long_text<T: StoreSet, A: Allocator + Copy>(
     }
 }
 
-// Tells of the document of an ID, or of all.
-fn tell_long<T: StoreSet, A: Allocator + Copy, W: Write>(
-    alloc: A,
-    _settled: &Settled,
-    desk: &Desk<T, A>,
+// Tells of the document of an ID, or of all, by the text of that.
+fn tell_long<A: Allocator, W: Write>(
     output: &mut Output<W>,
-    id: Option<FileId>,
+    text: Result<Option<String<A>>, AllocError>,
 ) -> u8
-    ensures { TellsLong id desk.now.held output.old result output.new }
+    ensures { (id : Option ℕ) (held : Documents) → IfOk text (λ text. option_map string_bytes text ≡ long_text id held)
+        → TellsLong id held output.old result output.new }
 {
-    match long_text(alloc, desk, id) {
+    match text {
         Ok(Some(text)) => status_after(output.put(text.as_bytes())),
         Ok(None) => refuse(output, AskFault::NotHeld.name()),
         Err(AllocError) => refuse(output, Refusal::Memory.name()),
@@ -182,21 +180,23 @@ fn held_long_of<A: Allocator + Copy, S: Store, T: StoreSet, R: Read, W: Write, E
     streams: &mut Streams<R, W, E>,
     id: Option<FileId>,
 ) -> EndedDesk<S, T>
-    ensures { EndsHeldLongOf id (desk_at (S.state store) (T.state set) streams.old) result.status
+    ensures ends { EndsHeldLongOf id (desk_at (S.state store) (T.state set) streams.old) result.status
+        (desk_at (S.state result.store) (T.state result.set) streams.new) }
+    ensures settled { T.is_settled result.set ⊎ HasNoOpenDesk RefusesOnOutput
+        (desk_at (S.state store) (T.state set) streams.old) result.status
         (desk_at (S.state result.store) (T.state result.set) streams.new) }
 {
     let opened = match open_desk(alloc, store, set, &mut streams.output, MOST_CAPACITY) {
         Ok(opened) => opened,
         Err(ended) => return ended,
     };
-    let status = tell_long(
-        alloc,
-        &opened.settled,
-        &opened.desk,
-        &mut streams.output,
-        id,
-    );
-    opened.end(status)
+    let text = long_text(alloc, &opened.desk, id);
+    let closed = match opened.close() {
+        Ok(closed) => closed,
+        Err(unopened) => return unopened.refuse(&mut streams.output),
+    };
+    let status = tell_long(&mut streams.output, text);
+    closed.end(status)
 }
 
 /// Prints the lines of `held`, with more in each: how many labels and bytes are held, and the first 40 bytes of page 1
@@ -212,7 +212,11 @@ pub fn held_long_command<A: Allocator + Copy, S: Store, T: StoreSet, R: Read, W:
     streams: &mut Streams<R, W, E>,
     text: Option<&str>,
 ) -> EndedDesk<S, T>
-    ensures { EndsHeldLong (option_copied text.entry) (desk_at (S.state store) (T.state set) streams.old) result.status
+    ensures ends { EndsHeldLong (option_copied text.entry) (desk_at (S.state store) (T.state set) streams.old)
+        result.status (desk_at (S.state result.store) (T.state result.set) streams.new) }
+    // No stop takes back what it tells, unless that is of no desk.
+    ensures settled { T.is_settled result.set ⊎ IsUnseen (option_copied text.entry)
+        (desk_at (S.state store) (T.state set) streams.old) result.status
         (desk_at (S.state result.store) (T.state result.set) streams.new) }
 {
     let Some(text) = text else {

@@ -1,10 +1,10 @@
 //! `relay import`: pages from another desk.
 
-ghost use Rattle.std.specs.Prelude.{◌≡◌, [], false, length, map};
-ghost use Rattle.dm_assembly_desk.specs.{Desk.import_fault_name, Documents.KeepsPages};
-ghost use Rattle.relay_shared.specs.Command.{TellsAnswer};
+ghost use Rattle.std.specs.Prelude.{◌≡◌, ℕ, List, MatchResult, [], false, length, map};
+ghost use Rattle.dm_assembly_desk.specs.{Desk.import_fault_name, Documents.DeskIsInOrder, Documents.KeepsPages};
+ghost use Rattle.relay_shared.specs.Command.{TellsAnswer, TellsRefusal};
 ghost use Rattle.relay_streams.specs.Streams.{TakesPart};
-ghost use Rattle.relay_desk_commands.specs.Desks.{EndsImport, ImportsFile, desk_at, import_line};
+ghost use Rattle.relay_desk_commands.specs.Desks.{EndsImport, HasNoDesk, ImportsFile, OpensDesk, desk_at, import_line};
 
 use crate::desk_opening::{OpenDesk, open_desk};
 use crate::lines::room_text;
@@ -45,6 +45,24 @@ fn why_refused<A: Allocator + Copy, T: StoreSet>(
     }
     let room = room_text(alloc, desk)?;
     format!(in alloc; "{name}{room}")
+}
+
+// Opens the desk, and settles what was found there; or writes the line `refused NAME`, and says how the command ends.
+#[rattlefmt::skip] // a signature a line
+fn open_settled<A: Allocator + Copy, S: Store, T: StoreSet, W: Write>(
+    alloc: A, store: S, set: T, output: &mut Output<W>, capacity: u16,
+) -> Result<(OpenDesk<S, T, A>, Settled), EndedDesk<S, T>>
+    ensures { MatchResult result
+        (λ opened. OpensDesk (record { joint = S.state store; set = T.state set }) capacity (S.state opened.0.store)
+        opened.0.desk × (output.new ≡ output.old) × DeskIsInOrder opened.0.desk)
+        (λ ended. (name : List ℕ) × HasNoDesk (record { joint = S.state store; set = T.state set }) capacity name
+        (record { joint = S.state ended.store; set = T.state ended.set })
+        × TellsRefusal name output.old ended.status output.new) }
+{
+    match open_desk(alloc, store, set, output, capacity)?.settle() {
+        Ok(opened) => Ok(opened),
+        Err(unopened) => Err(unopened.refuse(output)),
+    }
 }
 
 // Takes in a file, whose bytes are read into this room, and writes the line of the answer.
@@ -89,7 +107,7 @@ fn import_input<A: Allocator + Copy, S: Store, T: StoreSet, R: Read, W: Write, E
         Err(fault) => return EndedDesk { status: refuse(&mut streams.output, fault.name()), store, set },
     };
     let output = &mut streams.output;
-    let OpenDesk { store, mut desk, settled } = match open_desk(alloc, store, set, output, capacity) {
+    let (OpenDesk { store, mut desk }, settled) = match open_settled(alloc, store, set, output, capacity) {
         Ok(opened) => opened,
         Err(ended) => return ended,
     };
@@ -116,7 +134,7 @@ pub fn import_command<A: Allocator + Copy, S: Store, T: StoreSet, F: NamedFile, 
     let Ok(mut room) = vec![in alloc; 0u8; IMPORT_BYTES] else {
         return EndedDesk { status: refuse(output, Refusal::Memory.name()), store, set };
     };
-    let OpenDesk { store, mut desk, settled } = match open_desk(alloc, store, set, output, capacity) {
+    let (OpenDesk { store, mut desk }, settled) = match open_settled(alloc, store, set, output, capacity) {
         Ok(opened) => opened,
         Err(ended) => return ended,
     };

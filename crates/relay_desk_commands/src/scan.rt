@@ -9,7 +9,7 @@ ghost use Rattle.relay_streams.specs.Streams.{AppendsPart, refused_line};
 ghost use Rattle.dm_pbm_io.specs.Image.{picture};
 ghost use Rattle.relay_desk_commands.specs.Desks.{desk_at, EndsRefusal, EndsScan, IsIdOn, IsUnsettled, rests_on_held, scan_images};
 
-use crate::desk_opening::{OpenDesk, open_unsettled};
+use crate::desk_opening::{OpenDesk, open_desk};
 use crate::lines::room_text;
 use crate::settling::{Settled, settle_desk};
 use dm_append_label::LabelFault::{Block, Border};
@@ -194,11 +194,11 @@ pub fn scan_command<
     ensures { EndsScan capacity (map F.known images.now) (desk_at (S.state store) (T.state set) streams.old)
         result.status (desk_at (S.state result.store) (T.state result.set) streams.new) }
 {
-    let opened = match open_unsettled(alloc, store, set, &mut streams.output, capacity) {
+    let opened = match open_desk(alloc, store, set, &mut streams.output, capacity) {
         Ok(opened) => opened,
         Err(ended) => return ended,
     };
-    let OpenDesk { store, desk, .. } = opened;
+    let OpenDesk { store, desk } = opened;
     let mut scanning = Scanning {
         desk,
         settled: None,

@@ -1,4 +1,5 @@
-//! That what is told can't be taken back. A stop of the machine may take back what was found on a disk but not settled.
+//! That what `scan` and `import` tell can't be taken back. A stop of the machine may take back what was found on a disk
+//! but not settled. Commands that only read settle the set last, which their contracts say.
 
 ghost use Rattle.std.specs.Prelude.{◌≡◌, Err, IfErr};
 ghost use Rattle.dm_store.specs.Saved.{Settles};
@@ -7,8 +8,8 @@ use dm_assembly_desk::Desk;
 use dm_store::{StoreFault, StoreSet};
 use std::alloc::Allocator;
 
-/// That what was found is settled. Only the calls of this module make one, where a settle was done; and what tells of
-/// what was found wants one. It doesn't say of which files, nor when.
+/// That what was found is settled. Only [`settle_desk`] makes one, where a settle was done; and what tells of what was
+/// found wants one. It doesn't say of which files, nor when.
 #[derive(Drop)]
 pub(crate) struct Settled(());
 
@@ -20,17 +21,6 @@ pub(crate) fn settle_desk<A: Allocator + Copy, T: StoreSet>(
     ensures failed { IfErr result (λ why. Settles desk.old.saved (Err why) desk.old.saved) }
 {
     match desk.settle() {
-        Ok(()) => Ok(Settled(())),
-        Err(fault) => Err(fault),
-    }
-}
-
-/// Settles what the calls of a set have found.
-pub(crate) fn settle_set<T: StoreSet>(set: &mut T) -> Result<Settled, StoreFault>
-    ensures same { T.state set.new ≡ T.state set.old }
-    ensures failed { IfErr result (λ why. Settles (T.state set.old) (Err why) (T.state set.old)) }
-{
-    match set.settle() {
         Ok(()) => Ok(Settled(())),
         Err(fault) => Err(fault),
     }

@@ -1,6 +1,6 @@
 //! `relay left`: what a ledger holds.
 
-ghost use Rattle.std.specs.Prelude.{IsTrue};
+ghost use Rattle.std.specs.Prelude.{◌≡◌, IsTrue};
 ghost use Rattle.std.specs.List.{All, flat_map};
 ghost use Rattle.dm_print_ledger.specs.Ledger.{is_range};
 ghost use Rattle.relay_printer_commands.specs.Printers.{free_line, shown_lines, took_line, EndsLeft, ledger_at};
@@ -48,8 +48,10 @@ pub fn left_command<S: Store, R: Read, W: Write, E: Write>(
     mut store: S,
     streams: &mut Streams<R, W, E>,
 ) -> Ended<S>
-    ensures { EndsLeft (ledger_at (S.state store) streams.old) result.status
+    ensures ends { EndsLeft (ledger_at (S.state store) streams.old) result.status
         (ledger_at (S.state result.store) streams.new) }
+    // No stop takes back what is shown.
+    ensures settled { result.status ≡ 0 → S.is_settled result.store }
 {
     match Shown::load(&mut store) {
         Ok(shown) => {

@@ -2,7 +2,7 @@
 use Rattle.std.proofs.Common.{◌≡◌, ℕ, List, ◌∷◌, ◌++◌, Some, None, Result, Ok, Bool, true, false, refl, sym, ap, subst, String, Err}
 use Rattle.std.proofs.lemmas.{Slice.Eq.bytes_eq-Decides, Slice.Eq.starts_is, Bool.Decides.Decides-eqb}
 use Rattle.std.specs.{List.starts_with, Str.bytes_eq, String.string_bytes, Option.option_eq}
-use Rattle.std.specs.Prelude.{IsOk, OnOk, OnErr, codes, if◌then◌else◌, nat_eq, ◌&&◌}
+use Rattle.std.specs.Prelude.{IsOk, IsTrue, OnOk, OnErr, codes, if◌then◌else◌, nat_eq, ◌&&◌}
 use Rattle.dm_store.specs.declared.store.StoreFault.{StoreFault}
 use Rattle.test_helpers.specs.declared.mem_disk.DiskCall.{DiskCall, TheVariants.SyncedEntry, TheVariants.SyncedFolder}
 use Rattle.dm_disk.specs.Disk.{Content, IsSettled, KeepsFile, SettlesFolder, SyncsEntry, key_name}
@@ -47,10 +47,10 @@ not_ok fault ok = cc
 
 pub noted_entry : {A : Type 0} (calls later : List (DiskCall A)) (n : String A) (name : List ℕ)
     (answer : Result (Unit {0}) StoreFault) → string_bytes n ≡ name
-    → OnOk answer (later ≡ SyncedEntry n ∷ calls) → SyncsEntry (disk_after calls) name answer (disk_after later)
-noted_entry {A} calls later n name (Ok done) is ok = λ _ on.
-    subst (λ (es : List (DiskCall A)). IsSettled (disk_after es) name) (sym ok) (λ content leaves.
-    left_after (bytes_eq (string_bytes n) name) (synced_after calls name) calls name content
+    → OnOk answer (later ≡ SyncedEntry n ∷ calls) → SyncsEntry name answer (disk_after later)
+noted_entry {A} calls later n name (Ok done) is ok = λ _.
+    subst (λ (es : List (DiskCall A)). IsTrue (synced_after es name) → IsSettled (disk_after es) name) (sym ok)
+    (λ on content leaves. left_after (bytes_eq (string_bytes n) name) (synced_after calls name) calls name content
     ((bytes_eq-Decides (string_bytes n) name).1 is) on leaves)
 noted_entry {A} calls later n name (Err fault) is ok = λ done. absurd (not_ok fault done)
 
@@ -60,10 +60,10 @@ in_folder start rest = (starts_is Decides-eqb (start ++ rest) start _ refl).1 re
 pub noted_folder : {A : Type 0} (calls later : List (DiskCall A)) (start : String A) (folder : List ℕ)
     (answer : Result (Unit {0}) StoreFault) → string_bytes start ≡ folder ++ codes "/"
     → OnOk answer (later ≡ SyncedFolder start ∷ calls)
-    → SettlesFolder (disk_after calls) folder answer (disk_after later)
-noted_folder {A} calls later start folder (Ok done) is ok = λ key lt _ on.
+    → SettlesFolder folder answer (disk_after later)
+noted_folder {A} calls later start folder (Ok done) is ok = λ key lt _.
     let name = (folder ++ codes "/") ++ key_name key in
-    subst (λ (es : List (DiskCall A)). IsSettled (disk_after es) name) (sym ok) (λ content leaves.
-    left_after (starts_with nat_eq name (string_bytes start)) (synced_after calls name) calls name content
+    subst (λ (es : List (DiskCall A)). IsTrue (synced_after es name) → IsSettled (disk_after es) name) (sym ok)
+    (λ on content leaves. left_after (starts_with nat_eq name (string_bytes start)) (synced_after calls name) calls name content
     (rw is (in_folder (folder ++ codes "/") (key_name key))) on leaves)
 noted_folder {A} calls later start folder (Err fault) is ok = λ key lt done. absurd (not_ok fault done)

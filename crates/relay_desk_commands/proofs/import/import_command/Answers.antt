@@ -60,16 +60,16 @@ returns-then-has_failed-clause-part g c = rw (← c.streams.view_is) ([], Consum
 
 pub returns-then-has_failed-clause-ends : goal.returns-then-has_failed-clause-ends
 returns-then-has_failed-clause-ends g c =
-    let opens = c.in-Ok-open_desk.ensures in
+    let opens = c.in-Ok-open_settled.ensures in
     let there : c.loop-file.file-index < length c.args.files.now = omega arith in
     let stops = rw (c.has_failed.ensures, c.has_failed-in-loop-file.ensures) at c.if-has_failed.true in
-    let told : Told (map g.F.NamedFile.known c.args.files.now) (c.in-Ok-open_desk.opened.desk, c.open_desk.new.output)
+    let told : Told (map g.F.NamedFile.known c.args.files.now) (c.in-Ok-open_settled.opened.0.desk, c.open_settled.new.output)
     c.greater-status.result (c.import_file.new.desk, c.import_file.new.output) = rw c.greater-status.ensures
     (at_last_file _ _ _ _ _ _ _ _ c.file-item.result _ _ there c.file-item.is c.loop-file.invariant.does
     c.import_file.ensures.does stops) in
     let f = some_file g.F.NamedFile.known c.args.files.now (sym c.is_empty.ensures ∙ c.if-is_empty.false) in
     let all = rw (opens.1, f.2) at told in
-    rw (f.2, ← c.streams.view_is) (read_files (opened c.in-Ok-open_desk.opened.desk opens.0 (
+    rw (f.2, ← c.streams.view_is) (read_files (opened c.in-Ok-open_settled.opened.0.desk opens.0 (
       c.import_file.new.desk,
       all,
       refl,
@@ -83,12 +83,12 @@ returns-clause-part g c = rw (← c.streams.view_is) ([], Consumes-nil _, omega 
 
 pub returns-clause-ends : goal.returns-clause-ends
 returns-clause-ends g c =
-    let opens = c.in-Ok-open_desk.ensures in
+    let opens = c.in-Ok-open_settled.ensures in
     let ended : length c.args.files.now ≤ c.loop-file.file-index = omega arith in
-    let told : Told (map g.F.NamedFile.known c.args.files.now) (c.in-Ok-open_desk.opened.desk, c.open_desk.new.output)
+    let told : Told (map g.F.NamedFile.known c.args.files.now) (c.in-Ok-open_settled.opened.0.desk, c.open_settled.new.output)
     c.loop-file.status (c.loop-file.desk, c.loop-file.output) =
     at_no_file _ _ _ _ _ _ _ _ ended c.loop-file.invariant.does in
     let f = some_file g.F.NamedFile.known c.args.files.now (sym c.is_empty.ensures ∙ c.if-is_empty.false) in
     let all = rw (opens.1, f.2) at told in
-    rw (f.2, ← c.streams.view_is) (read_files (opened c.in-Ok-open_desk.opened.desk opens.0
+    rw (f.2, ← c.streams.view_is) (read_files (opened c.in-Ok-open_settled.opened.0.desk opens.0
     (c.loop-file.desk, all, refl, c.loop-file.invariant.kept, c.close-2.ensures.order, c.close-2.ensures.state)))

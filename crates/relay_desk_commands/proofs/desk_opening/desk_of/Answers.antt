@@ -1,6 +1,6 @@
 use Rattle.std.proofs.Common.{sym}
 use Rattle.relay_desk_commands.specs.Desks.HasNoDesk.{not_moved, not_opened}
-use Rattle.relay_desk_commands.proofs.desk_opening.unsettled_desk.Goals as goal
+use Rattle.relay_desk_commands.proofs.desk_opening.desk_of.Goals as goal
 
 pub returns-in-Err : goal.returns-in-Err
 returns-in-Err g c = not_moved c.in-Err.fault c.in-Err.ensures c.name-name.ensures
