@@ -59,7 +59,8 @@ module _ (A : Type 0) (file folder : Bor (List ℕ)) where
             ended = 0;
             wrote = streams_over old.standard;
             does = does_opening what _ _ _ (opened desk opens.0 (refl, refl, opens.1));
-            out = lets_all_out (Keeps-refl old.standard.output) refl (all_out old.standard.errors);
+            out = lets_all_out (Keeps-refl old.standard.output) refl (all_out old.standard.errors) (λ _. Keeps-refl old.standard.errors);
+            left = refl;
           };
           is_at = is_at;
           noted = notes;
@@ -77,7 +78,9 @@ module _ (A : Type 0) (file folder : Bor (List ℕ)) where
           ended = status;
           wrote = record (streams_over old.standard) { errors = puts.0.0 };
           does = does_opening what _ _ _ (no_desk name none (puts.0.1, refl));
-          out = lets_all_out (kept old.standard.output told.output puts.2) refl puts.0.2;
+          out = lets_all_out (kept old.standard.output told.output puts.2) refl puts.0.2
+              (λ zero. absurd (grind (arith, puts.0.1, zero)));
+          left = puts.1;
         };
         is_at = is_at;
         noted = notes;
@@ -114,7 +117,8 @@ module _ (A : Type 0) (from id : Bor (List ℕ)) where
         wrote = streams_over (record old.standard { output = Some bytes });
         does = does_giving what _ _ _
             (of_id number text (opened desk opens.0 (Ok bytes, yields, inl (refl, refl, refl), opens.1)));
-        out = lets_all_out (Keeps-refl (Some bytes)) refl (all_out old.standard.errors);
+        out = lets_all_out (Keeps-refl (Some bytes)) refl (all_out old.standard.errors) (λ _. Keeps-refl old.standard.errors);
+        left = refl;
       };
       is_at = at_from what old.places;
       noted = inl refl;

@@ -158,20 +158,21 @@ Notes old new = (new ≡ old) ⊎ ((note : List ℕ) × ShowsOnErrors note old n
 abbrev pub RefusesNoted : List ℕ → StandardView → ℕ → StandardView → Type 0
 RefusesNoted name old status new = (told : StandardView) × PutsRefusal true name old status told × Notes told new
 
--- What a command wrote is out, and its status is the program's. Or the output refused a write, and the first bytes of
--- what the command wrote are out: then a refusal goes to the standard error and the status is 1; or the command's own
--- status is not 0, and stands. Of what is written to the standard error, the first bytes are out.
+-- What a command wrote is out, and its status is the program's. Or a stream refused a write, and the first bytes of what
+-- the command wrote are out: then a refusal goes to the standard error, as far as that takes it, and the status is 1; or
+-- the command's own status is not 0, and stands. Of what is written to the standard error, the first bytes are out, and
+-- all of it if the status is 0.
 pub data PutsOut (wrote : Option (List ℕ)) (told : OutputView) (ended status : ℕ) (out errors : Option (List ℕ))
     : Type 0 where
   lets_all_out : Keeps wrote out → status ≡ ended → IsPartOut told.contents errors →
-      PutsOut wrote told ended status out errors
+      (ended ≡ 0 → Keeps told.contents errors) → PutsOut wrote told ended status out errors
   says_nothing : ended ≢ 0 → IsPartOut wrote out → status ≡ ended → IsPartOut told.contents errors →
       PutsOut wrote told ended status out errors
   says_so : (after : OutputView) → IsPartOut wrote out → TellsRefusal (write_fault_name Write) told status after →
       IsPartOut after.contents errors → PutsOut wrote told ended status out errors
 
 -- What a command does between the standard streams, with these files before and after. The status is 0 only if the
--- command's is, and all that it wrote is out.
+-- command's is, and all that it wrote is out. What it has not read is left on the input.
 pub record DoesBetween (A : Type 0) (command : Command) (inputs : List FileView) (before : DeskFiles)
     (old : StandardView) (status : ℕ) (after : DeskFiles) (new : StandardView) : Type 0 where
   pub ended : ℕ
@@ -179,6 +180,7 @@ pub record DoesBetween (A : Type 0) (command : Command) (inputs : List FileView)
   pub does : Does A command inputs (record { files = before; streams = streams_over old }) ended
       (record { files = after; streams = wrote })
   pub out : PutsOut wrote.output.contents wrote.errors ended status new.output new.errors
+  pub left : new.input ≡ wrote.input.remaining
 
 -- ---- a command of a line
 

@@ -1,7 +1,7 @@
 //! The program `relay`. [`System::run_line`] does what the words of a line say over standard streams and the files at
 //! paths, which [`Places`] gives out, and answers the exit status; [`run`] calls it with the program's own words and
-//! streams and the system's files. [`do_command`] does a command over its files and streams; the commands stand in
-//! crates of their own.
+//! streams and the system's files. [`do_command`] does a command over its files and streams. Each command is also a
+//! function of its own, and [`command_line`] gives the command of a line.
 //!
 //! Proved of a line, of [`System::run_line`]: which command its words give, and that they show something or are refused
 //! exactly where they give none; that the command is done with the files at the path that it names, and every other
@@ -32,7 +32,17 @@ mod system;
 pub use commands::do_command;
 pub use program::run;
 pub use relay_command::Command;
+pub use relay_desk_commands::{
+    CopyOptions, copy_command, deliver_command, export_command, forget_command, held_command,
+    held_long_command, import_command, scan_command,
+};
+pub use relay_line::{CommandLine, LineFault, command_line};
 pub use relay_places::{Access, MemPlace, MemPlaces, Named, Places};
-pub use relay_printer_commands::Labels;
+pub use relay_printer_commands::{
+    Labels, audit_command, give_command, give_last_command, ledger_command, left_command,
+    plan_command, print_command, take_command, ticket_command,
+};
+pub use relay_symbol_commands::{Form, draw_command, read_command, words_command};
+pub use relay_world_command::world_command;
 pub use standard::StandardStreams;
 pub use system::System;

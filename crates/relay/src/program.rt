@@ -1,5 +1,8 @@
 //! The program over its own streams and files.
 
+ghost use Rattle.std.specs.Prelude.{map, string_bytes};
+ghost use Rattle.relay.specs.Program.{Runs, SystemView, system_at};
+
 use crate::closed_streams::HeldPlaces;
 use crate::standard::{StandardStreams, tell};
 use crate::system::System;
@@ -65,7 +68,10 @@ fn run_over<I: Read + Drop, O: Write + Drop, E: Write + Drop, P: Places>(
     standard: StandardStreams<I, O, E>,
     places: P,
     words: &[String],
-) -> u8 {
+) -> u8
+    ensures { (new : SystemView) × Runs Global (P.known places) (map string_bytes words.now)
+        (system_at standard (P.state places)) result new }
+{
     let (status, _) = System { standard, places }.run_line(alloc, words);
     status
 }

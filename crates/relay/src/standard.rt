@@ -2,7 +2,7 @@
 
 ghost use Rattle.std.specs.Prelude.{◌≡◌, map, true};
 ghost use Rattle.relay_buffers.specs.Buffers.{empty_before, promised};
-ghost use Rattle.relay.specs.Program.{DoesBetween, PutsOut, ShowsPart, TellsOut, StandardView, least_of};
+ghost use Rattle.relay.specs.Program.{DoesBetween, PutsOut, ShowsPart, TellsOut, StandardView, least_of, streams_over};
 ghost use Rattle.relay_places.specs.Places.{files_of};
 ghost use Rattle.std.specs.Io.KnownBytes.{Appends};
 
@@ -52,6 +52,20 @@ fn output_of<A: Allocator, W: Write>(alloc: A, writer: W, command: Command) -> L
     LineBuffer::new(alloc, writer, least)
 }
 
+// The streams of a command. Its output keeps what it may, and what it says on the standard error goes out at once.
+fn streams_of<A: Allocator, I: Read + Drop, O: Write, E: Write>(
+    input: Watched<I>,
+    output: LineBuffer<O, A>,
+    errors: LineBuffer<E, A>,
+    command: Command,
+) -> Streams<Watched<I>, LineBuffer<O, A>, LineBuffer<E, A>>
+    requires output { output ≡ empty_before output.out (least_of command.entry) }
+    requires errors { errors ≡ empty_before errors.out 0 }
+    ensures { result ≡ streams_over (record { input = I.remaining input.reader; output = output.out; errors = errors.out }) }
+{
+    Streams::new(input, output, errors)
+}
+
 // Whether it is said that the output has failed: always of a command that has ended with 0; else where the output has
 // failed before, but for one that answers to each image, and for one that has said so itself.
 fn says_failure(command: Command, has_failed: bool, status: u8) -> bool
@@ -81,7 +95,8 @@ pub(crate) fn show<A: Allocator, W: Write + Drop>(alloc: A, writer: W, text: &[u
     (writer, is_all && put.is_ok())
 }
 
-// Lets out what a command has written; where it can't, that is said if it is to be. The exit status, and the writers.
+// Lets out what a command has written; where the output takes less, that is said if it is to be. The exit status, which
+// is not 0 if the standard error takes less, and the writers.
 fn let_out<A: Allocator, O: Write + Drop, E: Write + Drop>(
     output: LineBuffer<O, A>,
     errors: Output<LineBuffer<E, A>>,
@@ -98,7 +113,8 @@ fn let_out<A: Allocator, O: Write + Drop, E: Write + Drop>(
     } else {
         ended
     };
-    let (errors, _) = told.into_writer().end();
+    let (errors, is_told) = told.into_writer().end();
+    let status = if is_told { status } else { status.max(1) };
     (status, output, errors)
 }
 
@@ -128,7 +144,7 @@ pub(crate) fn do_between<
     let StandardStreams(input, output, errors) = standard;
     let output = output_of(alloc, output, command);
     let errors = LineBuffer::new(alloc, errors, 0);
-    let mut streams = Streams::new(Watched::new(input), output, errors);
+    let mut streams = streams_of(Watched::new(input), output, errors, command);
     let ended = do_command(alloc, store, set, inputs, &mut streams, command);
     let EndedDesk { status, store, set } = ended;
     let Streams { input, output, errors } = streams;
