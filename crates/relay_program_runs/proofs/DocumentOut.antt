@@ -55,17 +55,17 @@ noted_same old new (inr noted) = noted.1.1
 
 module _ {wrote out errors : Option (List ℕ)} {told : OutputView} {ended status : ℕ} where
   out_part : PutsOut wrote told ended status out errors → IsPartOut wrote out
-  out_part (lets_all_out keeps same part) = part_kept wrote out keeps
+  out_part (lets_all_out keeps same part told) = part_kept wrote out keeps
   out_part (says_nothing not_done part same tells) = part
   out_part (says_so after part tells so) = part
 
   out_all : PutsOut wrote told ended status out errors → status ≡ 0 → (ended ≡ 0) × Keeps wrote out
-  out_all (lets_all_out keeps same part) zero = (sym same ∙ zero, keeps)
+  out_all (lets_all_out keeps same part told) zero = (sym same ∙ zero, keeps)
   out_all (says_nothing not_done part same tells) zero = absurd (not_done (sym same ∙ zero))
   out_all (says_so after part tells so) zero = absurd (not_zero (refused_one tells) zero)
 
   out_one : PutsOut wrote told ended status out errors → ended ≡ 1 → status ≡ 1
-  out_one (lets_all_out keeps same part) one = same ∙ one
+  out_one (lets_all_out keeps same part told) one = same ∙ one
   out_one (says_nothing not_done part same tells) one = same ∙ one
   out_one (says_so after part tells so) one = refused_one tells
 

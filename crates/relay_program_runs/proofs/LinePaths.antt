@@ -3,7 +3,7 @@ use Rattle.std.proofs.Common.{◌≡◌, ◌≢◌, ◌++◌, ◌⊎◌, Bor, in
 use Rattle.std.specs.{Prelude.Decides, Prelude.map, Prelude.unwrap_or, List.AllByRecursion, Str.bytes_eq}
 use Rattle.std.specs.FinMap as finite
 use Rattle.std.proofs.lemmas.Slice.Eq.{bytes_eq-Decides}
-use Rattle.dm_store.specs.Saved.{SavedIn}
+use Rattle.dm_store.specs.Saved.{Saved, SavedIn}
 use Rattle.dm_size.specs.declared.size.Size.{Size}
 use Rattle.dm_symbol.specs.Correction.{CarriesItsWords}
 use Rattle.relay_command.specs.declared.command.Command.{Command}
@@ -17,8 +17,8 @@ use Rattle.relay.proofs.AllDocuments.{others_stay}
 use Rattle.relay.specs.Program as program
 use Rattle.relay_program_runs.specs.Law.{At, MeetsPremises, IsBlank, IsNew, Ran, RunInTurn, SomeRan, store_of}
 use Rattle.relay_program_runs.specs.Lines.{EachIdOfLinesHasOneDocument, Follow, IsNamedBy, LineRan, LinesAsk, NoLinePrintsAnIdAgain, WhatLinesDeliverIsTheDocument, WhatLinesDeliverWasPrinted, all_commands, commands_in, commands_of, forgetters_in, givers_in, if_named, in_folder, ran_at, saved_as}
-use Rattle.relay_program_runs.specs.InTurn.{WhatLinesRunInTurnFindWhatWasLeft, set_of}
-use Rattle.relay_program_runs.proofs.{Lists.all_so, OneDocument.each_id_has_one_document, OneDocument.what_is_delivered_is_the_document, Walk.no_id_is_printed_twice, Walk.what_is_delivered_was_printed, Walk.what_runs_in_turn_finds_what_was_left}
+use Rattle.relay_program_runs.specs.{InTurn.WhatLinesRunInTurnFindWhatWasLeft, InTurn.set_of, Where.IsLeftByLinesAt, Where.NoIdOfLinesIsInTwoPlaces}
+use Rattle.relay_program_runs.proofs.{Lists.all_so, OneDocument.each_id_has_one_document, OneDocument.what_is_delivered_is_the_document, Walk.no_id_is_printed_twice, Where.no_id_is_in_two_places, Where.still_there, Walk.what_is_delivered_was_printed, Walk.what_runs_in_turn_finds_what_was_left}
 use Rattle.relay_program_runs.proofs.Steps.{Pairs, at_same, found, pairs_so, there}
 use Rattle.relay_shared.specs.Command.{FileView}
 
@@ -338,6 +338,20 @@ module _ (A : Type 0) where
     apart = ask.apart;
     tickets = ask.tickets;
   }
+
+  -- a path that a command names is one of its paths
+  path_in : (paths : List (List ℕ)) (rans : List (Ran A)) → AllIn paths rans → (path : List ℕ) → IsPath rans path → IsIn paths path
+  path_in paths rans all path (number, ran, there, same) =
+      subst (IsIn paths) same (found (λ (ran : Ran A). IsIn paths (path_of ran.command)) rans all number ran there)
+
+  pub no_id_of_lines_is_in_two_places : NoIdOfLinesIsInTwoPlaces A
+  no_id_of_lines_is_in_two_places lines ask id one other here there =
+      let c = covers (all_commands lines) in
+      let so = λ (path : List ℕ) (saved : Saved) (has : IsLeftByLinesAt ask.places lines path saved).
+      let is = path_in c.paths (all_commands lines) c.all path has.0 in
+      (is.0, store_of (ask.places path), at_in store_of c.paths ask.places is.0 path is.1, has.1) in
+      no_id_is_in_two_places A _ (all_commands lines) (asks lines ask) id one other
+      (still_there _ _ so (all_commands lines) id one here) (still_there _ _ so (all_commands lines) id other there)
 
   pub no_line_prints_an_id_again : NoLinePrintsAnIdAgain A
   no_line_prints_an_id_again lines ask = no_id_is_printed_twice A _ (all_commands lines) (asks lines ask)

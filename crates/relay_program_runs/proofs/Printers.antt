@@ -138,7 +138,7 @@ runs_on {A} first earlier mid [] end one other = subst (IsRun first earlier) (sy
 runs_on first earlier mid (moment ∷ later) end one other =
     (runs_on first earlier mid later moment.before one other.0, other.1)
 
-other_there : {X : Type 0} (xs : List X) (i j : ℕ) (x : X) → (j ≡ i → ⊥) →
+pub other_there : {X : Type 0} (xs : List X) (i j : ℕ) (x : X) → (j ≡ i → ⊥) →
     slice_get (slice_set xs i x) j ≡ slice_get xs j
 other_there [] i j x isnt = refl
 other_there (z ∷ zs) zero zero x isnt = absurd (isnt refl)

@@ -1,6 +1,7 @@
 -- Where an ID is, by the machine's printers and tickets.
-use Rattle.std.proofs.Common.{◌≡◌, ◌+◌, ◌≤◌, ◌++◌, inl, inr, Bool, false, true, ℕ, zero, suc, List, [], ◌∷◌, None, Option, Some, Ok, slice_get, refl, sym, ap, subst, ◌∙◌, append_assoc, append-nil, arith}
-use Rattle.std.specs.Prelude.{AllPairs, IsSomeAnd, nat_le, if◌then◌else◌}
+use Rattle.std.proofs.Common.{◌≡◌, ◌≢◌, ◌+◌, ◌<◌, ◌≤◌, ◌++◌, inl, inr, Bool, false, true, ℕ, zero, suc, List, [], ◌∷◌, None, Option, Some, Ok, slice_get, slice_index_or, slice_set, refl, sym, ap, subst, ◌∙◌, append_assoc, append-nil, arith}
+use Rattle.std.specs.{Prelude.AllPairs, Prelude.Decides, Prelude.IsSomeAnd, Prelude.nat_le, Prelude.if◌then◌else◌, Str.bytes_eq}
+use Rattle.std.proofs.lemmas.{Bool.cases_lt, Option.get_or_from_slice_get, Option.slice_get_within, Slice.Eq.bytes_eq-Decides}
 use Rattle.std.specs.Option.{option_map_or}
 use Rattle.dm_store.specs.Saved.{Saved}
 use Rattle.dm_print_ledger.specs.Ledger.{LedgerView, ShownView, TicketView, is_free, is_in, is_old, last_taken, ledger_bytes, read_ledger, shown_of}
@@ -9,11 +10,14 @@ use Rattle.dm_event_history.specs.Relay.{Actor, Move, Relay, stored_of}
 use Rattle.dm_event_history.specs.Headline.{IsNoted, RelayIsInOrder, RelayIsSound, is_taken, on_tickets, one_if}
 use Rattle.dm_event_history.specs.Headline as counts
 use Rattle.dm_event_history.proofs.{Deciding.same_or_other, Headline.each_run_is_sound, Numbers.free_some}
+use Rattle.dm_event_history.proofs.Gotten.{set_at}
 use Rattle.dm_event_world.proofs.Changing.{at_place}
-use Rattle.relay_program_runs.specs.{Passed.Made, Where.IsThere, Where.NoIdIsInTwoPlaces, Where.HasLedger, Where.Where, Where.free_at, Where.left_by, Where.on_ticket, Where.printed}
-use Rattle.relay_program_runs.specs.Law.{AreApart, Each, Ran, RunInTurn, StoreAt, TakesGiven, all_made, store_of}
+use Rattle.relay.specs.Program.{path_of}
+use Rattle.relay_runs.proofs.Places.{set_there}
+use Rattle.relay_program_runs.specs.{Passed.Made, Where.IsThere, Where.NoIdIsInTwoPlaces, Where.HasLedger, Where.IsLeftAt, Where.Where, Where.free_at, Where.left_at, Where.on_ticket, Where.printed}
+use Rattle.relay_program_runs.specs.Law.{AreApart, Each, Ran, RunInTurn, StoreAt, TakesGiven, all_made, at_its_path, store_of}
 use Rattle.relay_program_runs.proofs.{Effects.HoldsSo, Ranges.ranges_apart, Ranges.ranges_of, Walk.goes_on, Walk.made_next}
-use Rattle.relay_program_runs.proofs.Printers.{Stands, begun}
+use Rattle.relay_program_runs.proofs.Printers.{Stands, begun, other_there}
 
 -- ---- counts
 
@@ -141,20 +145,103 @@ module _ (relay : Relay) (order : RelayIsInOrder relay) (it : ℕ) (ticket : Tic
       by false is = is
       by true is = absurd (not_noted (order.noted it is))
 
+-- ---- the stores at the end
+
+-- what a site has once these commands ran
+left_by : {A : Type 0} (site : List StoreAt) (rans : List (Ran A)) → RunInTurn store_of site rans → List StoreAt
+left_by site [] runs = site
+left_by site (ran ∷ later) runs = left_by (slice_set site runs.0 (at_its_path ran ran.after.files.joint)) later runs.2
+
+-- no path is there twice
+abbrev Once : List StoreAt → Type 0
+Once site = (i j : ℕ) (one other : StoreAt) → slice_get site i ≡ Some one → slice_get site j ≡ Some other →
+    one.path ≡ other.path → i ≡ j
+
+once_new : (site : List StoreAt) → AllPairs (λ one other. one.path ≢ other.path) site → Once site
+once_new site apart i j one other at there same = elim (cases_lt i j) [
+  | inl below ↦ absurd (two_differ i j one other below at there same)
+  | inr above ↦ elim (same_or_other i j) [
+    | inl is ↦ is
+    | inr isnt ↦ absurd (two_differ j i other one (omega (arith, above, isnt)) there at (sym same))
+  ]
+]
+  where
+    two_differ : (i j : ℕ) (one other : StoreAt) → i < j → slice_get site i ≡ Some one → slice_get site j ≡ Some other →
+        one.path ≢ other.path
+    two_differ i j one other below at there =
+        subst (λ (a : StoreAt). one.path ≢ a.path) (get_or_from_slice_get site j other one there)
+        (subst (λ (a : StoreAt). a.path ≢ (slice_index_or site j one).path) (get_or_from_slice_get site i one one at)
+        (apart i j one below (slice_get_within site j other there)))
+
+module _ {A : Type 0} (site : List StoreAt) (ran : Ran A) (place : ℕ)
+    (found : slice_get site place ≡ Some (at_its_path ran ran.before.files.joint)) where
+  abbrev after_it : List StoreAt
+  after_it = slice_set site place (at_its_path ran ran.after.files.joint)
+
+  -- each path was there before
+  was : (i : ℕ) (at : StoreAt) → slice_get after_it i ≡ Some at →
+      (old : StoreAt) × (slice_get site i ≡ Some old) × (old.path ≡ at.path)
+  was i at there = elim (set_at site place i (at_its_path ran ran.after.files.joint) at there) [
+    | inl same ↦ (
+      at_its_path ran ran.before.files.joint,
+      subst (λ (p : ℕ). slice_get site p ≡ Some (at_its_path ran ran.before.files.joint)) same.0 found,
+      ap (λ (a : StoreAt). a.path) same.1,
+    )
+    | inr other ↦ (at, other.1, refl)
+  ]
+
+  still_once : Once site → Once after_it
+  still_once once i j one other at there same =
+      let a = was i one at in
+      let b = was j other there in
+      once i j a.0 b.0 a.1 b.1 (a.2 ∙ same ∙ sym b.2)
+
+  -- at its path stands what it left, and elsewhere what stood there
+  next_store : Once site → (i : ℕ) (path : List ℕ) (saved : Saved) →
+      slice_get site i ≡ Some (record { path = path; saved = saved }) → slice_get after_it i
+      ≡ Some (record { path = path; saved = if bytes_eq (path_of ran.command) path then ran.after.files.joint else saved })
+  next_store once i path saved there =
+      by (bytes_eq (path_of ran.command) path) (bytes_eq-Decides (path_of ran.command) path)
+    where
+      by : (b : Bool) → Decides b (path_of ran.command ≡ path) →
+          slice_get after_it i ≡ Some (record { path = path; saved = if b then ran.after.files.joint else saved })
+      by true is =
+          let same : path_of ran.command ≡ path = is.0 refl in
+          let here : i ≡ place = once i place _ _ there found (sym same) in
+          subst (λ (p : ℕ). slice_get after_it p ≡ Some (record { path = path; saved = ran.after.files.joint })) (sym here)
+          (set_there site place _ (at_its_path ran ran.after.files.joint) found
+          ∙ ap (λ (q : List ℕ). Some (record { path = q; saved = ran.after.files.joint })) same)
+      by false isnt =
+          let other : place ≡ i → ⊥ = λ here. let both : path_of ran.command ≡ path = cc (found, there, here) in
+          let no : false ≡ true = isnt.1 both in cc (no) in
+          other_there site place i (at_its_path ran ran.after.files.joint) (λ here. other (sym here)) ∙ there
+
+left_there : {A : Type 0} (rans : List (Ran A)) (site : List StoreAt) → Once site → (runs : RunInTurn store_of site rans) →
+    (place : ℕ) (path : List ℕ) (first : Saved) → slice_get site place ≡ Some (record { path = path; saved = first }) →
+    slice_get (left_by site rans runs) place ≡ Some (record { path = path; saved = left_at path first rans })
+left_there [] site once runs place path first there = there
+left_there (ran ∷ later) site once runs place path first there =
+    left_there later _ (still_once site ran runs.0 runs.1 once) runs.2 place path _
+    (next_store site ran runs.0 runs.1 once place path first there)
+
 module _ (A : Type 0) (made : List Made) (apart : AllPairs AreApart made) where
   -- how all stands at the end
   stands_after : (later earlier : List (Ran A)) (site : List StoreAt) → Stands A (ranges_of made) earlier site →
       made ≡ all_made earlier ++ all_made later → (runs : RunInTurn store_of site later) → Each TakesGiven earlier later →
-      Stands A (ranges_of made) (earlier ++ later) (left_by store_of site later runs)
+      Stands A (ranges_of made) (earlier ++ later) (left_by site later runs)
   stands_after [] earlier site s are runs takes =
       subst (λ (rans : List (Ran A)). Stands A (ranges_of made) rans site) (sym (append-nil earlier)) s
   stands_after (ran ∷ later) earlier site s are runs takes =
-      subst (λ (rans : List (Ran A)). Stands A (ranges_of made) rans (left_by store_of site (ran ∷ later) runs))
+      subst (λ (rans : List (Ran A)). Stands A (ranges_of made) rans (left_by site (ran ∷ later) runs))
       (append_assoc earlier (ran ∷ []) later)
       (stands_after later (earlier ++ ran ∷ []) _ (goes_on A made apart earlier site s ran later are runs takes.0).stands
       (made_next A made apart earlier ran later are) runs.2 takes.1)
 
   module _ (rans : List (Ran A)) (site : List StoreAt) (s : Stands A (ranges_of made) rans site) (id : ℕ) where
+    -- the store at a path, and in which place of the site
+    abbrev Has : List ℕ → Saved → Type 0
+    Has path saved = (place : ℕ) × (slice_get site place ≡ Some (record { path = path; saved = saved }))
+
     sound : RelayIsSound s.relay
     sound = (each_run_is_sound A (ranges_of made) [] s.moments s.relay (ranges_apart made apart) s.run).0
 
@@ -172,9 +259,9 @@ module _ (A : Type 0) (made : List Made) (apart : AllPairs AreApart made) where
       there : slice_get s.relay.printers number ≡ Some actor
       free : is_free (stored_of actor).free id ≡ true
 
-    free_of : (place : ℕ) → IsThere site rans id (free_at place) → Free place
-    free_of place (at, there, (shown, says, free)) =
-        let k = (kept place at shown there says) in record {
+    free_of : (path : List ℕ) → (is : IsThere Has rans id (free_at path)) → Free is.1.0
+    free_of path (saved, (place, there), (shown, says, free)) =
+        let k = kept place (record { path = path; saved = saved }) shown there says in record {
           number = k.2.number;
           numbered = k.1 ∙ ap Some k.2.is;
           actor = k.2.actor;
@@ -182,16 +269,16 @@ module _ (A : Type 0) (made : List Made) (apart : AllPairs AreApart made) where
           free = ap (λ (v : ShownView). is_free v.free id) (sym k.2.says) ∙ free;
         }
 
-    once_free : (place : ℕ) → IsThere site rans id (free_at place) → 1 ≤ counts.free_at s.relay.printers id
-    once_free place is =
-        let f = free_of place is in free_some s.relay.printers f.number id f.actor f.there f.free
+    once_free : (path : List ℕ) → IsThere Has rans id (free_at path) → 1 ≤ counts.free_at s.relay.printers id
+    once_free path is =
+        let f = free_of path is in free_some s.relay.printers f.number id f.actor f.there f.free
 
     -- the ticket with this number left, and was not taken
-    waits : (ticket : TicketView) → IsThere site rans id (on_ticket ticket) →
+    waits : (ticket : TicketView) → IsThere Has rans id (on_ticket ticket) →
         (it : ℕ) × Waits s.relay.moves 0 it s.relay.tickets ticket id
-    waits ticket (gave, has, (place, at, there, (shown, says, receiver, awaits))) =
+    waits ticket (gave, has, (path, saved, (place, there), (shown, says, receiver, awaits))) =
         let left = s.gave ticket gave in
-        let k = (kept place at shown there says).2 in
+        let k = (kept place (record { path = path; saved = saved }) shown there says).2 in
         let number : ticket.receiver ≡ (stored_of k.actor).number =
         one_value ticket.receiver (stored_of k.actor).number (sym receiver ∙ ap (λ (v : ShownView). v.number) k.says) in
         let here : slice_get s.relay.printers ticket.receiver ≡ Some k.actor =
@@ -207,15 +294,18 @@ module _ (A : Type 0) (made : List Made) (apart : AllPairs AreApart made) where
           },
         )
 
-    once_on : (ticket : TicketView) → IsThere site rans id (on_ticket ticket) →
+    once_on : (ticket : TicketView) → IsThere Has rans id (on_ticket ticket) →
         1 ≤ on_tickets s.relay.moves 0 s.relay.tickets id
     once_on ticket is = (let w = waits ticket is in on_some s.relay.moves 0 w.0 s.relay.tickets ticket id w.1)
 
-    one_place : (one other : Where) → IsThere site rans id one → IsThere site rans id other → one ≡ other
+    one_place : (one other : Where) → IsThere Has rans id one → IsThere Has rans id other → one ≡ other
     one_place (free_at p) (free_at q) here there =
         let f = free_of p here in let g = free_of q there in
         elim (same_or_other f.number g.number) [
-          | inl same ↦ ap free_at (s.once p q g.number (f.numbered ∙ ap (λ (n : ℕ). Some (Some n)) same) g.numbered)
+          | inl same ↦
+              let place : here.1.0 ≡ there.1.0 =
+              s.once here.1.0 there.1.0 g.number (f.numbered ∙ ap (λ (n : ℕ). Some (Some n)) same) g.numbered in
+              ap free_at (let a = here.1.1 in let b = there.1.1 in cc (a, b, place))
           | inr isnt ↦
               let twice = free_twice s.relay.printers f.number g.number id f.actor g.actor isnt f.there g.there f.free g.free in
               let most = sound.apart id in absurd (omega (arith, twice, most))
@@ -242,8 +332,22 @@ module _ (A : Type 0) (made : List Made) (apart : AllPairs AreApart made) where
     one_place printed (on_ticket t) here there =
         let one = once_on t there in let two = s.used id here in let most = sound.apart id in absurd (omega (arith, one, two, most))
 
+-- what is so of stores is so of stores that are the same
+pub still_there : {A : Type 0} (P Q : List ℕ → Saved → Type 0) → ((path : List ℕ) (saved : Saved) → P path saved → Q path saved) →
+    (rans : List (Ran A)) (id : ℕ) (one : Where) → IsThere P rans id one → IsThere Q rans id one
+still_there P Q so rans id (free_at path) (saved, has, free) = (saved, so path saved has, free)
+still_there P Q so rans id (on_ticket ticket) (gave, has, (path, saved, at, awaits)) =
+    (gave, has, (path, saved, so path saved at, awaits))
+still_there P Q so rans id printed is = is
+
 pub no_id_is_in_two_places : (A : Type 0) → NoIdIsInTwoPlaces A
-no_id_is_in_two_places A site rans asks id =
-    one_place A (all_made rans) asks.apart rans (left_by store_of site rans asks.runs)
+no_id_is_in_two_places A site rans asks id one other here there =
+    let end : List StoreAt = left_by site rans asks.runs in
+    let so = λ (path : List ℕ) (saved : Saved) (has : IsLeftAt site rans path saved). (
+      has.0,
+      left_there rans site (once_new site asks.is_new.paths) asks.runs has.0 path has.1 has.2
+          ∙ ap (λ (s : Saved). Some (record { path = path; saved = s })) (sym has.3),
+    ) in
+    one_place A (all_made rans) asks.apart rans end
     (stands_after A (all_made rans) asks.apart rans [] site (begun A (ranges_of (all_made rans)) site asks.is_new.blank) refl asks.runs
-    asks.tickets) id
+    asks.tickets) id one other (still_there _ _ so rans id one here) (still_there _ _ so rans id other there)

@@ -1,13 +1,13 @@
 -- Worked lists: commands over stores in memory and streams whose bytes are known. One list meets all premises of the
 -- laws. Each of the short ones meets all but one, and the conclusion fails.
-use Rattle.std.specs.Prelude.{◌≡◌, ◌≢◌, ◌⊎◌, ◌≤◌, ◌<◌, ℕ, All, AllPairs, Bool, Err, IsSome, IsSomeAnd, IsTrue, List, [], ◌∷◌, ◌++◌, None, Option, Some, codes, false, length, slice_get, true}
+use Rattle.std.specs.Prelude.{◌≡◌, ◌≢◌, ◌⊎◌, ◌≤◌, ◌<◌, ℕ, All, AllPairs, Bool, Err, IsSome, IsSomeAnd, IsTrue, List, [], ◌∷◌, ◌++◌, None, Ok, Option, Some, codes, false, length, slice_get, true}
 use Rattle.std.specs.FinMap as finite
 use Rattle.std.specs.Borrow.{Bor}
 use Rattle.dm_finder_frame.specs.Frame.{GridView}
 use Rattle.dm_symbol.specs.Correction.{IsNear}
 use Rattle.dm_store.specs.declared.mem_store.NextSave.TheVariants.{Fine}
 use Rattle.dm_store.specs.Saved.{with_open_plans, Contents, Saved, SavedSet, in_memory}
-use Rattle.dm_print_ledger.specs.{Ledger.JobView, Ledger.TicketView, Ledger.is_in, Ledger.is_range, Ledger.ledger_bytes, Verdicts.opening, declared.fault.TakeFault.TakeFault, declared.range.Range.Range}
+use Rattle.dm_print_ledger.specs.{Ledger.JobView, Ledger.ShownView, Ledger.TicketView, Ledger.is_free, Ledger.is_in, Ledger.is_old, Ledger.read_ledger, declared.fault.TakeFault.TakeFault}
 use Rattle.dm_print_ledger.specs.declared.fault.TakeFault.TheVariants as takes
 use Rattle.dm_assembly_desk.specs.declared.fault.{ScanFault.ScanFault, ImportFault.ImportFault}
 use Rattle.dm_assembly_desk.specs.declared.fault.ScanFault.TheVariants as scans
@@ -23,7 +23,7 @@ use Rattle.relay_desk_commands.specs.Desks.{IsTextOfId, OnDesk}
 use Rattle.relay.specs.Program.{Does, path_of}
 use Rattle.relay_program_runs.specs.Passed.{Made, made_where, text_of}
 use Rattle.relay_program_runs.specs.Law.{AreApart, AreVouchedFor, At, MeetsPremises, DeliversPrinted, Each, IsBlank, IsFirstOfItsId, IsNew, LeavesFile, LetsOut, NoIdIsPrintedTwice, PrintsUnder, Ran, RunInTurn, SomeRan, StoreAt, TakesGiven, TakesPrinted, WhatIsDeliveredWasPrinted, WritesPrinted, all_made, at_its_path, passed, status_of, store_of}
-use Rattle.relay_program_runs.specs.{InTurn.set_of, Where.IsThere, Where.free_at, Where.on_ticket}
+use Rattle.relay_program_runs.specs.{InTurn.set_of, Where.IsLeftAt, Where.IsThere, Where.free_at, Where.on_ticket, Where.printed}
 
 -- an input with these bytes, and outputs to which nothing was written
 abbrev pub streams_of_input : List ℕ → StreamsView
@@ -125,7 +125,7 @@ pub record RefusalsCountNot : Type 0 where
 -- A command is at the path that it names. However a print ended, the labels of its job were let out, its ID is not
 -- printed again, and its document was read. However a `deliver` ended, and whatever is known of its output, what it
 -- delivered was printed. A grid near one that was let out may be taken in, and so may files that were exported or kept.
--- All IDs of a new ledger are free, and it awaits each ticket that was given to its printer.
+-- An ID is free if the ledger that was left says so; it is on a ticket that this ledger awaits, or it is that of a job.
 pub record SayAtLeast (A : Type 0) : Type 0 where
   pub place : (ran : Ran A) (saved : Saved) → (at_its_path ran saved).path ≡ path_of ran.command
   pub label : (among : List ℕ → Bool) (ran : Ran A) (job : JobView) (i : ℕ) (grid : GridView) →
@@ -148,13 +148,16 @@ pub record SayAtLeast (A : Type 0) : Type 0 where
       SomeRan (λ its. LeavesFile one its × IsTrue (among (path_of its.command))) earlier →
       SomeRan (λ its. LeavesFile other its × IsTrue (among (path_of its.command))) earlier → (passed ran).scanned ≡ [] →
       (passed ran).imported ≡ one ∷ other ∷ [] → TakesPrinted (λ path. IsTrue (among path)) earlier ran
-  pub free : (rans : List (Ran A)) (number id : ℕ) (range : Range) (at : StoreAt) → IsTrue (is_range range) →
-      is_in range id ≡ true → at.saved.content ≡ Some (ledger_bytes (opening number range)) →
-      IsThere (at ∷ []) rans id (free_at 0)
-  pub awaits : (ran : Ran A) (ticket : TicketView) (id : ℕ) (range : Range) (at : StoreAt) → IsTrue (is_range range) →
-      (passed ran).given ≡ Some ticket → is_in ticket.range id ≡ true →
-      at.saved.content ≡ Some (ledger_bytes (opening ticket.receiver range)) →
-      IsThere (at ∷ []) (ran ∷ []) id (on_ticket ticket)
+  pub free : (ran : Ran A) (id : ℕ) (bytes : List ℕ) (shown : ShownView) (first : Saved) →
+      ran.after.files.joint.content ≡ Some bytes → read_ledger bytes ≡ Ok shown → is_free shown.free id ≡ true →
+      IsThere (IsLeftAt (at_its_path ran first ∷ []) (ran ∷ [])) (ran ∷ []) id (free_at (path_of ran.command))
+  pub awaits : (giver ran : Ran A) (ticket : TicketView) (id : ℕ) (bytes : List ℕ) (shown : ShownView) (first : Saved) →
+      (passed giver).given ≡ Some ticket → is_in ticket.range id ≡ true → ran.after.files.joint.content ≡ Some bytes →
+      read_ledger bytes ≡ Ok shown → shown.number ≡ Some ticket.receiver →
+      is_old shown.givers ticket.giver ticket.serial ≡ false →
+      IsThere (IsLeftAt (at_its_path ran first ∷ []) (giver ∷ ran ∷ [])) (giver ∷ ran ∷ []) id (on_ticket ticket)
+  pub prints : (site : List StoreAt) (ran : Ran A) (job : JobView) → (passed ran).printed ≡ Some job →
+      IsThere (IsLeftAt site (ran ∷ [])) (ran ∷ []) job.id printed
 
 -- ---- each premise is needed
 

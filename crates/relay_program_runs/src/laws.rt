@@ -3,7 +3,7 @@
 ghost use Rattle.relay_program_runs.specs.Law.{EachIdHasOneDocument, NoIdIsPrintedTwice, WhatIsDeliveredIsTheDocument, WhatIsDeliveredWasPrinted};
 ghost use Rattle.relay_program_runs.specs.Lines.{AllIsOut, EachIdOfLinesHasOneDocument, NoLinePrintsAnIdAgain, WhatLinesDeliverIsTheDocument, WhatLinesDeliverWasPrinted, WhatLinesLetOutIsTheDocument};
 ghost use Rattle.relay_program_runs.specs.InTurn.{WhatLinesRunInTurnFindWhatWasLeft, WhatRunsInTurnFindsWhatWasLeft};
-ghost use Rattle.relay_program_runs.specs.Where.{NoIdIsInTwoPlaces};
+ghost use Rattle.relay_program_runs.specs.Where.{NoIdIsInTwoPlaces, NoIdOfLinesIsInTwoPlaces};
 ghost use Rattle.relay_program_runs.specs.Written.{WhatIsOutCounts, WhatIsWrittenWasPrinted};
 ghost use Rattle.relay_program_runs.specs.Worked.{RefusalsCountNot, SayAtLeast};
 ghost use Rattle.dm_size.specs.declared.size.Size.{Size};
@@ -18,7 +18,7 @@ pub fn no_id_is_printed_twice<A: Allocator>()
     ensures { NoIdIsPrintedTwice A }
 {}
 
-/// An ID is free at one ledger, on one ticket that waits to be taken, or printed; or it is lost.
+/// No ID is in two of these places: free at a ledger, on a ticket that waits to be taken, printed.
 pub fn no_id_is_in_two_places<A: Allocator>()
     ensures { NoIdIsInTwoPlaces A }
 {}
@@ -70,6 +70,11 @@ pub fn what_is_delivered_is_the_document<A: Allocator>()
 {
     each_grid_carries_its_words();
 }
+
+/// Nor is an ID that lines of the program use.
+pub fn no_id_of_lines_is_in_two_places<A: Allocator>()
+    ensures { NoIdOfLinesIsInTwoPlaces A }
+{}
 
 /// No line of the program prints an ID that was printed before.
 pub fn no_line_prints_an_id_again<A: Allocator>()

@@ -7,7 +7,7 @@ use Rattle.relay_program_runs.proofs.laws.all_is_out.Goals as goal
 
 by_out : {wrote out errors : Option (List ℕ)} {told : OutputView} {ended : ℕ} → PutsOut wrote told ended 0 out errors →
     (ended ≡ 0) × Keeps wrote out
-by_out (lets_all_out keeps same part) = (sym same, keeps)
+by_out (lets_all_out keeps same part told) = (sym same, keeps)
 by_out (says_nothing not_done part same told) = absurd (not_done (sym same))
 by_out (says_so after part tells told) = absurd (refused_one tells)
 

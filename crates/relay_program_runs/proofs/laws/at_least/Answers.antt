@@ -1,16 +1,15 @@
-use Rattle.std.proofs.Common.{◌≡◌, ◌⊎◌, inl, inr, false, ℕ, List, ◌∷◌, [], None, Option, Some, ap, refl, subst, sym}
-use Rattle.std.specs.{List.AllByRecursion, Prelude.IfSome, Prelude.IsSomeAnd, Prelude.IsTrue, Prelude.◌||◌}
+use Rattle.std.proofs.Common.{◌≡◌, ◌⊎◌, inl, inr, Bool, false, ℕ, List, ◌∷◌, [], None, Option, Some, ap, refl, subst, sym}
+use Rattle.std.specs.{List.AllByRecursion, Prelude.IfSome, Prelude.IsSomeAnd, Prelude.IsTrue, Prelude.◌||◌, Prelude.if◌then◌else◌, Str.bytes_eq}
+use Rattle.std.proofs.lemmas.Slice.Eq.{bytes_eq-Decides}
 use Rattle.dm_finder_frame.specs.Frame.{GridView}
 use Rattle.dm_symbol.specs.Correction.{IsNear}
 use Rattle.dm_store.specs.Saved.{Saved}
-use Rattle.dm_print_ledger.specs.{Ledger.JobView, Ledger.is_range, Ledger.ledger_bytes, Ledger.shown_of, Verdicts.opening, declared.range.Range.Range}
-use Rattle.dm_print_ledger.proofs.{LedgerLaws.opening_sound, ReadLaws.ledger_read}
+use Rattle.dm_print_ledger.specs.Ledger.{JobView}
 use Rattle.relay_streams.specs.Streams.{AppendsPart, InputView}
 use Rattle.relay_shared.specs.Command.{ReadsDocument}
 use Rattle.relay_desk_commands.specs.Desks.{IsTextOfId}
 use Rattle.relay.specs.Program.{path_of}
 use Rattle.relay_program_runs.specs.Law.{IsFirstOfItsId, LeavesFile, LetsOut, PrintsUnder, Ran, SomeRan, TakesPrinted, WritesPrinted, passed, writes, writes_nothing}
-use Rattle.relay_program_runs.specs.Where.{HasLedger}
 use Rattle.relay_program_runs.proofs.laws.at_least.Goals as goal
 
 as_one : {X : Type 0} (P : X → Type 0) (o : Option X) (x : X) → o ≡ Some x → IfSome o P → P x
@@ -57,13 +56,8 @@ was_printed : (A : Type 0) (earlier : List (Ran A)) (text : List ℕ) (ran : Ran
 was_printed A earlier text ran (writes_nothing nothing) = inl nothing.0
 was_printed A earlier text ran (writes id document is printed part) = inr (id, document, is, printed, part.0)
 
-says_new : (number : ℕ) (range : Range) (saved : Saved) → IsTrue (is_range range) →
-    saved.content ≡ Some (ledger_bytes (opening number range)) → HasLedger saved (shown_of (opening number range))
-says_new number range saved is content = record {
-  bytes = ledger_bytes (opening number range);
-  content = content;
-  reads = ledger_read (opening number range) (opening_sound number range is);
-}
+own_of : (path : List ℕ) (own other : Saved) → (if bytes_eq path path then own else other) ≡ own
+own_of path own other = ap (λ (b : Bool). if b then own else other) ((bytes_eq-Decides path path).1 refl)
 
 pub returns : goal.returns
 returns g c = record {
@@ -76,11 +70,20 @@ returns g c = record {
   exported = λ bytes ran is. inl is;
   kept = λ key bytes ran is. inr (key, is);
   files = λ among. takes_files _ _;
-  free = λ rans number id range at is has content.
-      (at, refl, (shown_of (opening number range), says_new number range at.saved is content, ap (λ b. b || false) has));
-  awaits = λ ran ticket id range at is given has content. (
-    (0, ran, refl, given),
-    has,
-    (0, at, refl, (shown_of (opening ticket.receiver range), says_new ticket.receiver range at.saved is content, refl, refl)),
+  free = λ ran id bytes shown first is reads has. (
+    ran.after.files.joint,
+    (0, first, refl, sym (own_of (path_of ran.command) ran.after.files.joint first)),
+    (shown, record { bytes = bytes; content = is; reads = reads }, has),
   );
+  awaits = λ giver ran ticket id bytes shown first given has is reads number awaits. (
+    (0, giver, refl, given),
+    has,
+    (
+      path_of ran.command,
+      ran.after.files.joint,
+      (0, first, refl, sym (own_of (path_of ran.command) ran.after.files.joint _)),
+      (shown, record { bytes = bytes; content = is; reads = reads }, number, awaits),
+    ),
+  );
+  prints = λ site ran job is. (0, ran, refl, some_so _ _ job is refl);
 }
