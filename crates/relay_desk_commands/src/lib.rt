@@ -5,7 +5,8 @@
 //! Proved: each but `held` moves the documents of an old joint file, opens the desk whose files the set holds, does the
 //! desk's call, writes its answer, and leaves the files as the call left them. `scan` does so for each image, `import`
 //! for each file, in order. `held` opens no desk and leaves the files as they were: it writes a line for each document,
-//! by what its file holds, and for each that is not sound. What `copy` gives opens as the page that is held.
+//! by what its file holds, and for each that is not sound. What `copy` gives opens as the page that is held. No stop of
+//! the machine takes back what a command that saves nothing has told (`settled`).
 #![tactic(auto)]
 
 mod all_documents;
