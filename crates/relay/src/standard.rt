@@ -59,7 +59,7 @@ fn streams_of<A: Allocator, I: Read + Drop, O: Write, E: Write>(
     errors: LineBuffer<E, A>,
     command: Command,
 ) -> Streams<Watched<I>, LineBuffer<O, A>, LineBuffer<E, A>>
-    requires output { output ≡ empty_before output.out (least_of command.entry) }
+    requires output { output ≡ empty_before output.out (least_of command) }
     requires errors { errors ≡ empty_before errors.out 0 }
     ensures { result ≡ streams_over (record { input = I.remaining input.reader; output = output.out; errors = errors.out }) }
 {
