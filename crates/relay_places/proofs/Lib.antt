@@ -1,2 +1,3 @@
 pub mod Paths
 mod Nothing
+pub mod Own

@@ -1,10 +1,10 @@
 -- What is at the paths of a line, and where the files of a command are.
-use Rattle.std.specs.Prelude.{◌≡◌, ℕ, ◌++◌, List, [], ◌∷◌, Bool, true, false, None, Some, not, if◌then◌else◌, IsTrue, IsFalse, codes, string_bytes, ◌≢◌, ◌⊎◌, Result, Ok, Err}
+use Rattle.std.specs.Prelude.{◌≡◌, ℕ, ◌++◌, List, [], ◌∷◌, Bool, true, false, None, Some, not, if◌then◌else◌, IsTrue, IsFalse, codes, string_bytes, ◌≢◌, ◌⊎◌, Result, Ok, Err, MatchResult}
 use Rattle.std.specs.{Str.bytes_eq, FinMap.empty}
 use Rattle.relay_shared.specs.Files.{DeskFiles}
-use Rattle.dm_disk.specs.Disk.{draft_of, saved_under, set_in, unclaimed}
+use Rattle.dm_disk.specs.Disk.{draft_of, path_in, saved_under, set_in, unclaimed}
 use Rattle.dm_store.specs.{Saved.Replaces, Saved.Saved, Saved.SavedSet, Saved.in_memory, declared.store.StoreFault.StoreFault, declared.mem_store.NextSave.TheVariants.Fine}
-use Rattle.relay_places.specs.declared.{place.Access.Access, place.Place.Place, locked.Found.Found, mem_places.MemPlace.MemPlace, place.Access.TheVariants.Creates, place.Access.TheVariants.Makes, place.Access.TheVariants.Saves, place.Access.TheVariants.Looks}
+use Rattle.relay_places.specs.declared.{place.Access.Access, place.Place.Place, command_files.Entered.Entered, command_files.Found.Found, command_files.NoLock.TheVariants.Unneeded, mem_places.MemPlace.MemPlace, place.Access.TheVariants.Creates, place.Access.TheVariants.Makes, place.Access.TheVariants.Saves, place.Access.TheVariants.Looks}
 
 abbrev pub files_of : Saved → SavedSet → DeskFiles
 files_of joint set = record { joint = joint; set = set }
@@ -44,11 +44,32 @@ SavesNew path bytes old answer new =
     ⊎ (HoldNothing (old path) × Replaces (old path).joint bytes answer (new path).joint
     × ((new path).set ≡ (old path).set) × KeepsOthers path old new)
 
--- The draft of a file is beside it, and so is the file that is locked, beside a ledger or beside a desk's folder.
+-- A lock stands beside what it guards: a ledger, or a desk's folder.
+abbrev pub IsLockOf : Place → List ℕ → Type 0
+IsLockOf place lock = lock ≡ (if place.is_desk then string_bytes place.folder else string_bytes place.file) ++ codes ".lock"
+
+-- the draft of a file is beside it, and its lock beside what is locked
 pub record IsPlaced (place : Place) : Type 0 where
   pub draft : string_bytes place.draft ≡ draft_of (string_bytes place.file)
-  pub of_ledger : IsFalse place.is_desk → string_bytes place.lock ≡ string_bytes place.file ++ codes ".lock"
-  pub of_desk : IsTrue place.is_desk → string_bytes place.lock ≡ string_bytes place.folder ++ codes ".lock"
+  pub lock : IsLockOf place (string_bytes place.lock)
+
+-- a path is that of a draft of a file: the file's own, perhaps a number, and `.new`
+abbrev pub IsDraftOf : List ℕ → List ℕ → Type 0
+IsDraftOf file name = (number : List ℕ) × (name ≡ file ++ number ++ codes ".new")
+
+-- a path leads into a folder
+abbrev pub IsInFolder : List ℕ → List ℕ → Type 0
+IsInFolder folder name = (rest : List ℕ) × (name ≡ path_in folder rest)
+
+-- A path is one of a place: a desk's folder, or of what is in it; or the ledger or joint file, or a draft of it.
+abbrev pub IsOwn : Place → List ℕ → Type 0
+IsOwn place name =
+    (IsTrue place.is_desk × ((name ≡ string_bytes place.folder) ⊎ IsInFolder (string_bytes place.folder) name))
+    ⊎ ((name ≡ string_bytes place.file) ⊎ IsDraftOf (string_bytes place.file) name)
+
+-- A lock guards a path: both are of one place.
+abbrev pub Guards : Place → List ℕ → List ℕ → Type 0
+Guards place lock name = IsLockOf place lock × IsOwn place name
 
 -- A command locks its files at its first load, by what it does to them and what it finds there: to make a ledger where
 -- nothing is, or a desk; to save to what is there; to move the documents of a joint file.
@@ -58,3 +79,10 @@ locks Makes found = true
 locks Saves found = found.is_any
 locks Looks found = false
 locks access found = found.has_documents
+
+-- A command comes to its files. It has the lock of their place if what it does and what it finds there want one, unless
+-- there is no folder for the lock.
+abbrev pub Enters : Place → Entered → Type 0
+Enters place entered = MatchResult entered.lock
+    (λ lock. IsTrue (locks place.access entered.found) × (string_bytes lock.path ≡ string_bytes place.lock))
+    (λ why. (why ≡ Unneeded) → IsFalse (locks place.access entered.found))

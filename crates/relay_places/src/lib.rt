@@ -6,10 +6,15 @@
 //! desk, and holds it until its output is out. It loads PATH, and at a desk the files in the folder PATH.pages. It
 //! saves to NAME.new, or for a new ledger NAME.1.new, looks whether the lock file is still its own, and gives that file
 //! the name NAME. What a command can't have is a device fault to it, and a line `relay: PATH: ..` on the standard error
-//! says why. Proved of the disk behind a lock: it is a disk like the one within, whose calls may fail. That it is
-//! locked is in no clause.
+//! says why.
+//!
+//! Proved: each call that makes, writes, renames or removes a file of a ledger or desk takes the lock that guards it:
+//! the one beside this ledger, or beside this desk's folder (`Guards` of `specs/Places.antt`). By its type that lock was
+//! taken by this command, and found in place for this one call. Whether a command locks depends on what it does, and on
+//! what it finds there (`locks`, `Enters`). That `flock` keeps others out is trusted. What is found is in no clause.
 #![tactic(auto)]
 
+mod command_files;
 mod lock;
 mod locked;
 mod mem_places;

@@ -1,16 +1,18 @@
 //! What goes to the standard error beside the line of a refusal, since that line can't say it. A note is a line, or
 //! two. Where there is no memory for it, nothing is said.
 
+use crate::command_files::CommandFiles;
+use crate::locked::{file_of, folder_of};
 use crate::place::Place;
 use crate::reason::{IS_DESK, Reason};
-use crate::system_disk::SystemDisk;
 use crate::watched::NO_IMAGE;
 use dm_append_label::FileId;
 use dm_assembly_desk::{JointFile, MOST_CAPACITY, MOST_JOINT_FILE_BYTES, MoveFault, held_at};
-use dm_disk::{FileSet, FileStore, draft_path};
+use dm_disk::draft_path;
 use dm_store::{Store, StoreFault};
 use std::alloc::{AllocError, Global};
 use std::io::{self, Read};
+use std::rc::Rc;
 use std::rt::Files;
 
 // In how many pieces the names of a folder are read at most.
@@ -90,14 +92,14 @@ fn key_at(place: &Place, path: &str) -> Option<u16> {
 }
 
 // The fault of the file of a key, if it has one.
-fn fault_of_key(rt: &HostRuntime, place: &Place, key: u16) -> Option<&'static str> {
-    let mut set = FileSet::new(SystemDisk::new(rt), place.folder.clone().ok()?);
+fn fault_of_key(files: &Rc<CommandFiles<'_>>, key: u16) -> Option<&'static str> {
+    let mut set = folder_of(files).ok()?;
     Some(held_at(&mut set, key).err()?.name())
 }
 
 // The fault of the joint file, if it has one.
-fn fault_of_joint_file(rt: &HostRuntime, place: &Place) -> Option<&'static str> {
-    let mut joint = FileStore::new(SystemDisk::new(rt), place.file.clone().ok()?);
+fn fault_of_joint_file(files: &Rc<CommandFiles<'_>>) -> Option<&'static str> {
+    let mut joint = file_of(files).ok()?;
     match joint.load(MOST_JOINT_FILE_BYTES) {
         Ok(bytes) => Some(JointFile::read(&bytes?).err()?.name()),
         Err(StoreFault::Device) => Some(MoveFault::Device.name()),
@@ -107,12 +109,12 @@ fn fault_of_joint_file(rt: &HostRuntime, place: &Place) -> Option<&'static str> 
 
 /// The fault of the file that a desk's command has loaded last, if it has one: the command has ended there. At the file
 /// of a document its ID is named.
-pub(crate) fn note_of_file(rt: &HostRuntime, place: &Place, path: &str) -> Option<String> {
-    let alloc = rt.alloc();
-    let Some(key) = key_at(place, path) else {
-        return line_of(alloc, path, fault_of_joint_file(rt, place)?).ok();
+pub(crate) fn note_of_file(files: &Rc<CommandFiles<'_>>, path: &str) -> Option<String> {
+    let alloc = files.rt.alloc();
+    let Some(key) = key_at(&files.place, path) else {
+        return line_of(alloc, path, fault_of_joint_file(files)?).ok();
     };
-    let name = fault_of_key(rt, place, key)?;
+    let name = fault_of_key(files, key)?;
     let Some(id) = FileId::of_number(key) else {
         return line_of(alloc, path, name).ok();
     };

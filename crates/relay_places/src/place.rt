@@ -1,7 +1,7 @@
 //! The files that a command names, and where they are.
 
-ghost use Rattle.std.specs.Prelude.{◌≡◌, ◌++◌, IfOk, string_bytes};
-ghost use Rattle.relay_places.specs.Places.{IsPlaced};
+ghost use Rattle.std.specs.Prelude.{◌≡◌, ◌++◌, if◌then◌else◌, IfOk, IsTrue, string_bytes};
+ghost use Rattle.relay_places.specs.Places.{IsDraftOf, IsInFolder, IsLockOf, IsOwn, IsPlaced};
 
 use std::alloc::{AllocError, Global};
 use std::io::{self, ErrorKind};
@@ -63,6 +63,33 @@ fn beside(alloc: Global, path: &str, ending: &str) -> Result<String, AllocError>
     format!(in alloc; "{path}{ending}")
 }
 
+// The path that the lock stands beside: of a ledger, or of a desk's folder.
+fn locked_path<'a>(is_desk: bool, file: &'a str, folder: &'a str) -> &'a str
+    ensures { result.now ≡ (if is_desk then folder.now else file.now) }
+{
+    if is_desk { folder } else { file }
+}
+
+// Whether a path is that of a draft of a file.
+fn is_draft_of(name: &str, file: &str) -> bool
+    ensures { IsTrue result → IsDraftOf file.now name.now }
+{
+    match name.strip_prefix(file) {
+        Some(ending) => ending.ends_with(".new"),
+        None => false,
+    }
+}
+
+// Whether a path leads into a folder.
+fn is_in_folder(name: &str, folder: &str) -> bool
+    ensures { IsTrue result → IsInFolder folder.now name.now }
+{
+    match name.strip_prefix(folder) {
+        Some(rest) => rest.starts_with("/"),
+        None => false,
+    }
+}
+
 // Where the link at a path leads, if one is there, or why it can't be looked at or followed.
 fn follow(rt: &HostRuntime, path: String) -> Result<(String, Option<io::Error>), AllocError> {
     match rt.symlink_metadata(path.as_str()) {
@@ -89,17 +116,40 @@ impl Place {
         let alloc = rt.alloc();
         let (file, file_fault) = follow(rt, String::from_str(alloc, named.file)?)?;
         let (folder, folder_fault) = follow(rt, beside(alloc, file.as_str(), ".pages")?)?;
-        let locked = if named.is_desk { &folder } else { &file };
+        let locked = locked_path(named.is_desk, file.as_str(), folder.as_str());
         Ok(Place {
             named: String::from_str(alloc, named.file)?,
             is_desk: named.is_desk,
             access: named.access,
             draft: beside(alloc, file.as_str(), ".new")?,
-            lock: beside(alloc, locked.as_str(), ".lock")?,
+            lock: beside(alloc, locked, ".lock")?,
             file,
             file_fault,
             folder,
             folder_fault,
         })
+    }
+
+    /// Whether the lock of this place stands at a path.
+    pub(crate) fn is_locked_by(&self, path: &str) -> bool
+        ensures { IsTrue result → IsLockOf self.now path.now }
+    {
+        let locked = locked_path(self.is_desk, self.file.as_str(), self.folder.as_str());
+        match path.strip_suffix(".lock") {
+            Some(beside) => beside == locked,
+            None => false,
+        }
+    }
+
+    /// Whether a path is that of the ledger or the joint file, of a draft of it, or of what is in a desk's folder, or of
+    /// that.
+    pub(crate) fn has(&self, name: &str) -> bool
+        ensures { IsTrue result → IsOwn self.now name.now }
+    {
+        let (file, folder) = (self.file.as_str(), self.folder.as_str());
+        if self.is_desk && (name == folder || is_in_folder(name, folder)) {
+            return true;
+        }
+        name == file || is_draft_of(name, file)
     }
 }

@@ -3,51 +3,41 @@
 ghost use Rattle.std.specs.Prelude.{None, true};
 ghost use Rattle.relay_places.specs.Places.{unclaimed_places};
 
-use crate::locked::{CommandFiles, Locked};
+use crate::command_files::CommandFiles;
+use crate::locked::{Locked, file_of, folder_of};
 use crate::notes::{note_of_file, note_of_folder, note_of_reason};
 use crate::place::{Access, Named, Place};
 use crate::places::{Closed, Places, SavedNew};
 use crate::real_file::RealFile;
 use crate::reason::Reason;
 use crate::saved_output::save_new;
-use crate::system_disk::SystemDisk;
 use dm_disk::{FileSet, FileStore};
 use std::alloc::AllocError;
-use std::fs::File;
 use std::rc::Rc;
 
 /// The system's own files, which are locked while they are given out. It claims nothing of them.
 #[derive(Drop)]
 pub struct RealPlaces<'a> {
     rt: &'a HostRuntime,
-    command_files: Option<Rc<CommandFiles<'a>>>,
 }
 
 impl<'a> RealPlaces<'a> {
     /// The system's files, of which none is given out.
     pub fn new(rt: &'a HostRuntime) -> RealPlaces<'a> {
-        RealPlaces {
-            rt,
-            command_files: None,
-        }
+        RealPlaces { rt }
     }
 }
 
-// The system's disk, which asks for the lock of a command's files.
-type LockedDisk<'a> = Locked<'a, SystemDisk<'a>>;
-
-// What the line of a refusal can't say of a command's files.
-fn note_of(files: &CommandFiles<'_>) -> Option<String> {
+// What the line of a refusal can't say of a command's files, of which this one or one of this folder was loaded last.
+fn note_of(file: &Locked<'_>, folder: &Locked<'_>) -> Option<String> {
+    let files = &folder.files;
     let (rt, place) = (files.rt, &files.place);
     match files.reason.get() {
         None | Some(Reason::Refused) => {}
         Some(reason) => return note_of_reason(rt.alloc(), place, reason),
     }
-    if files.has_no_list.get() {
-        return match note_of_folder(rt, place) {
-            None => files.refused.take(),
-            odd => odd,
-        };
+    if folder.has_no_list {
+        return note_of_folder(rt, place).or(files.refused.take());
     }
     if let Some(refused) = files.refused.take() {
         return Some(refused);
@@ -55,44 +45,18 @@ fn note_of(files: &CommandFiles<'_>) -> Option<String> {
     if !place.is_desk || place.access == Access::Looks {
         return None;
     }
-    let path = files.loaded.take()?;
-    note_of_file(rt, place, path.as_str())
-}
-
-// The files that a command names, for its stores to share.
-fn shared_files<'a>(
-    rt: &'a HostRuntime,
-    named: Named<'_>,
-) -> Result<Rc<CommandFiles<'a>>, AllocError> {
-    let command_files = CommandFiles::new(rt, Place::of(rt, named)?);
-    Rc::new(rt.alloc(), command_files).or(Err(AllocError))
-}
-
-// The ledger or the joint file of a command. A new ledger takes the place of nothing.
-fn file_of<'a>(files: &Rc<CommandFiles<'a>>) -> Result<FileStore<LockedDisk<'a>>, AllocError> {
-    let path = files.place.file.clone()?;
-    let disk = if files.place.access == Access::Creates {
-        SystemDisk::of_new_files(files.rt)
-    } else {
-        SystemDisk::new(files.rt)
-    };
-    Ok(FileStore::new(Locked::new(files.clone()?, disk), path))
-}
-
-// The folder of a command.
-fn folder_of<'a>(files: &Rc<CommandFiles<'a>>) -> Result<FileSet<LockedDisk<'a>>, AllocError> {
-    let path = files.place.folder.clone()?;
-    let disk = SystemDisk::new(files.rt);
-    Ok(FileSet::new(Locked::new(files.clone()?, disk), path))
+    // The joint file is loaded before the files in the folder.
+    let path = folder.loaded.as_ref().or(file.loaded.as_ref())?;
+    note_of_file(files, path.as_str())
 }
 
 // What is to be said of a desk that was made, if one was, and then this.
-fn with_new_desk(files: &CommandFiles<'_>, note: Option<String>) -> Option<String> {
-    if !files.has_made_desk.get() {
+fn with_new_desk(folder: &Locked<'_>, note: Option<String>) -> Option<String> {
+    if !folder.has_made_desk {
         return note;
     }
-    let alloc = files.rt.alloc();
-    let made = note_of_reason(alloc, &files.place, Reason::NewDesk)?;
+    let alloc = folder.files.rt.alloc();
+    let made = note_of_reason(alloc, &folder.files.place, Reason::NewDesk)?;
     match note {
         Some(note) => format!(in alloc; "{made}{note}").ok(),
         None => Some(made),
@@ -100,24 +64,27 @@ fn with_new_desk(files: &CommandFiles<'_>, note: Option<String>) -> Option<Strin
 }
 
 // Closes the files of a command, and gives what was found out of them.
-fn close_files(files: &CommandFiles<'_>, status: u8) -> Closed {
+fn close_files(file: &Locked<'_>, folder: &Locked<'_>, status: u8) -> Closed {
+    let files = &folder.files;
     let reason = files.reason.get();
     let note = if status != 0 || reason.is_some() {
-        note_of(files)
+        note_of(file, folder)
     } else {
         None
     };
-    files.take_lock_away();
+    if !file.has_saved && !folder.has_saved {
+        files.take_lock_away();
+    }
     Closed {
-        note: with_new_desk(files, note),
+        note: with_new_desk(folder, note),
         is_absent: matches!(reason, Some(Reason::NoDesk)),
     }
 }
 
 impl<'a> Places for RealPlaces<'a> {
-    type File = FileStore<LockedDisk<'a>>;
+    type File = FileStore<Locked<'a>>;
 
-    type Folder = FileSet<LockedDisk<'a>>;
+    type Folder = FileSet<Locked<'a>>;
 
     type Input = RealFile<'a>;
 
@@ -128,21 +95,14 @@ impl<'a> Places for RealPlaces<'a> {
     ghost is_open = { λ _ _. Unit {0} };
 
     fn open(&mut self, named: Named<'_>) -> Result<(Self::File, Self::Folder), AllocError> {
-        let command_files = shared_files(self.rt, named)?;
-        let files = (file_of(&command_files)?, folder_of(&command_files)?);
-        self.command_files = Some(command_files);
-        Ok(files)
+        let files = CommandFiles::new(self.rt, Place::of(self.rt, named)?);
+        let files = Rc::new(self.rt.alloc(), files).or(Err(AllocError))?;
+        Ok((file_of(&files)?, folder_of(&files)?))
     }
 
     #[rattlefmt::skip] // a signature a line
     fn close(&mut self, _named: Named<'_>, file: Self::File, folder: Self::Folder, status: u8) -> Closed {
-        // While these live they share the command's files, whose lock ends last.
-        drop(file);
-        drop(folder);
-        match self.command_files.take() {
-            Some(command_files) => close_files(&command_files, status),
-            None => Closed { note: None, is_absent: false },
-        }
+        close_files(&file.into_disk(), &folder.into_disk(), status)
     }
 
     fn input(&self, name: &str) -> Result<Self::Input, AllocError> {

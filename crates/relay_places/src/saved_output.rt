@@ -5,8 +5,7 @@ use crate::notes::{note_of_draft, note_of_error, note_of_reason};
 use crate::place::{Access, Named, Place};
 use crate::places::SavedNew;
 use crate::reason::Reason;
-use crate::system_disk::{KeepsError, SystemDisk};
-use dm_disk::{FileStore, is_saved};
+use dm_disk::{FileStore, RealDisk, is_saved};
 use dm_store::{Store, StoreFault};
 use std::io::{self, ErrorKind};
 
@@ -35,7 +34,7 @@ fn save_at(rt: &HostRuntime, place: &Place, bytes: &[u8]) -> SavedNew {
     let Ok(path) = place.file.clone() else {
         return NO_MEMORY;
     };
-    let mut store = FileStore::new(SystemDisk::of_new_files(rt), path);
+    let mut store = FileStore::new(RealDisk::of_new_files(rt.alloc(), rt), path);
     let answer = store.replace(bytes);
     let disk = store.into_disk();
     let note = match &disk.last_error() {
