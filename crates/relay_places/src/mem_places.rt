@@ -1,6 +1,6 @@
 //! Ledgers and desks in memory, and files to be read.
 
-ghost use Rattle.std.specs.Prelude.{◌≡◌, ◌∷◌, ◌⊎◌, false, option_map, string_bytes, IsErr};
+ghost use Rattle.std.specs.Prelude.{◌≡◌, ◌∷◌, ◌⊎◌, [], Some, false, option_map, string_bytes, unwrap_or, IsErr};
 ghost use Rattle.dm_store.specs.Saved.{Replaces};
 ghost use Rattle.relay_places.specs.Places.{HasSaved, HoldNothing, KeepsOthers, SavesNew, files_of, kept_at};
 
@@ -17,8 +17,8 @@ pub struct MemPlace {
     pub files: (MemStore, MemSet),
 }
 
-/// What is at each path: of several places at one the first. The files to be read have places of their own, and memory
-/// is refused for one that isn't there.
+/// What is at each path: of several places at one the first. The files to be read have places of their own. Of one that
+/// isn't there nothing is read: memory is refused for it.
 #[derive(Drop)]
 pub struct MemPlaces<'a> {
     pub alloc: Global,
@@ -99,7 +99,7 @@ impl<'a> Places for MemPlaces<'a> {
     ghost state = { λ places. kept_at (places.opened ∷ places.kept.items) };
 
     ghost known = { λ places name. record {
-      remaining = (kept_at places.inputs.now name).joint.content;
+      remaining = Some (unwrap_or (kept_at places.inputs.now name).joint.content []);
       may_refuse = λ _. false;
     } };
 
