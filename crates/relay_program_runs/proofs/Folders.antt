@@ -6,7 +6,7 @@ use Rattle.std.specs.FinMap as finite
 use Rattle.dm_store.specs.Saved.{SavedSet}
 use Rattle.dm_assembly_desk.specs.Documents.{Documents, HoldsFiles, IsEntry, Pages, file, page, page_at}
 use Rattle.dm_assembly_desk.proofs.Loading.{same_key}
-use Rattle.dm_event_history.specs.{Relay.Label, Headline.IsLeftAt, Headline.HaveLeft, Headline.IsCleanExport}
+use Rattle.dm_event_history.specs.{Relay.Label, Headline.HasLeft, Headline.HaveLeft, Headline.IsCleanExport}
 use Rattle.dm_event_history.proofs.Told.{page_none}
 use Rattle.relay_desk_runs.specs.Answered.{HoldsPrinted, IsPrintedFile}
 
@@ -126,7 +126,7 @@ module _ (labels : List Label) (set : SavedSet)
   }
     where
       by : (id m : ℕ) (bytes : List ℕ) (o : Option Pages) → finite.get held id ≡ o → page_at held id m ≡ Some bytes →
-          IsLeftAt labels id m bytes
+          HasLeft labels id m bytes
       by id m bytes None none is =
           let gone = ap (λ (o : Option Pages). page (unwrap_or o []) m) none ∙ page_none m in absurd (cc (gone, is))
       by id m bytes (Some pages) some is = (each_entry id pages some).clean.pages m bytes

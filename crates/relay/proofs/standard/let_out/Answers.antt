@@ -33,26 +33,26 @@ returns g c =
     λ is. subst (λ x. Keeps x (g.E.Write.contents c.end-errors.result.0)) c.into_writer.ensures (c.end-errors.ensures.all is) in
     elim c.if-is_told.branch [
       | then-is_told t ↦
-        elim c.if-not-is_all.branch [
-          | then-not-is_all+then-says w ↦
-              says_so c.if-not-is_all.told c.end-output.ensures.part (rw w.told-is (rw t.status-is (rw w.status-is w.refuse-status.ensures))) part
-          | else-not-is_all w ↦
-              elim w.else-not-is_all.branch [
-                | else-not-is_all-via-then-not-is_all+else-says w' ↦
-                    says_nothing (λ zero. not_both (c.requires zero) (search rules)) c.end-output.ensures.part (t.status-is ∙ w.status-is) (rw (sym w.told-is) part)
-                | else-not-is_all-via-else-not-is_all w' ↦
-                    lets_all_out (c.end-output.ensures.all (search rules)) (t.status-is ∙ w.status-is) (rw (sym w.told-is) part)
+          elim c.if-not-is_all.branch [
+            | then-not-is_all+then-says w ↦
+                says_so c.if-not-is_all.told c.end-output.ensures.part (rw w.told-is (rw t.status-is (rw w.status-is w.refuse-status.ensures))) part
+            | else-not-is_all w ↦
+                elim w.else-not-is_all.branch [
+                  | else-not-is_all-via-then-not-is_all+else-says w' ↦
+                      says_nothing (λ zero. not_both (c.requires zero) (search rules)) c.end-output.ensures.part (t.status-is ∙ w.status-is) (rw (sym w.told-is) part)
+                  | else-not-is_all-via-else-not-is_all w' ↦
+                      lets_all_out (c.end-output.ensures.all (search rules)) (t.status-is ∙ w.status-is) (rw (sym w.told-is) part)
                       (λ _. rw (sym w.told-is) (whole t.if-is_told.true))
-              ]
-        ]
+                ]
+          ]
       | else-is_told t ↦
-        elim c.if-not-is_all.branch [
-          | then-not-is_all+then-says w ↦
-              says_so c.if-not-is_all.told c.end-output.ensures.part
+          elim c.if-not-is_all.branch [
+            | then-not-is_all+then-says w ↦
+                says_so c.if-not-is_all.told c.end-output.ensures.part
                 (rw w.told-is (still_refused _ c.args.errors w.refuse-status.new.output w.refuse-status.result c.if-is_told.status
-                    w.refuse-status.ensures (cc (t.status-is, t.max-status.ensures, w.status-is)))) part
-          | else-not-is_all w ↦
-              cut_short _ c.args.errors c.args.ended c.if-is_told.status _ _
+                w.refuse-status.ensures (cc (t.status-is, t.max-status.ensures, w.status-is)))) part
+            | else-not-is_all w ↦
+                cut_short _ c.args.errors c.args.ended c.if-is_told.status _ _
                 (cc (t.status-is, t.max-status.ensures, w.status-is)) c.end-output.ensures.part (rw (sym w.told-is) part)
-        ]
+          ]
     ]
