@@ -17,7 +17,7 @@ use Rattle.relay.proofs.AllDocuments.{others_stay}
 use Rattle.relay.specs.Program as program
 use Rattle.relay_program_runs.specs.Law.{At, MeetsPremises, IsBlank, IsNew, Ran, RunInTurn, SomeRan, store_of}
 use Rattle.relay_program_runs.specs.Lines.{EachIdOfLinesHasOneDocument, Follow, IsNamedBy, LineRan, LinesAsk, NoLinePrintsAnIdAgain, WhatLinesDeliverIsTheDocument, WhatLinesDeliverWasPrinted, all_commands, commands_in, commands_of, forgetters_in, givers_in, if_named, in_folder, ran_at, saved_as}
-use Rattle.relay_program_runs.specs.{InTurn.WhatLinesRunInTurnFindWhatWasLeft, InTurn.set_of, Where.IsLeftByLinesAt, Where.NoIdOfLinesIsInTwoPlaces}
+use Rattle.relay_program_runs.specs.{InTurn.WhatLinesRunInTurnFindWhatWasLeft, InTurn.set_of, Where.IsLeftAt, Where.IsLeftByLinesAt, Where.NoIdOfLinesIsInTwoPlaces}
 use Rattle.relay_program_runs.proofs.{Lists.all_so, OneDocument.each_id_has_one_document, OneDocument.what_is_delivered_is_the_document, Walk.no_id_is_printed_twice, Where.no_id_is_in_two_places, Where.still_there, Walk.what_is_delivered_was_printed, Walk.what_runs_in_turn_finds_what_was_left}
 use Rattle.relay_program_runs.proofs.Steps.{Pairs, at_same, found, pairs_so, there}
 use Rattle.relay_shared.specs.Command.{FileView}
@@ -347,7 +347,8 @@ module _ (A : Type 0) where
   pub no_id_of_lines_is_in_two_places : NoIdOfLinesIsInTwoPlaces A
   no_id_of_lines_is_in_two_places lines ask id one other here there =
       let c = covers (all_commands lines) in
-      let so = λ (path : List ℕ) (saved : Saved) (has : IsLeftByLinesAt ask.places lines path saved).
+      let so : (path : List ℕ) (saved : Saved) → IsLeftByLinesAt ask.places lines path saved →
+      IsLeftAt (site_of store_of c.paths ask.places) (all_commands lines) path saved = λ path saved has.
       let is = path_in c.paths (all_commands lines) c.all path has.0 in
       (is.0, store_of (ask.places path), at_in store_of c.paths ask.places is.0 path is.1, has.1) in
       no_id_is_in_two_places A _ (all_commands lines) (asks lines ask) id one other

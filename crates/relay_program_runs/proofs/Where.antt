@@ -173,6 +173,9 @@ once_new site apart i j one other at there same = elim (cases_lt i j) [
         (subst (λ (a : StoreAt). a.path ≢ (slice_index_or site j one).path) (get_or_from_slice_get site i one one at)
         (apart i j one below (slice_get_within site j other there)))
 
+same_store : (one other : StoreAt) → Some one ≡ Some other → one ≡ other
+same_store one other is = cc (is)
+
 module _ {A : Type 0} (site : List StoreAt) (ran : Ran A) (place : ℕ)
     (found : slice_get site place ≡ Some (at_its_path ran ran.before.files.joint)) where
   abbrev after_it : List StoreAt
@@ -212,13 +215,15 @@ module _ {A : Type 0} (site : List StoreAt) (ran : Ran A) (place : ℕ)
           (set_there site place _ (at_its_path ran ran.after.files.joint) found
           ∙ ap (λ (q : List ℕ). Some (record { path = q; saved = ran.after.files.joint })) same)
       by false isnt =
-          let other : place ≡ i → ⊥ = λ here. let both : path_of ran.command ≡ path = cc (found, there, here) in
+          let other : place ≡ i → ⊥ = λ here.
+          let both = ap (λ (a : StoreAt). a.path) (same_store _ _ (sym found ∙ ap (slice_get site) here ∙ there)) in
           let no : false ≡ true = isnt.1 both in cc (no) in
           other_there site place i (at_its_path ran ran.after.files.joint) (λ here. other (sym here)) ∙ there
 
 left_there : {A : Type 0} (rans : List (Ran A)) (site : List StoreAt) → Once site → (runs : RunInTurn store_of site rans) →
     (place : ℕ) (path : List ℕ) (first : Saved) → slice_get site place ≡ Some (record { path = path; saved = first }) →
     slice_get (left_by site rans runs) place ≡ Some (record { path = path; saved = left_at path first rans })
+unfolding left_by
 left_there [] site once runs place path first there = there
 left_there (ran ∷ later) site once runs place path first there =
     left_there later _ (still_once site ran runs.0 runs.1 once) runs.2 place path _
@@ -229,6 +234,7 @@ module _ (A : Type 0) (made : List Made) (apart : AllPairs AreApart made) where
   stands_after : (later earlier : List (Ran A)) (site : List StoreAt) → Stands A (ranges_of made) earlier site →
       made ≡ all_made earlier ++ all_made later → (runs : RunInTurn store_of site later) → Each TakesGiven earlier later →
       Stands A (ranges_of made) (earlier ++ later) (left_by site later runs)
+  unfolding left_by
   stands_after [] earlier site s are runs takes =
       subst (λ (rans : List (Ran A)). Stands A (ranges_of made) rans site) (sym (append-nil earlier)) s
   stands_after (ran ∷ later) earlier site s are runs takes =
@@ -305,7 +311,8 @@ module _ (A : Type 0) (made : List Made) (apart : AllPairs AreApart made) where
           | inl same ↦
               let place : here.1.0 ≡ there.1.0 =
               s.once here.1.0 there.1.0 g.number (f.numbered ∙ ap (λ (n : ℕ). Some (Some n)) same) g.numbered in
-              ap free_at (let a = here.1.1 in let b = there.1.1 in cc (a, b, place))
+              ap (λ (a : StoreAt). free_at a.path)
+              (same_store _ _ (sym here.1.1 ∙ ap (slice_get site) place ∙ there.1.1))
           | inr isnt ↦
               let twice = free_twice s.relay.printers f.number g.number id f.actor g.actor isnt f.there g.there f.free g.free in
               let most = sound.apart id in absurd (omega (arith, twice, most))
@@ -343,7 +350,8 @@ still_there P Q so rans id printed is = is
 pub no_id_is_in_two_places : (A : Type 0) → NoIdIsInTwoPlaces A
 no_id_is_in_two_places A site rans asks id one other here there =
     let end : List StoreAt = left_by site rans asks.runs in
-    let so = λ (path : List ℕ) (saved : Saved) (has : IsLeftAt site rans path saved). (
+    let so : (path : List ℕ) (saved : Saved) → IsLeftAt site rans path saved →
+    (place : ℕ) × (slice_get end place ≡ Some (record { path = path; saved = saved })) = λ path saved has. (
       has.0,
       left_there rans site (once_new site asks.is_new.paths) asks.runs has.0 path has.1 has.2
           ∙ ap (λ (s : Saved). Some (record { path = path; saved = s })) (sym has.3),

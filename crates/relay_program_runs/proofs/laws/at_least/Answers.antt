@@ -1,5 +1,5 @@
-use Rattle.std.proofs.Common.{◌≡◌, ◌⊎◌, inl, inr, Bool, false, ℕ, List, ◌∷◌, [], None, Option, Some, ap, refl, subst, sym}
-use Rattle.std.specs.{List.AllByRecursion, Prelude.IfSome, Prelude.IsSomeAnd, Prelude.IsTrue, Prelude.◌||◌, Prelude.if◌then◌else◌, Str.bytes_eq}
+use Rattle.std.proofs.Common.{◌≡◌, ◌⊎◌, inl, inr, Bool, ℕ, List, ◌∷◌, [], None, Option, Some, ap, refl, subst, sym}
+use Rattle.std.specs.{List.AllByRecursion, Prelude.IfSome, Prelude.IsSomeAnd, Prelude.if◌then◌else◌, Str.bytes_eq}
 use Rattle.std.proofs.lemmas.Slice.Eq.{bytes_eq-Decides}
 use Rattle.dm_finder_frame.specs.Frame.{GridView}
 use Rattle.dm_symbol.specs.Correction.{IsNear}
