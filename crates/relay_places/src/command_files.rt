@@ -3,12 +3,12 @@
 ghost use Rattle.std.specs.Prelude.{◌≡◌, IfOk, MatchResult, string_bytes};
 ghost use Rattle.relay_places.specs.Places.{Enters, Guards, locks};
 
+use crate::guarded::remove_draft;
 use crate::lock::{Held, Lock, LockFault};
 use crate::new_place::obstacle_at;
 use crate::notes::{note_of_draft, note_of_error, note_of_many};
 use crate::place::{Access, Place};
 use crate::reason::Reason;
-use crate::system_disk::remove_draft;
 use dm_disk::{MOST_DRAFTS, draft_path};
 use dm_store::StoreFault;
 use std::cell::{Cell, OnceCell};

@@ -8,13 +8,16 @@
 //! the name NAME. What a command can't have is a device fault to it, and a line `relay: PATH: ..` on the standard error
 //! says why.
 //!
-//! Proved: each call that makes, writes, renames or removes a file of a ledger or desk takes the lock that guards it:
-//! the one beside this ledger, or beside this desk's folder (`Guards` of `specs/Places.antt`). By its type that lock was
-//! taken by this command, and found in place for this one call. Whether a command locks depends on what it does, and on
-//! what it finds there (`locks`, `Enters`). That `flock` keeps others out is trusted. What is found is in no clause.
+//! Proved of the disk behind a lock: it is a disk like the one within, whose calls may fail. Each of its calls that
+//! makes, writes, renames or removes a file takes the lock that guards it: the one beside this ledger, or beside this
+//! desk's folder (`Guards` of `specs/Places.antt`). By its type this command took that lock, and looked at it before
+//! that call; but drafts that a stop has left a file as names are removed right after the lock was taken. Whether a
+//! command locks depends on what it does, and on what it finds there (`locks`, `Enters`). That `flock` keeps others out
+//! is trusted. What is found, and what the look says, is in no clause.
 #![tactic(auto)]
 
 mod command_files;
+mod guarded;
 mod lock;
 mod locked;
 mod mem_places;

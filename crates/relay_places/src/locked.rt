@@ -1,20 +1,21 @@
 //! The disk of a command's files, which asks for their lock.
 
-ghost use Rattle.dm_disk.specs.Disk.{unclaimed};
+ghost use Rattle.std.specs.Prelude.{◌≡◌};
 
 use crate::command_files::CommandFiles;
+use crate::guarded::Guarded;
 use crate::place::Access;
-use crate::system_disk::SystemDisk;
+use crate::system_disk::{KeepsError, SystemDisk};
 use dm_disk::{Disk, FileSet, FileStore, Folders};
 use dm_store::StoreFault;
-use std::alloc::{AllocError, Global};
+use std::alloc::AllocError;
 use std::rc::Rc;
 
 /// The disk of a command's files, which asks for their lock. What [`CommandFiles`] refuses is a device fault. It looks
 /// at the lock right before each call that makes, renames or removes.
 #[derive(Drop)]
-pub struct Locked<'a> {
-    within: SystemDisk<'a>,
+pub struct Locked<'a, D> {
+    within: Guarded<D>,
     /// Whether it was to change something.
     pub(crate) has_saved: bool,
     /// Whether it has made a desk where nothing was.
@@ -27,11 +28,14 @@ pub struct Locked<'a> {
     pub(crate) files: Rc<CommandFiles<'a>>,
 }
 
-impl<'a> Locked<'a> {
+/// The system's disk, which asks for the lock of a command's files.
+pub(crate) type LockedDisk<'a> = Locked<'a, SystemDisk<'a>>;
+
+impl<'a, D: Drop> Locked<'a, D> {
     // A disk of a command's files.
-    fn new(files: &Rc<CommandFiles<'a>>, within: SystemDisk<'a>) -> Result<Locked<'a>, AllocError> {
+    fn new(files: &Rc<CommandFiles<'a>>, disk: D) -> Result<Locked<'a, D>, AllocError> {
         Ok(Locked {
-            within,
+            within: Guarded::new(disk),
             has_saved: false,
             has_made_desk: false,
             has_no_list: false,
@@ -39,9 +43,13 @@ impl<'a> Locked<'a> {
             files: files.clone()?,
         })
     }
+}
 
+impl<D: KeepsError> Locked<'_, D> {
     // The end of a call on the file at a path. Why the system has refused it, if it has, is kept.
-    fn told<T>(&self, path: &str, ended: Result<T, StoreFault>) -> Result<T, StoreFault> {
+    fn told<T>(&self, path: &str, ended: Result<T, StoreFault>) -> Result<T, StoreFault>
+        ensures { result ≡ ended }
+    {
         if let (Err(StoreFault::Device), Some(error)) = (&ended, self.within.last_error()) {
             self.files.keep(path, &error);
         }
@@ -52,7 +60,7 @@ impl<'a> Locked<'a> {
 /// The ledger or the joint file of a command. A new ledger takes the place of nothing.
 pub(crate) fn file_of<'a>(
     files: &Rc<CommandFiles<'a>>,
-) -> Result<FileStore<Locked<'a>>, AllocError> {
+) -> Result<FileStore<LockedDisk<'a>>, AllocError> {
     let path = files.place.file.clone()?;
     let disk = match files.place.access {
         Access::Creates => SystemDisk::of_new_files(files.rt),
@@ -64,18 +72,18 @@ pub(crate) fn file_of<'a>(
 /// The folder of a command.
 pub(crate) fn folder_of<'a>(
     files: &Rc<CommandFiles<'a>>,
-) -> Result<FileSet<Locked<'a>>, AllocError> {
+) -> Result<FileSet<LockedDisk<'a>>, AllocError> {
     let path = files.place.folder.clone()?;
     let disk = SystemDisk::new(files.rt);
     Ok(FileSet::new(Locked::new(files, disk)?, path))
 }
 
-impl Disk for Locked<'_> {
-    type Memory = Global;
+impl<D: Disk + KeepsError> Disk for Locked<'_, D> {
+    type Memory = D::Memory;
 
-    ghost state = { λ _. unclaimed };
+    ghost state = { λ locked. D.state locked.within.disk };
 
-    fn read(&mut self, name: &str, limit: usize) -> Result<Option<Vec<u8>>, StoreFault> {
+    fn read(&mut self, name: &str, limit: usize) -> Result<Option<Vec<u8, D::Memory>>, StoreFault> {
         let entered = self.files.may_load(name)?;
         self.loaded = String::from_str(self.files.rt.alloc(), name).ok();
         let read = self.within.read(entered, name, limit);
@@ -124,7 +132,7 @@ impl Disk for Locked<'_> {
     }
 }
 
-impl Folders for Locked<'_> {
+impl<D: Folders + KeepsError> Folders for Locked<'_, D> {
     fn make_folder(&mut self, folder: &str) -> Result<(), StoreFault> {
         self.has_saved = true;
         let lock = self.files.may_save(folder)?;
@@ -134,7 +142,7 @@ impl Folders for Locked<'_> {
         self.told(folder, made)
     }
 
-    fn keys(&mut self, folder: &str, limit: usize) -> Result<Vec<u16>, StoreFault> {
+    fn keys(&mut self, folder: &str, limit: usize) -> Result<Vec<u16, D::Memory>, StoreFault> {
         let entered = self.files.may_load(folder)?;
         let keys = self.within.keys(entered, folder, limit);
         self.has_no_list = matches!(&keys, Err(StoreFault::Device));

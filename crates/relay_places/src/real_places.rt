@@ -4,7 +4,7 @@ ghost use Rattle.std.specs.Prelude.{None, true};
 ghost use Rattle.relay_places.specs.Places.{unclaimed_places};
 
 use crate::command_files::CommandFiles;
-use crate::locked::{Locked, file_of, folder_of};
+use crate::locked::{LockedDisk, file_of, folder_of};
 use crate::notes::{note_of_file, note_of_folder, note_of_reason};
 use crate::place::{Access, Named, Place};
 use crate::places::{Closed, Places, SavedNew};
@@ -29,7 +29,7 @@ impl<'a> RealPlaces<'a> {
 }
 
 // What the line of a refusal can't say of a command's files, of which this one or one of this folder was loaded last.
-fn note_of(file: &Locked<'_>, folder: &Locked<'_>) -> Option<String> {
+fn note_of(file: &LockedDisk<'_>, folder: &LockedDisk<'_>) -> Option<String> {
     let files = &folder.files;
     let (rt, place) = (files.rt, &files.place);
     match files.reason.get() {
@@ -51,7 +51,7 @@ fn note_of(file: &Locked<'_>, folder: &Locked<'_>) -> Option<String> {
 }
 
 // What is to be said of a desk that was made, if one was, and then this.
-fn with_new_desk(folder: &Locked<'_>, note: Option<String>) -> Option<String> {
+fn with_new_desk(folder: &LockedDisk<'_>, note: Option<String>) -> Option<String> {
     if !folder.has_made_desk {
         return note;
     }
@@ -64,7 +64,7 @@ fn with_new_desk(folder: &Locked<'_>, note: Option<String>) -> Option<String> {
 }
 
 // Closes the files of a command, and gives what was found out of them.
-fn close_files(file: &Locked<'_>, folder: &Locked<'_>, status: u8) -> Closed {
+fn close_files(file: &LockedDisk<'_>, folder: &LockedDisk<'_>, status: u8) -> Closed {
     let files = &folder.files;
     let reason = files.reason.get();
     let note = if status != 0 || reason.is_some() {
@@ -82,9 +82,9 @@ fn close_files(file: &Locked<'_>, folder: &Locked<'_>, status: u8) -> Closed {
 }
 
 impl<'a> Places for RealPlaces<'a> {
-    type File = FileStore<Locked<'a>>;
+    type File = FileStore<LockedDisk<'a>>;
 
-    type Folder = FileSet<Locked<'a>>;
+    type Folder = FileSet<LockedDisk<'a>>;
 
     type Input = RealFile<'a>;
 
