@@ -14,7 +14,7 @@ returns-in-Ok-answer g c =
     files_of (g.P.File.Store.state c.give_all-answer.result.store) (g.P.Folder.StoreSet.state c.give_all-answer.result.set) in
     let others : KeepsOthers c.args.all.file.now old.places places =
     λ other apart. rw (c.close-closed.ensures.others other apart) (c.open.ensures.others other apart) in
-    let given = rw c.in-Ok-answer.is at c.give_all-answer.ensures in
+    let given = rw c.in-Ok-answer.is at c.give_all-answer.ensures.ends in
     let again : OpensBetween given.0 (places c.args.all.file.now) (places c.args.all.file.now) =
     rw c.close-closed.ensures.there (opens_again given.0 before after (given.1, given.2)) in
     let saved = c.save_all-status.ensures given.0 again given.3 in
@@ -33,7 +33,7 @@ returns-in-Err g c =
     files_of (g.P.File.Store.state c.give_all-answer.result.store) (g.P.Folder.StoreSet.state c.give_all-answer.result.set) in
     let others : KeepsOthers c.args.all.file.now old.places places =
     λ other apart. rw (c.close-closed.ensures.others other apart) (c.open.ensures.others other apart) in
-    let none = rw c.in-Err.is at c.give_all-answer.ensures in
+    let none = rw c.in-Err.is at c.give_all-answer.ensures.ends in
     let fails : (c.refuse_noted-status.result.0 ≡ 0) → ⊥ = λ zero. absurd (omega (arith, c.refuse_noted-status.ensures.status, zero)) in
     rw c.refuse_noted-status.ensures.places (
       opens_none fails (refused_at Global c.args.all.file c.args.all.folder c.args.all.given before after old places
