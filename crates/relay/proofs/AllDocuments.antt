@@ -1,7 +1,7 @@
 -- What is given of all documents of a desk: the opening, and for each document a command that gives it alone.
-use Rattle.std.proofs.Common.{◌≡◌, ◌<◌, ◌+◌, ◌-◌, ◌++◌, ◌∷◌, ◌∙◌, false, Global, String, ℕ, List, [], Option, None, Some, Result, Ok, length, get_or, drop, map, max, inl, inr, refl, sym, ap, subst, append-nil, arith}
+use Rattle.std.proofs.Common.{◌≡◌, ◌<◌, ◌+◌, ◌-◌, ◌++◌, ◌∷◌, ◌∙◌, false, ℕ, List, [], Option, None, Some, Result, Ok, length, get_or, drop, map, max, inl, inr, refl, sym, ap, subst, append-nil, arith}
 use Rattle.std.proofs.lemmas.{List.drop_more, List.length-map, List.Elements.All-get_or}
-use Rattle.std.specs.{Borrow.Bor, Io.KnownBytes.Keeps, Prelude.All, Prelude.IfSome, Prelude.MatchOption, Prelude.string_bytes}
+use Rattle.std.specs.{Borrow.Bor, Io.KnownBytes.Keeps, Prelude.All, Prelude.IfSome, Prelude.MatchOption}
 use Rattle.std.proofs.KnownBytes.{Keeps-refl}
 use Rattle.dm_assembly_desk.specs.{Documents.DeskView, declared.limits.TheConstants.MOST_CAPACITY}
 use Rattle.relay_shared.specs.Files.{DeskFiles}
@@ -13,7 +13,8 @@ use Rattle.relay_desk_commands.specs.declared.all_documents.GivenDocument.{Given
 use Rattle.relay_shared.specs.Lines.{id_text}
 use Rattle.relay_places.specs.Places.{KeepsOthers, PlacesView, SavesNew}
 use Rattle.relay_buffers.specs.Buffers.{IsPartOut}
-use Rattle.relay.specs.{Program.Does, Program.DoesAndSaves, Program.DoesAt, Program.GivesEach, Program.IsAt, Program.Notes, Program.NotesIncomplete, Program.OpensBetween, Program.RefusesNoted, Program.SavesOutput, Program.ShowsOnErrors, Program.StandardView, Program.SystemView, Program.all_command, Program.incomplete_note, Program.lets_all_out, Program.named_path, Program.next_id, Program.one_command, Program.streams_over, Program.system_at}
+use Rattle.relay_places.specs.Notes.{note_line}
+use Rattle.relay.specs.{Program.Does, Program.DoesAndSaves, Program.DoesAt, Program.GivesEach, Program.IsAt, Program.Notes, Program.NotesIncomplete, Program.OpensBetween, Program.RefusesNoted, Program.SavesOutput, Program.ShowsOnErrors, Program.StandardView, Program.SystemView, Program.all_command, Program.incomplete_text, Program.lets_all_out, Program.named_path, Program.next_id, Program.one_command, Program.streams_over, Program.system_at}
 
 -- what was written is out
 all_out : (known : Option (List ℕ)) → IsPartOut known known
@@ -181,11 +182,11 @@ others_are documents ids others held are all =
     omega (arith, same)
 
 -- the note of what is incomplete, if there is one
-pub notes_incomplete : (count : ℕ) (note : Option (String Global)) (old new : StandardView) →
-    IfSome note (λ text. (0 < count) × (string_bytes text ≡ incomplete_note count)) →
-    MatchOption note (new ≡ old) (λ text. ShowsOnErrors (string_bytes text) old new) → NotesIncomplete count old new
+pub notes_incomplete : (count : ℕ) (note : Option (List ℕ)) (old new : StandardView) →
+    IfSome note (λ lines. (0 < count) × (lines ≡ note_line (incomplete_text count))) →
+    MatchOption note (new ≡ old) (λ lines. ShowsOnErrors lines old new) → NotesIncomplete count old new
 notes_incomplete count None old new is same = inl same
-notes_incomplete count (Some text) old new (some, is) shows =
+notes_incomplete count (Some lines) old new (some, is) shows =
     inr (some, subst (λ (t : List ℕ). ShowsOnErrors t old new) is shows)
 
 -- a desk that was opened between two files opens again as it was

@@ -14,7 +14,7 @@ use Rattle.relay_desk_commands.specs.declared.documents.Given.{Given, TheVariant
 use Rattle.relay_printer_commands.specs.{declared.audit.TheConstants.TICKETS_BYTES, Printers.EndsLeft, Printers.OnLedger, Printers.EndsLedger, Printers.EndsAudit, Printers.EndsGive, Printers.EndsGiveLast, Printers.EndsTake, Printers.ledger_at, Printers.EndsPlan, Printers.EndsPrint, Printers.EndsTicket}
 use Rattle.relay_world_command.specs.{declared.world.TheConstants.INPUT_BYTES, World.EndsWorld}
 use Rattle.relay_symbol_commands.specs.Symbols.{EndsWords, EndsDraw, EndsRead}
-use Rattle.relay_places.specs.Places.{HoldNothing, KeepsOthers, PlacesView, SavesNew}
+use Rattle.relay_places.specs.{Notes.IsNote, Notes.note_line, Places.HoldNothing, Places.KeepsOthers, Places.PlacesView, Places.SavesNew}
 use Rattle.dm_store.specs.declared.store.StoreFault.{StoreFault}
 use Rattle.relay_line.specs.{Line.EndsAmong, Line.named_images, Line.IsLineOf, Rules.endings, Line.saved_path, Line.saves_output, declared.line.CommandLine.CommandLine, declared.fault.LineFault.LineFault, declared.fault.LineFault.TheVariants.Line, declared.fault.LineFault.TheVariants.Memory}
 use Rattle.relay_buffers.specs.Buffers.{IsPartOut}
@@ -152,7 +152,7 @@ ShowsOnErrors text old new = (new.input ≡ old.input) × (new.output ≡ old.ou
 
 -- the first bytes of a note go there, or nothing happens
 abbrev pub Notes : StandardView → StandardView → Type 0
-Notes old new = (new ≡ old) ⊎ ((note : List ℕ) × ShowsOnErrors note old new)
+Notes old new = (new ≡ old) ⊎ ((note : List ℕ) × IsNote note × ShowsOnErrors note old new)
 
 -- the line of a refusal goes there, and then perhaps a note
 abbrev pub RefusesNoted : List ℕ → StandardView → ℕ → StandardView → Type 0
@@ -258,13 +258,13 @@ pub data GivesEach (A : Type 0) (what : Given) (file folder : List ℕ) : List (
       GivesEach A what file folder later now others new → GivesEach A what file folder (id.now ∷ later) old (max one others) new
 
 -- how many documents are incomplete
-abbrev pub incomplete_note : ℕ → List ℕ
-incomplete_note count = codes "relay: " ++ (decimal count ++ (32 ∷
-    ((if count == 1 then codes "document is incomplete" else codes "documents are incomplete") ++ 10 ∷ [])))
+abbrev pub incomplete_text : ℕ → List ℕ
+incomplete_text count =
+    decimal count ++ (32 ∷ (if count == 1 then codes "document is incomplete" else codes "documents are incomplete"))
 
 -- that goes to the standard error if there are any, unless memory is refused for it
 abbrev pub NotesIncomplete : ℕ → StandardView → StandardView → Type 0
-NotesIncomplete count old new = (new ≡ old) ⊎ ((0 < count) × ShowsOnErrors (incomplete_note count) old new)
+NotesIncomplete count old new = (new ≡ old) ⊎ ((0 < count) × ShowsOnErrors (note_line (incomplete_text count)) old new)
 
 -- What a desk that holds these documents gives of all of them, as files in a folder: of each in turn, and then it is noted
 -- of how many nothing is given. Or it holds none, and is refused, since nothing is there.

@@ -5,13 +5,14 @@ ghost use Rattle.dm_assembly_desk.specs.Documents.{DeskView};
 ghost use Rattle.relay_shared.specs.Lines.{id_text};
 ghost use Rattle.relay_desk_commands.specs.Desks.{GivesAll, IsTextOfId, Yields};
 ghost use Rattle.relay.specs.Program.{DoesForAll, ForgetsEach, GivesEach, GivesHeld, Notes, OpensBetween, OrNothing};
-ghost use Rattle.relay.specs.Program.{RefusesNoted, SavesOutput, StandardView, incomplete_note, system_at};
+ghost use Rattle.relay.specs.Program.{RefusesNoted, SavesOutput, StandardView, incomplete_text, system_at};
+ghost use Rattle.relay_places.specs.Notes.{note_line};
 ghost use Rattle.relay.specs.inner.Given.{GivesThese};
 
 use crate::named::ForAll;
 use crate::system::System;
 use relay_desk_commands::{EndedAll, GivenAll, GivenDocument, give_all};
-use relay_places::{Access, Closed, Named, Places, note_of_desk};
+use relay_places::{Access, Closed, Named, Note, Places, note_of_desk};
 use relay_shared::greater;
 use std::alloc::{AllocError, Global};
 use std::io::{Read, Write};
@@ -26,21 +27,33 @@ fn path_of(alloc: Global, folder: &str, document: &GivenDocument) -> Result<Stri
     format!(in alloc; "{folder}/{id}")
 }
 
-// What says how many documents are incomplete, if any are.
-fn note_of_incomplete(alloc: Global, count: usize) -> Option<String>
-    ensures { IfSome result (λ note. (0 < count) × (string_bytes note ≡ incomplete_note count)) }
+// How many documents are incomplete.
+fn text_of_incomplete(alloc: Global, count: usize) -> Result<String, AllocError>
+    ensures { IfOk result (λ text. string_bytes text ≡ incomplete_text count) }
 {
     let ending = match count {
-        0 => return None,
         1 => "document is incomplete",
         _ => "documents are incomplete",
     };
-    format!(in alloc; "relay: {count} {ending}\n").ok()
+    format!(in alloc; "{count} {ending}")
+}
+
+// What says how many documents are incomplete, if any are.
+fn note_of_incomplete(alloc: Global, count: usize) -> Option<Note>
+    ensures { IfSome result (λ note. (0 < count) × (note ≡ note_line (incomplete_text count))) }
+{
+    if count == 0 {
+        return None;
+    }
+    match text_of_incomplete(alloc, count) {
+        Ok(text) => Note::of_text(alloc, text.as_str()),
+        Err(AllocError) => None,
+    }
 }
 
 impl<I: Read + Drop, O: Write + Drop, E: Write + Drop, P: Places> System<I, O, E, P> {
     // Writes the line of a refusal to the standard error, and a note, if there is one, and gives the exit status.
-    fn refuse_noted(self, alloc: Global, name: &str, note: Option<String>) -> (u8, Self)
+    fn refuse_noted(self, alloc: Global, name: &str, note: Option<Note>) -> (u8, Self)
         ensures told { RefusesNoted name.now self.standard result.0 result.1.standard }
         ensures status { result.0 ≡ 1 }
         ensures places { P.state result.1.places ≡ P.state self.places }

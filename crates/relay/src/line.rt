@@ -15,7 +15,7 @@ use dm_store::{MemSet, MemStore, StoreFault};
 use relay_command::Command;
 use relay_desk_commands::GivenDocument;
 use relay_line::{CommandLine, LineFault, command_line};
-use relay_places::{Closed, Places, SavedNew, note_of_input};
+use relay_places::{Closed, Note, Places, SavedNew, note_of_input};
 use relay_shared::NamedFile;
 use std::alloc::{AllocError, Global};
 use std::convert::AsStr;
@@ -59,12 +59,12 @@ impl<I: Read + Drop, O: Write + Drop, E: Write + Drop> StandardStreams<I, O, E> 
     }
 
     /// Puts a note, if there is one, on the standard error.
-    pub(crate) fn noted(self, alloc: Global, note: Option<String>) -> Self
+    pub(crate) fn noted(self, alloc: Global, note: Option<Note>) -> Self
         ensures notes { Notes self result }
-        ensures text { MatchOption note (result ≡ self) (λ text. ShowsOnErrors (string_bytes text) self result) }
+        ensures text { MatchOption note (result ≡ self) (λ lines. ShowsOnErrors lines self result) }
     {
         match note {
-            Some(text) => self.show_on_errors(alloc, text.as_bytes()),
+            Some(note) => self.show_on_errors(alloc, note.as_str().as_bytes()),
             None => self,
         }
     }
@@ -79,7 +79,7 @@ impl<I: Read + Drop, O: Write + Drop, E: Write + Drop> StandardStreams<I, O, E> 
     }
 
     /// The same, with a note after it, if there is one.
-    pub(crate) fn refuse_noted(self, alloc: Global, name: &str, note: Option<String>) -> (u8, Self)
+    pub(crate) fn refuse_noted(self, alloc: Global, name: &str, note: Option<Note>) -> (u8, Self)
         ensures told { RefusesNoted name.now self result.0 result.1 }
         ensures status { result.0 ≡ 1 }
     {

@@ -6,7 +6,7 @@ ghost use Rattle.relay.specs.Program.{Runs, SystemView, system_at};
 use crate::closed_streams::HeldPlaces;
 use crate::standard::{StandardStreams, tell};
 use crate::system::System;
-use relay_places::{Places, RealPlaces, note};
+use relay_places::{Places, RealPlaces, show_note};
 use std::alloc::Global;
 use std::io::{BufReader, Error, ErrorKind, IsTerminal, Read, Write};
 use std::{env, io};
@@ -81,7 +81,7 @@ fn run_over<I: Read + Drop, O: Write + Drop, E: Write + Drop, P: Places>(
 pub fn run(rt: &HostRuntime) -> u8 {
     let Ok(_places) = HeldPlaces::hold(rt) else {
         let status = refuse_on_errors(rt, "Device");
-        note(rt, "/", "can't be opened in the place of a closed stream");
+        show_note(rt, "/", "can't be opened in the place of a closed stream");
         return status;
     };
     let words = match own_words(rt) {

@@ -1,3 +1,4 @@
 pub mod Paths
 mod Nothing
+pub mod NoteLines
 pub mod Own

@@ -6,6 +6,7 @@ ghost use Rattle.relay_places.specs.Places.{Enters, Guards, locks};
 use crate::guarded::remove_draft;
 use crate::lock::{Held, Lock, LockFault};
 use crate::new_place::obstacle_at;
+use crate::note::Note;
 use crate::notes::{note_of_draft, note_of_error, note_of_many};
 use crate::place::{Access, Place};
 use crate::reason::Reason;
@@ -109,7 +110,7 @@ pub(crate) struct CommandFiles<'a> {
     /// Why the command did not find or did not get its files, if it didn't.
     pub(crate) reason: Cell<Option<Reason>>,
     /// What is to be said of the last call that the system refused.
-    pub(crate) refused: Cell<Option<String>>,
+    pub(crate) refused: Cell<Option<Note>>,
 }
 
 impl<'a> CommandFiles<'a> {
@@ -121,13 +122,6 @@ impl<'a> CommandFiles<'a> {
             entered: OnceCell::new(),
             reason: Cell::new(None),
             refused: Cell::new(None),
-        }
-    }
-
-    /// Takes a lock file away that this command has made for nothing, before the lock ends.
-    pub(crate) fn take_lock_away(&self) {
-        if let Some(Ok(Entered { lock: Ok(lock), .. })) = self.entered.get() {
-            lock.take_away(self.rt);
         }
     }
 
@@ -201,6 +195,7 @@ impl<'a> CommandFiles<'a> {
             Ok(lock) => lock,
             Err(LockFault::NoFolder) => return Ok(Err(NoLock::NoFolder)),
             Err(LockFault::Busy) => return Err(Reason::Busy),
+            Err(LockFault::Lost) => return Err(Reason::LostLock),
             Err(LockFault::Refused(None)) => return Err(Reason::NoLock),
             Err(LockFault::Refused(Some(error))) => {
                 self.keep(path, &error);

@@ -22,6 +22,7 @@ mod lock;
 mod locked;
 mod mem_places;
 mod new_place;
+mod note;
 mod notes;
 mod place;
 mod places;
@@ -33,7 +34,8 @@ mod system_disk;
 mod watched;
 
 pub use mem_places::{MemPlace, MemPlaces};
-pub use notes::{note, note_of_desk, note_of_input};
+pub use note::Note;
+pub use notes::{note_of_desk, note_of_input, show_note};
 pub use place::{Access, Named};
 pub use places::{Closed, Places, SavedNew};
 pub use real_places::RealPlaces;

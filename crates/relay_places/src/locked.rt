@@ -16,17 +16,28 @@ use std::rc::Rc;
 #[derive(Drop)]
 pub struct Locked<'a, D> {
     within: Guarded<D>,
-    /// Whether it was to change something.
-    pub(crate) has_saved: bool,
+    pub(crate) done: Done,
+    /// The files of the command. Their lock ends last.
+    pub(crate) files: Rc<CommandFiles<'a>>,
+}
+
+/// What a disk of a command's files was asked for, and what came of it.
+#[derive(Drop)]
+pub(crate) struct Done {
     /// Whether it has made a desk where nothing was.
     pub(crate) has_made_desk: bool,
     /// Whether the folder could not be listed.
     pub(crate) has_no_list: bool,
     /// The path of the file that was loaded last, if one was.
     pub(crate) loaded: Option<String>,
-    /// The files of the command. Their lock ends last.
-    pub(crate) files: Rc<CommandFiles<'a>>,
 }
+
+// Nothing was asked for yet.
+const NOTHING_DONE: Done = Done {
+    has_made_desk: false,
+    has_no_list: false,
+    loaded: None,
+};
 
 /// The system's disk, which asks for the lock of a command's files.
 pub(crate) type LockedDisk<'a> = Locked<'a, SystemDisk<'a>>;
@@ -36,10 +47,7 @@ impl<'a, D: Drop> Locked<'a, D> {
     fn new(files: &Rc<CommandFiles<'a>>, disk: D) -> Result<Locked<'a, D>, AllocError> {
         Ok(Locked {
             within: Guarded::new(disk),
-            has_saved: false,
-            has_made_desk: false,
-            has_no_list: false,
-            loaded: None,
+            done: NOTHING_DONE,
             files: files.clone()?,
         })
     }
@@ -85,13 +93,12 @@ impl<D: Disk + KeepsError> Disk for Locked<'_, D> {
 
     fn read(&mut self, name: &str, limit: usize) -> Result<Option<Vec<u8, D::Memory>>, StoreFault> {
         let entered = self.files.may_load(name)?;
-        self.loaded = String::from_str(self.files.rt.alloc(), name).ok();
+        self.done.loaded = String::from_str(self.files.rt.alloc(), name).ok();
         let read = self.within.read(entered, name, limit);
         self.told(name, read)
     }
 
     fn write(&mut self, name: &str, bytes: &[u8]) -> Result<(), StoreFault> {
-        self.has_saved = true;
         let lock = self.files.may_save(name)?;
         let written = self.within.write(&self.files.place, lock, name, bytes);
         self.told(self.files.written_at(name), written)
@@ -103,7 +110,6 @@ impl<D: Disk + KeepsError> Disk for Locked<'_, D> {
     }
 
     fn rename(&mut self, from: &str, to: &str) -> Result<(), StoreFault> {
-        self.has_saved = true;
         let lock = self.files.may_save(to)?;
         if !self.files.place.has(from) {
             return Err(StoreFault::Device);
@@ -115,7 +121,6 @@ impl<D: Disk + KeepsError> Disk for Locked<'_, D> {
     }
 
     fn remove(&mut self, name: &str) -> Result<(), StoreFault> {
-        self.has_saved = true;
         let lock = self.files.may_save(name)?;
         let removed = self.within.remove(&self.files.place, lock, name);
         self.told(name, removed)
@@ -134,18 +139,17 @@ impl<D: Disk + KeepsError> Disk for Locked<'_, D> {
 
 impl<D: Folders + KeepsError> Folders for Locked<'_, D> {
     fn make_folder(&mut self, folder: &str) -> Result<(), StoreFault> {
-        self.has_saved = true;
         let lock = self.files.may_save(folder)?;
         let is_new = self.files.has_no_desk();
         let made = self.within.make_folder(&self.files.place, lock, folder);
-        self.has_made_desk |= is_new && made.is_ok();
+        self.done.has_made_desk |= is_new && made.is_ok();
         self.told(folder, made)
     }
 
     fn keys(&mut self, folder: &str, limit: usize) -> Result<Vec<u16, D::Memory>, StoreFault> {
         let entered = self.files.may_load(folder)?;
         let keys = self.within.keys(entered, folder, limit);
-        self.has_no_list = matches!(&keys, Err(StoreFault::Device));
+        self.done.has_no_list = matches!(&keys, Err(StoreFault::Device));
         if let Ok(keys) = &keys {
             self.files.look_at_count(keys.len(), limit);
         }

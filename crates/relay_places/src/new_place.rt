@@ -1,7 +1,8 @@
 //! Where no new file, and no new desk, can be: where something is already, and where a desk or a ledger would stumble
 //! over it.
 
-use crate::notes::{line_of, note_of_draft, note_of_error, note_of_reason};
+use crate::note::Note;
+use crate::notes::{note_of_draft, note_of_error, note_of_reason};
 use crate::place::Place;
 use crate::reason::Reason;
 use dm_disk::{draft_path, folder_of};
@@ -12,7 +13,7 @@ use std::rt::Files;
 #[derive(Drop)]
 pub(crate) struct Obstacle {
     /// What is to be said of it.
-    pub(crate) note: Option<String>,
+    pub(crate) note: Option<Note>,
 }
 
 // Whether a path is that of a file that is made beside a ledger or a desk, or lies in a desk's folder.
@@ -25,7 +26,7 @@ fn has_own_ending(place: &Place) -> bool {
 }
 
 // That a place lies in a desk's folder, by the folder's own name, links followed; or why that can't be found out.
-fn note_of_desk_folder(rt: &HostRuntime, place: &Place) -> Option<Option<String>> {
+fn note_of_desk_folder(rt: &HostRuntime, place: &Place) -> Option<Option<Note>> {
     let path = folder_of(place.file.as_str());
     let folder = match rt.canonicalize(rt.alloc(), path) {
         Ok(folder) => folder.into_string(),
@@ -36,7 +37,7 @@ fn note_of_desk_folder(rt: &HostRuntime, place: &Place) -> Option<Option<String>
         return None;
     }
     let why = "only the files of its desk may be there";
-    Some(line_of(rt.alloc(), folder.as_str(), why).ok())
+    Some(Note::of(rt.alloc(), folder.as_str(), why))
 }
 
 // Why nothing new can be at a place, by what is found there alone.
@@ -62,12 +63,11 @@ pub(crate) fn obstacle_at(rt: &HostRuntime, place: &Place) -> Option<Obstacle> {
 }
 
 // That something is at a place already and, if there is one, that a draft of it is.
-fn note_of_taken(rt: &HostRuntime, place: &Place) -> Option<String> {
+fn note_of_taken(rt: &HostRuntime, place: &Place) -> Option<Note> {
     let note = note_of_reason(rt.alloc(), place, Reason::Taken)?;
     match draft_path(place.file.as_str(), 1) {
         Ok(draft) if rt.symlink_metadata(draft.as_str()).is_ok() => {
-            let draft = note_of_draft(rt.alloc(), place)?;
-            format!(in rt.alloc(); "{note}{draft}").ok()
+            note.then(rt.alloc(), &note_of_draft(rt.alloc(), place)?)
         }
         _ => Some(note),
     }

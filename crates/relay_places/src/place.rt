@@ -56,11 +56,11 @@ pub(crate) struct Place {
     pub(crate) lock: String,
 }
 
-// What is beside a path, with this ending.
-fn beside(alloc: Global, path: &str, ending: &str) -> Result<String, AllocError>
-    ensures { IfOk result (λ whole. string_bytes whole ≡ path.now ++ ending.now) }
+/// A text, and another behind it, as a path with its ending.
+pub(crate) fn joined(alloc: Global, first: &str, second: &str) -> Result<String, AllocError>
+    ensures { IfOk result (λ whole. string_bytes whole ≡ first.now ++ second.now) }
 {
-    format!(in alloc; "{path}{ending}")
+    format!(in alloc; "{first}{second}")
 }
 
 // The path that the lock stands beside: of a ledger, or of a desk's folder.
@@ -115,14 +115,14 @@ impl Place {
     {
         let alloc = rt.alloc();
         let (file, file_fault) = follow(rt, String::from_str(alloc, named.file)?)?;
-        let (folder, folder_fault) = follow(rt, beside(alloc, file.as_str(), ".pages")?)?;
+        let (folder, folder_fault) = follow(rt, joined(alloc, file.as_str(), ".pages")?)?;
         let locked = locked_path(named.is_desk, file.as_str(), folder.as_str());
         Ok(Place {
             named: String::from_str(alloc, named.file)?,
             is_desk: named.is_desk,
             access: named.access,
-            draft: beside(alloc, file.as_str(), ".new")?,
-            lock: beside(alloc, locked, ".lock")?,
+            draft: joined(alloc, file.as_str(), ".new")?,
+            lock: joined(alloc, locked, ".lock")?,
             file,
             file_fault,
             folder,

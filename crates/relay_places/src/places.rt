@@ -4,6 +4,7 @@ ghost use Rattle.std.specs.Prelude.{◌≡◌, ℕ, List, IfOk, IsTrue, OnErr, O
 ghost use Rattle.relay_shared.specs.Command.{FileView};
 ghost use Rattle.relay_places.specs.Places.{HoldNothing, PlacesView, KeepsOthers, SavesNew, files_of};
 
+use crate::note::Note;
 use crate::place::Named;
 use dm_store::{Store, StoreFault, StoreSet};
 use relay_shared::NamedFile;
@@ -13,7 +14,7 @@ use std::alloc::AllocError;
 #[derive(Drop)]
 pub struct Closed {
     /// What is to be said of them on the standard error.
-    pub note: Option<String>,
+    pub note: Option<Note>,
     /// Whether nothing was there of a desk that was to be read.
     pub is_absent: bool,
 }
@@ -23,7 +24,7 @@ pub struct Closed {
 pub struct SavedNew {
     pub answer: Result<(), StoreFault>,
     /// What is to be said of it on the standard error.
-    pub note: Option<String>,
+    pub note: Option<Note>,
 }
 
 /// What is at the paths of a system: at each a ledger or a desk; and files to be read.

@@ -2,7 +2,7 @@
 
 ghost use Rattle.std.specs.Prelude.{None, true};
 
-use crate::notes::{note, note_error};
+use crate::notes::{note_error, show_note};
 use crate::watched::{NO_IMAGE, Watched};
 use relay_shared::NamedFile;
 use relay_streams::InputFault;
@@ -61,9 +61,9 @@ impl NamedFile for RealFile<'_> {
         if let Some(error) = &reader.error {
             note_error(self.rt, self.name.as_str(), error);
         } else if let Some(why) = refused {
-            note(self.rt, self.name.as_str(), why);
+            show_note(self.rt, self.name.as_str(), why);
         } else if reader.is_empty() {
-            note(self.rt, self.name.as_str(), NO_IMAGE);
+            show_note(self.rt, self.name.as_str(), NO_IMAGE);
         }
     }
 }

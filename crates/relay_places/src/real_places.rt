@@ -4,7 +4,8 @@ ghost use Rattle.std.specs.Prelude.{None, true};
 ghost use Rattle.relay_places.specs.Places.{unclaimed_places};
 
 use crate::command_files::CommandFiles;
-use crate::locked::{LockedDisk, file_of, folder_of};
+use crate::locked::{Done, LockedDisk, file_of, folder_of};
+use crate::note::Note;
 use crate::notes::{note_of_file, note_of_folder, note_of_reason};
 use crate::place::{Access, Named, Place};
 use crate::places::{Closed, Places, SavedNew};
@@ -28,9 +29,8 @@ impl<'a> RealPlaces<'a> {
     }
 }
 
-// What the line of a refusal can't say of a command's files, of which this one or one of this folder was loaded last.
-fn note_of(file: &LockedDisk<'_>, folder: &LockedDisk<'_>) -> Option<String> {
-    let files = &folder.files;
+// What the line of a refusal can't say of a command's files, of which this one or one of the folder was loaded last.
+fn note_of(files: &CommandFiles<'_>, file: &Done, folder: &Done) -> Option<Note> {
     let (rt, place) = (files.rt, &files.place);
     match files.reason.get() {
         None | Some(Reason::Refused) => {}
@@ -47,38 +47,40 @@ fn note_of(file: &LockedDisk<'_>, folder: &LockedDisk<'_>) -> Option<String> {
     }
     // The joint file is loaded before the files in the folder.
     let path = folder.loaded.as_ref().or(file.loaded.as_ref())?;
-    note_of_file(files, path.as_str())
+    note_of_file(rt, place, path.as_str())
 }
 
 // What is to be said of a desk that was made, if one was, and then this.
-fn with_new_desk(folder: &LockedDisk<'_>, note: Option<String>) -> Option<String> {
+fn with_new_desk(files: &CommandFiles<'_>, folder: &Done, note: Option<Note>) -> Option<Note> {
     if !folder.has_made_desk {
         return note;
     }
-    let alloc = folder.files.rt.alloc();
-    let made = note_of_reason(alloc, &folder.files.place, Reason::NewDesk)?;
+    let alloc = files.rt.alloc();
+    let made = note_of_reason(alloc, &files.place, Reason::NewDesk)?;
     match note {
-        Some(note) => format!(in alloc; "{made}{note}").ok(),
+        Some(note) => made.then(alloc, &note),
         None => Some(made),
     }
 }
 
 // Closes the files of a command, and gives what was found out of them.
-fn close_files(file: &LockedDisk<'_>, folder: &LockedDisk<'_>, status: u8) -> Closed {
-    let files = &folder.files;
+fn close_files(files: &CommandFiles<'_>, file: &Done, folder: &Done, status: u8) -> Closed {
     let reason = files.reason.get();
     let note = if status != 0 || reason.is_some() {
-        note_of(file, folder)
+        note_of(files, file, folder)
     } else {
         None
     };
-    if !file.has_saved && !folder.has_saved {
-        files.take_lock_away();
-    }
     Closed {
-        note: with_new_desk(folder, note),
+        note: with_new_desk(files, folder, note),
         is_absent: matches!(reason, Some(Reason::NoDesk)),
     }
+}
+
+// The files of a command, which were not asked for yet.
+fn files_of<'a>(rt: &'a HostRuntime, named: Named<'_>) -> Result<Rc<CommandFiles<'a>>, AllocError> {
+    let files = CommandFiles::new(rt, Place::of(rt, named)?);
+    Rc::new(rt.alloc(), files).or(Err(AllocError))
 }
 
 impl<'a> Places for RealPlaces<'a> {
@@ -95,14 +97,14 @@ impl<'a> Places for RealPlaces<'a> {
     ghost is_open = { λ _ _. Unit {0} };
 
     fn open(&mut self, named: Named<'_>) -> Result<(Self::File, Self::Folder), AllocError> {
-        let files = CommandFiles::new(self.rt, Place::of(self.rt, named)?);
-        let files = Rc::new(self.rt.alloc(), files).or(Err(AllocError))?;
+        let files = files_of(self.rt, named)?;
         Ok((file_of(&files)?, folder_of(&files)?))
     }
 
     #[rattlefmt::skip] // a signature a line
     fn close(&mut self, _named: Named<'_>, file: Self::File, folder: Self::Folder, status: u8) -> Closed {
-        close_files(&file.into_disk(), &folder.into_disk(), status)
+        let (file, folder) = (file.into_disk(), folder.into_disk());
+        close_files(&folder.files, &file.done, &folder.done, status)
     }
 
     fn input(&self, name: &str) -> Result<Self::Input, AllocError> {

@@ -1,6 +1,7 @@
 //! A new file that the output of a command is saved as.
 
 use crate::new_place::{obstacle_at, obstacle_to_output};
+use crate::note::Note;
 use crate::notes::{note_of_draft, note_of_error, note_of_reason};
 use crate::place::{Access, Named, Place};
 use crate::places::SavedNew;
@@ -22,7 +23,7 @@ const NO_MEMORY: SavedNew = SavedNew {
 };
 
 // What is to be said of a save that was refused at a place.
-fn note_of_refusal(rt: &HostRuntime, place: &Place, error: &io::Error) -> Option<String> {
+fn note_of_refusal(rt: &HostRuntime, place: &Place, error: &io::Error) -> Option<Note> {
     match error.kind() {
         ErrorKind::AlreadyExists => note_of_reason(rt.alloc(), place, Reason::Taken),
         _ => note_of_error(rt.alloc(), place.file.as_str(), error),

@@ -49,9 +49,9 @@ all_of (Some xs) (Some w) (Some z) text all keeps = keeps ∙ all
 pub not_zero : {status : ℕ} → status ≡ 1 → status ≢ 0
 not_zero one zero = omega arith
 
-noted_same : (old new : StandardView) → Notes old new → new.output ≡ old.output
+pub noted_same : (old new : StandardView) → Notes old new → new.output ≡ old.output
 noted_same old new (inl is) = ap (λ (s : StandardView). s.output) is
-noted_same old new (inr noted) = noted.1.1
+noted_same old new (inr (note, is, shows)) = shows.1
 
 module _ {wrote out errors : Option (List ℕ)} {told : OutputView} {ended status : ℕ} where
   out_part : PutsOut wrote told ended status out errors → IsPartOut wrote out
@@ -59,7 +59,7 @@ module _ {wrote out errors : Option (List ℕ)} {told : OutputView} {ended statu
   out_part (says_nothing not_done part same tells) = part
   out_part (says_so after part tells so) = part
 
-  out_all : PutsOut wrote told ended status out errors → status ≡ 0 → (ended ≡ 0) × Keeps wrote out
+  pub out_all : PutsOut wrote told ended status out errors → status ≡ 0 → (ended ≡ 0) × Keeps wrote out
   out_all (lets_all_out keeps same part told) zero = (sym same ∙ zero, keeps)
   out_all (says_nothing not_done part same tells) zero = absurd (not_done (sym same ∙ zero))
   out_all (says_so after part tells so) zero = absurd (not_zero (refused_one tells) zero)
