@@ -53,9 +53,14 @@ impl Evidence {
             Ok(reader) => reader,
             Err(fault) => return Err(fault.name()),
         };
-        let count = match Input::new(reader).fill(&mut room) {
+        let mut input = Input::new(reader);
+        let count = match input.fill(&mut room) {
             Ok(count) => count,
-            Err(fault) => return Err(fault.name()),
+            Err(fault) => {
+                let name = fault.name();
+                file.end(input.into_reader(), Some(name));
+                return Err(name);
+            }
         };
         match Shown::read(&room[..count]) {
             Ok(shown) => Ok(Evidence {

@@ -9,17 +9,17 @@ returns-in-Err g c = rw c.name.ensures (not_read c.in-Err.fault (inl c.in-Err.en
 
 pub returns-in-Err-fill : goal.returns-in-Err-fill
 returns-in-Err-fill g c =
-    rw (c.name-in-Err-fill.ensures, read_named c.in-Err-fill.fault) (not_read input_faults.Read (inr refl))
+    rw (c.name-name.ensures, read_named c.in-Err-fill.fault) (not_read input_faults.Read (inr refl))
 
 pub returns-in-Ok-read : goal.returns-in-Ok-read
 returns-in-Ok-read g c =
-    let first = first_of_file (c.new.ensures.remaining ∙ c.in-Ok.ensures.opened) c.fill.auto.buffer
+    let first = first_of_file (c.new-input.ensures.remaining ∙ c.in-Ok.ensures.opened) c.fill.auto.buffer
     c.in-Ok-fill.ensures.filled in
     (refl, read (take c.in-Ok-fill.count c.fill.new.buffer) c.in-Ok-read.shown first (sym c.read.ensures ∙ c.in-Ok-read.is))
 
-pub returns-in-Err-read : goal.returns-in-Err-read
-returns-in-Err-read g c =
-    let first = first_of_file (c.new.ensures.remaining ∙ c.in-Ok.ensures.opened) c.fill.auto.buffer
+pub returns : goal.returns
+returns g c =
+    let first = first_of_file (c.new-input.ensures.remaining ∙ c.in-Ok.ensures.opened) c.fill.auto.buffer
     c.in-Ok-fill.ensures.filled in
     rw c.name-in-Err-read.ensures (refused (take c.in-Ok-fill.count c.fill.new.buffer) c.in-Err-read.fault first
     (sym c.read.ensures ∙ c.in-Err-read.is))
