@@ -1,5 +1,5 @@
 -- Each ID has one document: one print of a list has the ID, and its labels carry all parts of that document.
-use Rattle.std.proofs.Common.{◌≡◌, ◌+◌, ◌-◌, ◌*◌, ◌<◌, ◌≤◌, ◌++◌, ◌⊎◌, inl, inr, ℕ, zero, suc, List, [], ◌∷◌, None, Option, Some, Ok, Err, drop, get_or, length, slice_get, take, refl, sym, ap, subst, ◌∙◌, append_assoc, arith}
+use Rattle.std.proofs.Common.{◌≡◌, ◌+◌, ◌-◌, ◌*◌, ◌<◌, ◌≤◌, ◌++◌, ◌⊎◌, inl, inr, false, ℕ, zero, suc, List, [], ◌∷◌, None, Option, Some, Ok, Err, drop, get_or, length, slice_get, take, refl, sym, ap, subst, ◌∙◌, append_assoc, arith}
 use Rattle.std.specs.{List.concat, Prelude.IfSome, Prelude.IsSomeAnd, Prelude.IsTrue}
 use Rattle.std.proofs.lemmas.Option.{slice_get-get_or}
 use Rattle.dm_size.specs.declared.size.Size.{Size}
@@ -7,24 +7,25 @@ use Rattle.dm_encodation.specs.declared.scheme.Scheme.{Scheme}
 use Rattle.dm_encodation.specs.Grammar.{ReadsOnly}
 use Rattle.dm_finder_frame.specs.Frame.{GridView}
 use Rattle.dm_symbol.specs.Correction.{CarriesItsWords, data_of, words_of_grid}
-use Rattle.dm_append_label.specs.Labels.{Carries, PageView, head_of, head_words, parts_from}
+use Rattle.dm_append_label.specs.Labels.{AreEnds, AreParts, Carries, PageView, head_of, head_words, parts_from}
 use Rattle.dm_append_label.proofs.CutParts.{each_cut_is}
 use Rattle.dm_event_history.proofs.Gotten.{get_more}
-use Rattle.dm_print_ledger.specs.Ledger.{JobView}
-use Rattle.dm_print_ledger.specs.Verdicts.{AreLabels, IsJobOf}
+use Rattle.dm_print_ledger.specs.Ledger.{JobView, PrinterView}
+use Rattle.dm_print_ledger.specs.Verdicts.{AreLabels, IsCutting, IsJobOf}
 use Rattle.relay_command.specs.declared.command.Command.{Command}
 use Rattle.relay_command.specs.declared.command.Command.TheVariants.{Print}
 use Rattle.relay_command.specs.declared.command.Labels.{Labels}
-use Rattle.relay_printer_commands.specs.Printers.{EndsPrint, OnLedger, ledger_at}
+use Rattle.relay_printer_commands.specs.Printers.{EndsPrint, OnLedger, images_of, ledger_at}
 use Rattle.relay_printer_commands.specs.Printers.EndsPrint.{no_side, not_read, too_long, read as was_read}
 use Rattle.relay_printer_commands.specs.Printers.PrintsDocument.{opened as was_opened, not_opened}
 use Rattle.relay_desk_commands.specs.Desks.{OnDesk}
 use Rattle.relay_runs.specs.Runs.{job_ended}
-use Rattle.relay_shared.specs.Command.{FileView}
+use Rattle.relay_shared.specs.Command.{FileView, ReadsDocument}
+use Rattle.relay_streams.specs.Streams.{AppendsPart, InputView}
 use Rattle.relay.specs.Program.{Does, path_of}
 use Rattle.relay_program_runs.specs.Passed.{passed_by, text_of}
-use Rattle.relay_program_runs.specs.Law.{DeliversPrinted, DeliversTheDocument, Each, EachIdHasOneDocument, Halts, HaveOneDocument, IsDocumentOf, IsFirstOfItsId, PrintsUnder, Ran, SomeRan, WhatIsDeliveredIsTheDocument, WritesNothing, WritesPart, WritesPrinted, cut_short, exited, passed_at, writes, writes_nothing}
-use Rattle.relay_program_runs.proofs.{Lists.one_before, Lists.one_now, Steps.PrintsId, Steps.again, Walk.no_id_is_printed_twice, Walk.what_is_delivered_was_printed}
+use Rattle.relay_program_runs.specs.Law.{DeliversPrinted, DeliversTheDocument, Each, EachIdHasOneDocument, EachPrintHasADocument, Halts, HaveOneDocument, IsDocumentOf, IsFirstOfItsId, PrintsUnder, Ran, SomeRan, WhatIsDeliveredIsTheDocument, WritesNothing, WritesPart, WritesPrinted, cut_short, exited, passed_at, writes, writes_nothing}
+use Rattle.relay_program_runs.proofs.{Effects.out_of, Lists.one_before, Lists.one_now, Steps.PrintsId, Steps.again, Walk.no_id_is_printed_twice, Walk.what_is_delivered_was_printed}
 
 -- ---- one print has the ID
 
@@ -53,22 +54,28 @@ module _ (A : Type 0) (id : ℕ) where
 
 -- ---- the labels of its job
 
--- the job has the label of each of these parts
-record HasParts (parts : List (List ℕ)) (job : JobView) : Type 0 where
+-- the job has the label of each of these parts of a document, which was read of this input
+record HasParts (input : InputView) (parts : List (List ℕ)) (job : JobView) : Type 0 where
   size : Size
   scheme : Scheme
+  document : List ℕ
+  rest : InputView
+  read : ReadsDocument input rest document
+  are_parts : AreParts size scheme document parts
   id : ℕ
   is_job : IsJobOf size scheme id parts job
 
-abbrev IsCutSo : JobView → Type 0
-IsCutSo job = (parts : List (List ℕ)) × HasParts parts job
+abbrev IsCutSo : InputView → JobView → Type 0
+IsCutSo input job = (parts : List (List ℕ)) × HasParts input parts job
 
-made_so : (P : List ℕ → Type 0) (o : Option (List ℕ)) → IsSomeAnd o P → (ends : List ℕ) × P ends
-made_so P None made = absurd made
-made_so P (Some ends) made = (ends, made)
+made_so : (size : Size) (scheme : Scheme) (document : List ℕ) (P : List ℕ → Type 0) (o : Option (List ℕ)) →
+    IsCutting size scheme document o → IsSomeAnd o P → (ends : List ℕ) × AreEnds size scheme document ends × P ends
+made_so size scheme document P None cutting made = absurd made
+made_so size scheme document P (Some ends) cutting made = (ends, cutting, made)
 
 job_parts : {number : ℕ} {labels : Labels} {scheme : Scheme} (old new : OnLedger) (status : ℕ)
-    (ends : EndsPrint number labels scheme old status new) (job : JobView) → job_ended ends ≡ Some job → IsCutSo job
+    (ends : EndsPrint number labels scheme old status new) (job : JobView) → job_ended ends ≡ Some job →
+    IsCutSo old.streams.input job
 job_parts old new status (no_side side same told) job is = cc (is)
 job_parts old new status (not_read fault rest side failed same told) job is = cc (is)
 job_parts old new status (too_long document rest side is_read long same told) job is = cc (is)
@@ -78,19 +85,32 @@ job_parts old new status
 job_parts {scheme = scheme} old new status
     (was_read size document rest is_read chosen (was_opened before after (Ok it) opens prints same told)) job is =
     let its : it ≡ job = cc (is) in
-    let made = made_so _ prints.cutting prints.made in
-    subst IsCutSo its
-    (parts_from document 0 made.0, record { size = size; scheme = scheme; id = _; is_job = made.1 })
+    let runs : before.is_failed ≡ false = ap (λ (v : PrinterView). v.is_failed) opens.1 in
+    let made = made_so size scheme document _ prints.cutting (prints.is_cutting runs) prints.made in
+    subst (IsCutSo old.streams.input) its (
+      parts_from document 0 made.0,
+      record {
+        size = size;
+        scheme = scheme;
+        document = document;
+        rest = rest;
+        read = is_read;
+        are_parts = record { ends = made.0; are_ends = made.1; parts_are = refl };
+        id = _;
+        is_job = made.2;
+      },
+    )
 
 parts_by : (A : Type 0) (inputs : List FileView) (before after : OnDesk) (status : ℕ) (command : Command)
     (does : Does A command inputs before status after) (job : JobView) →
-    (passed_by A command inputs before status after does).printed ≡ Some job → IsCutSo job
+    (passed_by A command inputs before status after does).printed ≡ Some job → IsCutSo before.streams.input job
 parts_by A inputs before after status (Print file number labels scheme) does job is =
     job_parts (ledger_at before.files.joint before.streams) (ledger_at after.files.joint after.streams) status does.0.0 job is
 parts_by A inputs before after status other does job is = cc (is)
 
 parts_at : (A : Type 0) (command : Command) {inputs : List FileView} (before after : OnDesk)
-    (ends : Halts A command inputs before after) (job : JobView) → (passed_at ends).printed ≡ Some job → IsCutSo job
+    (ends : Halts A command inputs before after) (job : JobView) → (passed_at ends).printed ≡ Some job →
+    IsCutSo before.streams.input job
 parts_at A command {inputs} before after (exited status does) job is =
     parts_by A inputs before after status command does job is
 parts_at A command {inputs} before after (cut_short status does) job is =
@@ -107,6 +127,55 @@ label_there size scheme id n m (one ∷ parts) (grid ∷ grids) are zero part is
 label_there size scheme id n m (one ∷ parts) (grid ∷ grids) are (suc i) part is =
     let rest = label_there size scheme id n (m + 1) parts grids are.1 i part is in
     (rest.0, rest.1, rest.2, rest.3, rest.4 ∙ (let same : m + 1 + i ≡ m + suc i = omega arith in same), rest.5, rest.6)
+
+label_at : (size : Size) (scheme : Scheme) (id n m : ℕ) (parts : List (List ℕ)) (grids : List GridView) →
+    AreLabels size scheme id n m parts grids → (i : ℕ) (grid : GridView) → slice_get grids i ≡ Some grid →
+    (page : PageView) × Carries page grid × (page.id ≡ id) × (page.m ≡ m + i) × (page.n ≡ n)
+    × (slice_get parts i ≡ Some page.bytes)
+label_at size scheme id n m [] [] are i grid is = cc (is)
+label_at size scheme id n m [] (own ∷ grids) are i grid is = absurd are
+label_at size scheme id n m (part ∷ parts) [] are i grid is = absurd are
+label_at size scheme id n m (part ∷ parts) (own ∷ grids) are zero grid is =
+    let page : PageView = record { id = id; m = m; n = n; bytes = part } in
+    let same : own ≡ grid = cc (is) in
+    (page, subst (Carries page) same are.0.carries, refl, omega arith, refl, refl)
+label_at size scheme id n m (part ∷ parts) (own ∷ grids) are (suc i) grid is =
+    let rest = label_at size scheme id n (m + 1) parts grids are.1 i grid is in
+    (rest.0, rest.1, rest.2, rest.3 ∙ (let same : m + 1 + i ≡ m + suc i = omega arith in same), rest.4, rest.5)
+
+-- ---- each print has a document
+
+written_at : (A : Type 0) (command : Command) {inputs : List FileView} (before after : OnDesk)
+    (ends : Halts A command inputs before after) (job : JobView) → (passed_at ends).printed ≡ Some job →
+    AppendsPart before.streams.output.contents after.streams.output.contents (images_of job.labels)
+written_at A command {inputs} before after (exited status does) = out_of A inputs before after status command does
+written_at A command {inputs} before after (cut_short status does) = out_of A inputs before after status command does
+
+pub each_print_has_a_document : (A : Type 0) → EachPrintHasADocument A
+each_print_has_a_document A ran job is =
+    let cut = parts_at A ran.command ran.before ran.after ran.ends job is in
+    let h = cut.1 in (
+      h.document,
+      record {
+        rest = h.rest;
+        read = h.read;
+        job = job;
+        job_is = is;
+        id_is = refl;
+        size = h.size;
+        scheme = h.scheme;
+        parts = cut.0;
+        are_parts = h.are_parts;
+        labels = λ i grid at.
+            let l = label_at h.size h.scheme h.id (length cut.0) 1 cut.0 job.labels h.is_job.labels i grid at in (
+              l.0,
+              l.1,
+              l.2 ∙ sym h.is_job.id_is,
+              record { place = i; m_is = (let m = l.3 in omega (arith, m)); n_is = l.4; part = l.5 },
+            );
+        written = written_at A ran.command ran.before ran.after ran.ends job is;
+      },
+    )
 
 -- ---- a grid carries one page
 
@@ -148,7 +217,7 @@ all_there (x ∷ xs) (y ∷ ys) count each =
     λ i. first i ∷ rest i
 
 module _ (A : Type 0) (law : (size : Size) → CarriesItsWords size) (id : ℕ) where
-  module _ (parts : List (List ℕ)) (job : JobView) (h : HasParts parts job) (document : List ℕ) (ran : Ran A)
+  module _ (input : InputView) (parts : List (List ℕ)) (job : JobView) (h : HasParts input parts job) (document : List ℕ) (ran : Ran A)
       (p : PrintsUnder id document ran) (is : p.job ≡ job) where
     part_there : (i : ℕ) (part : List ℕ) → slice_get parts i ≡ Some part →
         (slice_get p.parts i ≡ Some part) × (length p.parts ≡ length parts)
@@ -175,7 +244,7 @@ module _ (A : Type 0) (law : (size : Size) → CarriesItsWords size) (id : ℕ) 
   one_of ran one other p q =
       let cut = parts_at A ran.command ran.before ran.after ran.ends p.job p.job_is in
       let same : Some q.job ≡ Some p.job = sym q.job_is ∙ p.job_is in
-      joined cut.0 p.job cut.1 one ran p refl ∙ sym (joined cut.0 p.job cut.1 other ran q (cc (same)))
+      joined _ cut.0 p.job cut.1 one ran p refl ∙ sym (joined _ cut.0 p.job cut.1 other ran q (cc (same)))
 
   prints_id : (document : List ℕ) (ran : Ran A) → PrintsUnder id document ran → PrintsId id ran
   prints_id document ran p = record { job = p.job; job_is = p.job_is; id_is = p.id_is }

@@ -201,6 +201,11 @@ abbrev pub HaveOneDocument : {A : Type 0} → List (Ran A) → Type 0
 HaveOneDocument rans = (id : ℕ) (one other : List ℕ) → SomeRan (PrintsUnder id one) rans →
     SomeRan (PrintsUnder id other) rans → one ≡ other
 
+-- A print that counts has a document: it read it, and the labels of its job carry its parts under the job's ID.
+abbrev pub EachPrintHasADocument : Type 0 → Type 0
+EachPrintHasADocument A = (ran : Ran A) (job : JobView) → (passed ran).printed ≡ Some job →
+    (document : List ℕ) × PrintsUnder job.id document ran
+
 -- the one document of the ID that the text spells: an earlier command printed it, and none prints another under that ID
 pub record IsDocumentOf {A : Type 0} (earlier rans : List (Ran A)) (text document : List ℕ) : Type 0 where
   pub id : ℕ

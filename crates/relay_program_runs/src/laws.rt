@@ -1,6 +1,6 @@
 //! The laws: each function's contract is the law.
 
-ghost use Rattle.relay_program_runs.specs.Law.{EachIdHasOneDocument, NoIdIsPrintedTwice, WhatIsDeliveredIsTheDocument, WhatIsDeliveredWasPrinted};
+ghost use Rattle.relay_program_runs.specs.Law.{EachIdHasOneDocument, EachPrintHasADocument, NoIdIsPrintedTwice, WhatIsDeliveredIsTheDocument, WhatIsDeliveredWasPrinted};
 ghost use Rattle.relay_program_runs.specs.Lines.{AllIsOut, EachIdOfLinesHasOneDocument, NoLinePrintsAnIdAgain, WhatLinesDeliverIsTheDocument, WhatLinesDeliverWasPrinted, WhatLinesLetOutIsTheDocument};
 ghost use Rattle.relay_program_runs.specs.InTurn.{WhatLinesRunInTurnFindWhatWasLeft, WhatRunsInTurnFindsWhatWasLeft};
 ghost use Rattle.relay_program_runs.specs.Where.{NoIdIsInTwoPlaces, NoIdOfLinesIsInTwoPlaces};
@@ -57,9 +57,10 @@ fn each_grid_carries_its_words()
     grid_carries_its_words(Size::Side132);
 }
 
-/// There is one document to an ID.
+/// There is one document to an ID, and each print has one.
 pub fn each_id_has_one_document<A: Allocator>()
-    ensures { EachIdHasOneDocument A }
+    ensures one { EachIdHasOneDocument A }
+    ensures some { EachPrintHasADocument A }
 {
     each_grid_carries_its_words();
 }

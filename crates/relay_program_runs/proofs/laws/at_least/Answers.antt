@@ -63,6 +63,7 @@ pub returns : goal.returns
 returns g c = record {
   place = λ ran files. refl;
   label = λ among ran job i grid is there. inl (some_so _ _ job is (i, there));
+  copied = λ among ran grid is here. inr (is, here);
   near = λ among. takes_near _ _;
   first = no_other _;
   read = was_read _;
