@@ -11,7 +11,7 @@ use Rattle.std.specs.{List.All, List.slice_range, Int.Bits.bit_xor, Int.Bits.xor
 use Rattle.dm_gf256.specs.Field.{plain, reduced, product, power, value, IsSoundBlock}
 use Rattle.dm_gf256.proofs.{TablesByComputing.all_below, Linear.product-xor_l, LoopSteps.double_low}
 use Rattle.dm_gf256.proofs.Ring.{all_below-at, product_assoc, product_byte, product-zero_r, one-product, power_byte, power-add}
-use Rattle.dm_gf256.proofs.Divide.{value-add_scaled, value-append, xor_solve, add_scaled-by_places}
+use Rattle.dm_gf256.proofs.Divide.{value-add_scaled, value-append, xor_solve, add_scaled_by_places}
 use Rattle.dm_check_blocks.specs.inner.Remainders.{row_at, IsDivided}
 use Rattle.dm_check_blocks.proofs.Remainders.{zeros_value, whole}
 
@@ -116,7 +116,7 @@ row_step f rest ys row c n x ly lr few some fits room h root zeros sums =
     ap (bit_xor (get_or rest k 0)) (product-zero_r f) ∙ xor_zero_r _))
     (cases_lt k 80) in
     let is : take n (ys ++ drop 80 rest) ≡ _ =
-    add_scaled-by_places f (take n (ys ++ drop 80 rest)) (take n rest) shifted (lt ∙ sym taken) (taken ∙ sym lz)
+    add_scaled_by_places f (take n (ys ++ drop 80 rest)) (take n rest) shifted (lt ∙ sym taken) (taken ∙ sym lz)
     (λ k l.
     let below : k < n = omega arith in
     get_or-take n (ys ++ drop 80 rest) k 0 below ∙ place k

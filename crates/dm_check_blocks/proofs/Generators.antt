@@ -1,8 +1,7 @@
 -- The coefficients of the generator polynomial, root by root.
-use Rattle.std.proofs.Common.{◌≡◌, ℕ, zero, suc, ◌+◌, ◌-◌, ◌<◌, refl, sym, ◌∙◌, ap, arith, List, [], ◌∷◌, ◌++◌, length, get_or, take, drop, length-append}
+use Rattle.std.proofs.Common.{◌≡◌, ℕ, zero, suc, ◌+◌, ◌-◌, ◌<◌, refl, sym, ◌∙◌, ap, arith, List, [], ◌∷◌, ◌++◌, length, get_or, take, drop, length-append, add-one, length-take, length-drop, replicate}
 use Rattle.std.specs.Int.Bits.{bit_xor}
 use Rattle.dm_gf256.specs.Field.{product, value, add_scaled}
-use Rattle.std.proofs.Common.{add-one, length-take, length-drop, replicate}
 use Rattle.std.proofs.lemmas.List.{take_more, take_at, get_or-append_right, get_or-drop}
 use borrow.Rule.Slice.PartMut.{put_mid, post_of}
 use Rattle.dm_gf256.proofs.Divide.{length-add_scaled, value-times_root}

@@ -30,6 +30,9 @@ position-lt s b i p q = grind (arith, mul-le-mul_right, position-closed, whole_b
 pub position-mod : (s : Size) (b i : ℕ) → b < blocks s → position s b i % blocks s ≡ b
 position-mod s b i p = ap (λ t. t % blocks s) (position-closed s b i) ∙ mod-mul-add i (blocks s) b p
 
+-- where the codewords of a block stand
+pub ruleset positions = (position-closed, position-lt)
+
 -- a data codeword stands among the data codewords
 pub position_in_data : (s : Size) (b i : ℕ) → b < blocks s → i < block_data s → position s b i < data_words s
 position_in_data s b i p q = grind (arith, mul-le-mul_right, position-closed, sound)

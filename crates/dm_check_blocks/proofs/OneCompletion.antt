@@ -1,6 +1,5 @@
 -- There is one sound block with a given message.
-use Rattle.std.proofs.Common.{◌≡◌, ℕ, ◌+◌, ◌≤◌, refl, sym, ◌∙◌, arith, List, [], ◌∷◌, ◌++◌, length, length-append}
-use Rattle.std.proofs.Common.{Bool, true, false, cond, eqb, eq-eqb}
+use Rattle.std.proofs.Common.{◌≡◌, ℕ, ◌+◌, ◌≤◌, refl, sym, ◌∙◌, arith, List, [], ◌∷◌, ◌++◌, length, length-append, Bool, true, false, cond, eqb, eq-eqb}
 use Rattle.dm_gf256.specs.Field.{differ, IsSoundBlock}
 use Rattle.dm_gf256.proofs.{OneBlockWord.one_block_word, Vanish.Bytes}
 use Rattle.std.proofs.lemmas.List.{append_cancel_left}

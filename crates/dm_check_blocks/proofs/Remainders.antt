@@ -1,24 +1,16 @@
 -- The remainder of a message by the generator polynomial, by its value at a root.
-use Rattle.std.proofs.Common.{◌≡◌, ℕ, zero, suc, ◌+◌, ◌-◌, ◌<◌, ◌≤◌, refl, sym, ◌∙◌, ap, arith, List, [], ◌∷◌, ◌++◌, length, get_or, set, take, drop}
+use Rattle.std.proofs.Common.{◌≡◌, ℕ, suc, ◌+◌, ◌-◌, ◌<◌, ◌≤◌, refl, sym, ◌∙◌, ap, arith, List, [], ◌∷◌, ◌++◌, length, get_or, set, take, drop}
 use Rattle.std.specs.Int.Bits.{bit_xor, xor_self}
 use Rattle.dm_gf256.specs.Field.{product, power, value, add_scaled}
-use Rattle.std.proofs.lemmas.List.{take_more, take_all}
-use Rattle.dm_gf256.proofs.{Linear.product-xor_l, Ring.product_assoc, Ring.product_comm, Ring.product-zero_l}
-use Rattle.dm_gf256.proofs.{LoopSteps.value-push, Divide.value-divide_step, Divide.value-append}
-
--- to set the last place of a list
-set-last : (rs : List ℕ) (r v n : ℕ) → n ≡ length rs → set (rs ++ r ∷ []) n v ≡ rs ++ v ∷ []
-set-last [] r v zero e = refl
-set-last [] r v (suc n) e = absurd (omega arith)
-set-last (x ∷ rs) r v zero e = absurd (omega arith)
-set-last (x ∷ rs) r v (suc n) e = ap (λ t. x ∷ t) (set-last rs r v n (omega arith))
+use Rattle.std.proofs.lemmas.List.{set_at, take_more, take_all}
+use Rattle.dm_gf256.proofs.{Linear.product-xor_l, Ring.product_assoc, Ring.product_comm, Ring.product-zero_l, Ring.power_byte, LoopSteps.value-push, Divide.value-divide_step, Divide.value-append}
 
 -- one step of the division, by its values at the generator polynomial's roots
 pub step_value : (old gs : List ℕ) (u n x : ℕ) → 0 < length old → length old ≡ length gs → n ≡ length old - 1 →
     x < 256 → value (1 ∷ gs) x ≡ 0 →
     value (add_scaled (bit_xor u (get_or old 0 0)) (set (drop 1 old ++ take 1 old) n 0) gs) x ≡ bit_xor (product x
     (value old x)) (product u (power x (length gs)))
-step_value x0 gs u n x p e m h z = grind (arith, set-last, value-divide_step)
+step_value x0 gs u n x p e m h z = grind (arith, set_at, value-divide_step)
 
 -- a polynomial with zero coefficients has the value 0
 pub zeros_value : (cs : List ℕ) (x : ℕ) → ((k : ℕ) → k < length cs → get_or cs k 0 ≡ 0) → value cs x ≡ 0
@@ -49,3 +41,6 @@ whole message checks x i h l e =
     ∙ ap (bit_xor (product (value message x) (power x (length checks))))
     (e ∙ ap (λ w. product (value w x) (power x (length checks))) (take_all i message l))
     ∙ xor_self (product (value message x) (power x (length checks)))
+
+-- the steps of the division codeword by codeword
+pub ruleset word_by_word = (next_word, product-zero_l, zeros_value)

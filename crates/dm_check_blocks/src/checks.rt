@@ -26,6 +26,7 @@ fn step(checks: &mut [u8], generator: &[u8], word: u8)
 
 // Fills in the error correction codewords of one block codeword by codeword, by its generator polynomial without its
 // leading 1.
+#[tactic(auto, using(crate::proofs::Remainders::word_by_word, crate::proofs::DivisionSteps::zeros_at), unfolding(dm_gf256::specs::Field::value))]
 fn fill_word_by_word(message: &[u8], checks: &mut [u8], generator: &[u8])
     requires some { 1 ≤ length checks.old }
     requires same { length checks.old ≡ length generator.now }

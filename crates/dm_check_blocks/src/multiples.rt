@@ -7,8 +7,7 @@
 ghost use Rattle.std.specs.Prelude.{◌≡◌, ◌<◌, ◌≤◌, ◌+◌, ℕ, length, slice_index, take};
 ghost use Rattle.std.specs.Int.Bits.{bit_xor};
 ghost use Rattle.dm_gf256.specs.Field.{product};
-ghost use Rattle.dm_check_blocks.specs.declared.generator.TheConstants.{MOST_CHECKS};
-ghost use Rattle.dm_check_blocks.specs.declared.multiples.TheConstants.{ROW_WORDS};
+ghost use Rattle.dm_check_blocks.specs.declared.{generator.TheConstants.MOST_CHECKS, multiples.TheConstants.ROW_WORDS};
 ghost use Rattle.dm_check_blocks.specs.inner.Remainders.{row_at, IsDivided, IsGenerator, IsStep, AreMultiples};
 
 use crate::generator::{MOST_CHECKS, coefficients_of};
@@ -27,6 +26,7 @@ pub(crate) const WINDOW_WORDS: usize = 336;
 pub(crate) type Window = [u8; WINDOW_WORDS];
 
 // Twice a row.
+#[tactic(auto, using(std::proofs::lemmas::Grind::common_steps, dm_gf256::proofs::LoopSteps::double_low, dm_gf256::proofs::LoopSteps::double_high))]
 fn doubled(row: &Row) -> Row
     ensures size { length result ≡ ROW_WORDS }
     ensures words { (k : ℕ) → k < ROW_WORDS → slice_index result k ≡ product 2 (slice_index row.now k) }

@@ -17,6 +17,7 @@ const MOST_BLOCKS: usize = 8;
 
 /// Where a codeword of a block stands in its symbol. Blocks, codewords of a block and codewords of the symbol count
 /// from 0, and a block's data codewords come before its error correction codewords (ISO/IEC 16022:2006, Annex A).
+#[tactic(auto, using(crate::proofs::Interleaving::positions))]
 pub fn block_word(size: Size, block: usize, word: usize) -> usize
     requires block { block < blocks size }
     requires word { word < block_length size }
@@ -27,6 +28,7 @@ pub fn block_word(size: Size, block: usize, word: usize) -> usize
 }
 
 // The data codewords of one block, and zeros after them.
+#[tactic(auto, using(std::proofs::lemmas::Grind::common_steps, crate::proofs::Interleaving::gathered_more))]
 fn data_of_block(size: Size, block: usize, words: &[u8]) -> Window
     requires block { block < blocks size }
     requires count { length words.now ≡ all_words size }
@@ -111,6 +113,16 @@ pub fn complete_blocks(size: Size, message: &[u8], words: &mut [u8])
     }
 }
 
+/// Fills the caller's room with all codewords of a symbol, as [`complete`] gives them. It takes no memory.
+pub fn complete_in(size: Size, message: &[u8], words: &mut [u8])
+    requires message { length message.now ≡ data_words size }
+    requires room { length words.old ≡ all_words size }
+    ensures { Completes size message.now words.new }
+{
+    words[..message.len()].copy_from_slice(message);
+    complete_blocks(size, message, words);
+}
+
 /// All codewords of the symbol whose data codewords are the message, as many as the size has: the message, and after it
 /// the error correction codewords of the blocks, interleaved (ISO/IEC 16022:2006, 5.7 and Annex A). No other list
 /// begins with the message and consists of sound blocks. At side 10 the message `142 164 186` gives `142 164 186 114 25
@@ -128,9 +140,7 @@ pub fn complete<A: Allocator + Copy>(
     ensures only { IfOk result (λ words. (others : List ℕ)
         → Completes size message.now others → others ≡ words.items) }
 {
-    let mut words = Vec::with_capacity(alloc, size.all_words())?;
-    words.extend_from_slice(message)?;
-    words.resize(size.all_words(), 0)?;
-    complete_blocks(size, message, words.as_mut_slice());
+    let mut words = vec![in alloc; 0; size.all_words()]?;
+    complete_in(size, message, words.as_mut_slice());
     Ok(words)
 }

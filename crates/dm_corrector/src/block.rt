@@ -3,8 +3,7 @@
 ghost use Rattle.std.specs.Prelude.{◌≡◌, ◌<◌, ◌≤◌, ◌-◌, ◌↔◌, length, take, IsTrue};
 ghost use Rattle.std.specs.List.{All};
 ghost use Rattle.dm_gf256.specs.Field.{differ, IsSoundBlock};
-ghost use Rattle.dm_corrector.specs.Symbols.{EndsCorrection};
-ghost use Rattle.dm_corrector.specs.inner.Polynomials.{IsRemainder};
+ghost use Rattle.dm_corrector.specs.{Symbols.EndsCorrection, inner.Polynomials.IsRemainder};
 
 use crate::elements::is_zero;
 use crate::error_values::take_out;

@@ -48,6 +48,7 @@ fn gather(size: Size, number: usize, words: &[u8], block: &mut [u8])
 }
 
 // Copies a block back to its places in the symbol.
+#[tactic(auto, using(dm_check_blocks::proofs::Interleaving::block_of_same))]
 fn scatter(size: Size, number: usize, words: &mut [u8], block: &[u8])
     requires count { length words.old ≡ all_words size }
     requires number { number < blocks size }
@@ -64,6 +65,7 @@ fn scatter(size: Size, number: usize, words: &mut [u8], block: &[u8])
 
 // Corrects one block of a symbol, given the same codewords with all blocks completed. The codewords of the blocks are
 // interleaved: codeword k of block b is codeword k * blocks + b of the symbol.
+#[tactic(auto, using(crate::proofs::SymbolBlocks::block_lengths))]
 fn correct_block(
     size: Size,
     words: &mut [u8],

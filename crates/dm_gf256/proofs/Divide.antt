@@ -107,16 +107,16 @@ get_or-add_scaled f (t ∷ ts) (s ∷ ss) zero e = refl
 get_or-add_scaled f (t ∷ ts) (s ∷ ss) (suc k) e = get_or-add_scaled f ts ss k (omega arith)
 
 -- a list that is the sum of multiples at each place is that sum
-pub add_scaled-by_places : (f : ℕ) (xs ts ss : List ℕ) → length xs ≡ length ts → length ts ≡ length ss →
+pub add_scaled_by_places : (f : ℕ) (xs ts ss : List ℕ) → length xs ≡ length ts → length ts ≡ length ss →
     ((k : ℕ) → k < length ts → get_or xs k 0 ≡ bit_xor (get_or ts k 0) (product f (get_or ss k 0))) →
     xs ≡ add_scaled f ts ss
 unfolding add_scaled
-add_scaled-by_places f [] [] ss d e h = refl
-add_scaled-by_places f [] (t ∷ ts) ss d e h = absurd (omega arith)
-add_scaled-by_places f (x ∷ xs) [] ss d e h = absurd (omega arith)
-add_scaled-by_places f (x ∷ xs) (t ∷ ts) [] d e h = absurd (omega arith)
-add_scaled-by_places f (x ∷ xs) (t ∷ ts) (s ∷ ss) d e h =
+add_scaled_by_places f [] [] ss d e h = refl
+add_scaled_by_places f [] (t ∷ ts) ss d e h = absurd (omega arith)
+add_scaled_by_places f (x ∷ xs) [] ss d e h = absurd (omega arith)
+add_scaled_by_places f (x ∷ xs) (t ∷ ts) [] d e h = absurd (omega arith)
+add_scaled_by_places f (x ∷ xs) (t ∷ ts) (s ∷ ss) d e h =
     let first : x ≡ bit_xor t (product f s) = h 0 (omega arith) in
-    let others : xs ≡ add_scaled f ts ss = add_scaled-by_places f xs ts ss (omega arith) (omega arith)
+    let others : xs ≡ add_scaled f ts ss = add_scaled_by_places f xs ts ss (omega arith) (omega arith)
     (λ k l. h (suc k) (omega arith)) in
     cc

@@ -1,5 +1,5 @@
 -- What the loops of the field's functions do in one step.
-use Rattle.std.proofs.Common.{◌≡◌, ◌≢◌, ℕ, suc, ◌+◌, ◌-◌, ◌*◌, ◌/◌, ◌%◌, ◌^◌, ◌<◌, ◌≤◌, true, eqb, refl, sym, ◌∙◌, ap, subst, arith, List, [], ◌∷◌, ◌++◌, length, eqb-true, add-zero, zero-add, length-append}
+use Rattle.std.proofs.Common.{◌≡◌, ℕ, suc, ◌+◌, ◌-◌, ◌*◌, ◌/◌, ◌%◌, ◌^◌, ◌<◌, ◌≤◌, true, eqb, refl, sym, ◌∙◌, ap, subst, arith, List, [], ◌∷◌, ◌++◌, length, eqb-true, add-zero, zero-add, length-append}
 use Rattle.std.specs.Int.Bits.{bit_xor, xor_assoc, xor_zero_r, bit_and}
 use Rattle.std.proofs.lemmas.Nat.{xor_comm, xor_block, and_mask}
 use Rattle.dm_gf256.specs.Field.{product, power, plain, reduced, value}
@@ -59,34 +59,26 @@ value-push (d ∷ cs) c x h =
     (ap (λ t. bit_xor t (product (value cs x) x)) (ap (product d) (product_comm x p) ∙ sym (product_assoc d p x))
     ∙ sym (product-xor_l (product d p) (value cs x) x))
 
--- one step of the product's loop, where the lowest bit of b is 1 and where it is 0
-pub product-step_one : (s a b p : ℕ) → a < 256 → b < 256 → b % 2 ≡ 1 → bit_xor s (product a b) ≡ p →
-    bit_xor (bit_xor s a) (product (product 2 a) (b / 2)) ≡ p
-product-step_one s a b p la lb e h =
+-- one step of the product's loop, where the lowest bit of b is 1
+pub product-step_one : (s a b : ℕ) → a < 256 → b < 256 → b % 2 ≡ 1 →
+    bit_xor (bit_xor s a) (product (product 2 a) (b / 2)) ≡ bit_xor s (product a b)
+product-step_one s a b la lb e =
     xor_assoc s a _
     ∙ ap (bit_xor s)
     (xor_comm a _ ∙ ap (bit_xor (product (product 2 a) (b / 2))) (sym (product_comm a 1 ∙ one-product a la) ∙
     ap (product a) (sym e))
     ∙ sym (product_halves a b lb))
-    ∙ h
 
 -- the same where the lowest bit is 0
-pub product-step_zero : (s a b p : ℕ) → b < 256 → b % 2 ≡ 0 → bit_xor s (product a b) ≡ p →
-    bit_xor s (product (product 2 a) (b / 2)) ≡ p
-product-step_zero s a b p lb e h =
+pub product-step_zero : (s a b : ℕ) → b < 256 → b % 2 ≡ 0 →
+    bit_xor s (product (product 2 a) (b / 2)) ≡ bit_xor s (product a b)
+product-step_zero s a b lb e =
     ap (bit_xor s)
     (sym (xor_zero_r _) ∙ ap (bit_xor (product (product 2 a) (b / 2))) (sym (product-zero_r a) ∙ ap (product a) (sym e))
     ∙ sym (product_halves a b lb))
-    ∙ h
 
 -- the lowest bit is the remainder by 2
 pub mask_one : (n : ℕ) → bit_and n 1 ≡ n % 2
 mask_one n = and_mask n 1
 
--- a number whose lowest bit is 1 is odd
-pub odd : (n : ℕ) → bit_and n 1 ≡ 1 → n % 2 ≡ 1
-odd n h = sym (mask_one n) ∙ h
-
--- a number whose lowest bit isn't 1 is even
-pub even : (n : ℕ) → (bit_and n 1 ≡ 1 → ⊥) → n % 2 ≡ 0
-even n h = let g : n % 2 ≢ 1 = λ e. h (mask_one n ∙ e) in omega arith
+pub ruleset product_steps = (mask_one, product-step_one, product-step_zero)

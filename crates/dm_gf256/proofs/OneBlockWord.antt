@@ -2,9 +2,9 @@
 use Rattle.std.proofs.Common.{◌≡◌, ℕ, suc, ◌+◌, ◌<◌, ◌≤◌, true, false, cond, eqb, refl, sym, ◌∙◌, ap, arith, List, [], ◌∷◌, length, eqb-true, eq-eqb, ⊎_elim, get_or}
 use Rattle.std.proofs.lemmas.{Bool.cases_Bool, Bool.Decides.nat_tests, Nat.xor_lt}
 use Rattle.std.specs.Bool.{◌==◌}
-use Rattle.std.specs.Int.Bits.{bit_xor, xor_assoc, xor_zero_l, xor_zero_r, xor_self}
+use Rattle.std.specs.Int.Bits.{bit_xor, xor_self}
 use Rattle.dm_gf256.specs.Field.{product, power, value, differ, sum_word, IsSoundBlock}
-use Rattle.dm_gf256.proofs.Linear.{product-xor_l, xor_interchange}
+use Rattle.dm_gf256.proofs.{Divide.xor_solve, Linear.product-xor_l, Linear.xor_interchange}
 use Rattle.dm_gf256.proofs.Vanish.{value-moment, nonzeros, mark, Bytes, Zeros, vanish, mark_le}
 
 -- the sum of two words of one length has that length
@@ -65,12 +65,6 @@ nonzeros-sum_word [] ys = omega arith
 nonzeros-sum_word (x ∷ xs) [] = omega arith
 nonzeros-sum_word (x ∷ xs) (y ∷ ys) = omega (arith, nonzeros-sum_word xs ys, mark-xor x y)
 
--- two elements whose sum is zero are equal
-same_from_zero_sum : (x y : ℕ) → bit_xor x y ≡ 0 → x ≡ y
-same_from_zero_sum x y e =
-    sym (xor_zero_r x) ∙ ap (bit_xor x) (sym (xor_self y)) ∙ sym (xor_assoc x y y) ∙ ap (λ t. bit_xor t y) e ∙
-    xor_zero_l y
-
 -- two words whose sum is zero are equal
 pub same_from_zeros : (xs ys : List ℕ) → length xs ≡ length ys → Zeros (sum_word xs ys) → xs ≡ ys
 unfolding sum_word
@@ -78,7 +72,7 @@ same_from_zeros [] [] e z = refl
 same_from_zeros [] (y ∷ ys) e z = absurd (omega arith)
 same_from_zeros (x ∷ xs) [] e z = absurd (omega arith)
 same_from_zeros (x ∷ xs) (y ∷ ys) e z =
-    let h = same_from_zero_sum x y (z.0) in
+    let h : x ≡ y = sym (xor_solve x y (z.0)) in
     let t = same_from_zeros xs ys (omega arith) (z.1) in cc
 
 -- two sound blocks of one length that differ in at most c places are equal

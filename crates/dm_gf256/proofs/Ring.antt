@@ -280,3 +280,6 @@ power_two_distinct i j p q e =
     (power_byte 2 i (omega arith)) (power_byte 2 d (omega arith)) (omega arith) g in
     let big : 1 < power 2 d = power_above_one d (omega arith) (omega arith) in
     omega arith
+
+-- the laws of a ring
+pub ruleset ring_laws = (product_comm, product_assoc, product-xor_r, one-product, product_byte)

@@ -1,7 +1,6 @@
 -- A word with at most c places that are not zero, whose sums vanish at 2^1 .. 2^c, is zero.
 use Rattle.std.proofs.Common.{◌≡◌, ◌≢◌, ℕ, zero, suc, ◌+◌, ◌*◌, ◌<◌, ◌≤◌, refl, sym, ◌∙◌, ap, arith, List, [], ◌∷◌, length, mul-zero}
-use Rattle.std.proofs.Common.{⊎_elim}
-use Rattle.std.proofs.lemmas.{Bool.cases_lt, Nat.xor_lt}
+use Rattle.std.proofs.{Common.⊎_elim, lemmas.Bool.cases_lt, lemmas.Nat.xor_lt}
 use Rattle.std.specs.List.{AllByRecursion}
 use Rattle.std.specs.Int.Bits.{bit_xor, xor_assoc, xor_zero_l, xor_zero_r, xor_self}
 use Rattle.dm_gf256.specs.Field.{product, power, value}

@@ -1,7 +1,6 @@
 //! The elements of the field, and the value of a polynomial.
 
-ghost use Rattle.std.specs.Prelude.{◌≡◌, ◌<◌, ◌≤◌, ◌+◌, length};
-ghost use Rattle.std.specs.Int.Bits.{bit_xor};
+ghost use Rattle.std.specs.{Prelude.◌≡◌, Prelude.◌<◌, Prelude.◌≤◌, Prelude.◌+◌, Prelude.length, Int.Bits.bit_xor};
 ghost use Rattle.dm_gf256.specs.Field.{product, power, value, numbers, ArePowers};
 
 use crate::powers::{POWERS, exponent_of};
@@ -52,6 +51,7 @@ impl Gf {
     }
 
     /// The value at x of a polynomial, its first element being the coefficient of the highest power.
+    #[tactic(auto, using(crate::proofs::Evals::value_more), unfolding(crate::specs::Field::value))]
     pub fn eval(poly: &[Gf], x: Gf) -> Gf
         ensures { result.0 ≡ value (numbers poly.now) x.0 }
     {

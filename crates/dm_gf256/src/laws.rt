@@ -5,6 +5,7 @@ ghost use Rattle.std.specs.Int.Bits.{bit_xor};
 ghost use Rattle.dm_gf256.specs.Field.{product, power, differ, IsSoundBlock};
 
 /// With the sum, the product makes a commutative ring, in which 1 is neutral.
+#[tactic(auto, using(crate::proofs::Ring::ring_laws))]
 pub fn ring()
     ensures commutative { (a : ℕ) → (b : ℕ) → product a b ≡ product b a }
     ensures associative { (a : ℕ) → (b : ℕ) → (c : ℕ) → product (product a b) c ≡ product a (product b c) }

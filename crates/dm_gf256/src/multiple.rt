@@ -6,6 +6,7 @@ ghost use Rattle.dm_gf256.specs.Field.{add_scaled};
 use crate::element::Gf;
 
 /// Adds `factor` times the source to the target, place by place. Both have one length.
+#[tactic(auto, using(crate::proofs::Divide::add_scaled_by_places))]
 pub fn add_multiple(target: &mut [u8], source: &[u8], factor: u8)
     requires { length target.old ≡ length source.now }
     ensures { target.new ≡ add_scaled factor target.old source.now }

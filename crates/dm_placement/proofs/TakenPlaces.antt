@@ -7,8 +7,7 @@ use Rattle.std.proofs.lemmas.List.FromFn.{map-range_with_len_more, length-map-ra
 use Rattle.dm_size.specs.{declared.size.Size.Size, Sizes.mapping, Sizes.all_words, Squares.Square, Squares.with_module, Squares.light_square}
 use Rattle.dm_placement.specs.Placement.{bit_cells, dark_cells, with_dark, placed, lifted, bit_of, byte_bits, cell_at, number_of, word_from}
 use Rattle.dm_placement.specs.inner.Places.{AreOfWord, HasBits, HasPlaced, HasKept, HasRead, word_from_places}
-use Rattle.dm_placement.proofs.{CellLists.all_in_at, EachSize.side_is_sound, LiftedWords.same_made, PlacedBits.placing_start, PlacedBits.placing_step, PlacedMatrix.placed_only}
-use Rattle.dm_placement.proofs.{ShapesSound.all_in_bits, ShapesSound.bit_count, Tiled.tiled_size}
+use Rattle.dm_placement.proofs.{CellLists.all_in_at, EachSize.side_is_sound, LiftedWords.same_made, PlacedBits.placing_start, PlacedBits.placing_step, PlacedMatrix.placed_only, ShapesSound.all_in_bits, ShapesSound.bit_count, Tiled.tiled_size}
 
 -- ---- in the matrix
 

@@ -1,10 +1,8 @@
 //! The cells of all bits of a size, kept for several symbols.
 
 ghost use Rattle.std.specs.Prelude.{◌≡◌, ◌<◌, ◌≤◌, IfOk, vec_capacity};
-ghost use Rattle.dm_size.specs.declared.size.Size.{Size};
-ghost use Rattle.dm_size.specs.Sizes.{all_words, mapping};
-ghost use Rattle.dm_placement.specs.Placement.{cell, IsBit};
-ghost use Rattle.dm_placement.specs.inner.Places.{HasKept};
+ghost use Rattle.dm_size.specs.{declared.size.Size.Size, Sizes.all_words, Sizes.mapping};
+ghost use Rattle.dm_placement.specs.{Placement.cell, Placement.IsBit, inner.Places.HasKept};
 
 use crate::walk::{Taker, walk};
 use dm_size::Size;

@@ -2,8 +2,7 @@
 
 ghost use Rattle.std.specs.Prelude.{◌≡◌, ◌<◌, ◌≤◌, ◌*◌, All, IfOk, length};
 ghost use Rattle.dm_size.specs.Sizes.{mapping, all_words};
-ghost use Rattle.dm_placement.specs.Placement.{lifted};
-ghost use Rattle.dm_placement.specs.inner.Places.{HasRead, word_from_places};
+ghost use Rattle.dm_placement.specs.{Placement.lifted, inner.Places.HasRead, inner.Places.word_from_places};
 
 use crate::layout::Layout;
 use crate::walk::{Taker, walk};

@@ -1,8 +1,7 @@
 //! The mapping matrix of the codewords of a symbol.
 
 ghost use Rattle.std.specs.Prelude.{◌≡◌, IfOk, length};
-ghost use Rattle.dm_size.specs.Sizes.{all_words};
-ghost use Rattle.dm_size.specs.Squares.{light_square};
+ghost use Rattle.dm_size.specs.{Sizes.all_words, Squares.light_square};
 ghost use Rattle.dm_placement.specs.Placement.{dark_cells, placed, with_dark};
 ghost use Rattle.dm_placement.specs.inner.Places.{HasPlaced, IsSideSound};
 

@@ -2,10 +2,8 @@
 //! cells: the only cells that are taken before it comes to them are the two that are left out for the second corner
 //! shape.
 
-ghost use Rattle.std.specs.Prelude.{◌≡◌, ◌+◌, ℕ, length};
-ghost use Rattle.std.specs.Option.{option_to_list};
-ghost use Rattle.dm_size.specs.declared.size.Size.{Size};
-ghost use Rattle.dm_size.specs.Sizes.{all_words, mapping};
+ghost use Rattle.std.specs.{Prelude.◌≡◌, Prelude.◌+◌, Prelude.ℕ, Prelude.length, Option.option_to_list};
+ghost use Rattle.dm_size.specs.{declared.size.Size.Size, Sizes.all_words, Sizes.mapping};
 ghost use Rattle.dm_placement.specs.Placement.{is_left_out};
 ghost use Rattle.dm_placement.specs.inner.Places.{AreOfWord, ComesTo, IsSideSound, corner_at, word_at};
 

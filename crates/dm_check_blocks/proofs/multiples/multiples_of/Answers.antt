@@ -1,4 +1,4 @@
-use Rattle.std.proofs.Common.{◌≡◌, ◌-◌, refl, sym, ◌∙◌, ap, arith, length, length-set, get_or, get_or-set_other, get_or-set_same}
+use Rattle.std.proofs.Common.{◌≡◌, refl, sym, ◌∙◌, ap, arith, length, length-set, get_or, get_or-set_other, get_or-set_same}
 use Rattle.std.proofs.lemmas.{Bool.cases_eq, List.ext_get_or}
 use Rattle.dm_gf256.specs.Field.{product}
 use Rattle.dm_gf256.proofs.Ring.{one-product, product-zero_l}

@@ -1,4 +1,4 @@
-use Rattle.std.proofs.Common.{◌-◌, ◌<◌, arith, length-append, length-take, length-drop}
+use Rattle.std.proofs.Common.{◌<◌, arith, length-append, length-take, length-drop}
 use Rattle.std.proofs.lemmas.List.{append-nil, drop_all, Elements.All-from_get_or}
 use Rattle.dm_size.proofs.Sound.{sound}
 use Rattle.dm_check_blocks.proofs.Interleaving.{single_block}

@@ -1,6 +1,5 @@
 use Rattle.std.proofs.Common.{refl, sym, ap, ◌∙◌, ◌≡◌, ◌<◌, ◌≤◌, ◌*◌, ◌/◌, arith, length, ℕ, List}
-use Rattle.std.proofs.lemmas.List.{length-map}
-use Rattle.std.proofs.lemmas.Bool.{false≢true}
+use Rattle.std.proofs.lemmas.{List.length-map, Bool.false≢true}
 use Rattle.dm_gf256.specs.{declared.element.Gf.Gf, Field.numbers, Field.differ, Field.sum_word, Field.IsSoundBlock}
 use Rattle.dm_corrector.specs.{inner.Polynomials.AreSyndromes, Symbols.Corrects, Symbols.IsLocator}
 use Rattle.dm_corrector.proofs.Corrected.{recovered, block_syndromes, one_correction}

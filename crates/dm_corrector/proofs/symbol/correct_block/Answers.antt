@@ -1,5 +1,4 @@
-use Rattle.std.proofs.Common.{arith, Result, Ok, Err, OnErr}
-use Rattle.dm_check_blocks.proofs.Interleaving.{length-block_of}
+use Rattle.std.proofs.Common.{Result, Ok, Err, OnErr}
 use Rattle.dm_corrector.proofs.symbol.correct_block.Goals as goal
 
 on_any_err : {T E P : Type 0} (r : Result T E) → P → OnErr r P
@@ -13,9 +12,3 @@ returns-in_err-correct_completed-clause-none c = on_any_err c.from_residual.resu
 pub returns-clause-near : goal.returns-clause-near
 returns-clause-near c =
     rw (c.block_checks.ensures.value, c.gather.ensures, c.scatter.ensures.own) at c.in_ok-correct_completed.ensures.near
-
-pub correct_completed-requires-clause-data : goal.correct_completed-requires-clause-data
-correct_completed-requires-clause-data c = grind (arith, length-block_of)
-
-pub correct_completed-requires-clause-completed : goal.correct_completed-requires-clause-completed
-correct_completed-requires-clause-completed c = grind arith
