@@ -1,6 +1,5 @@
 -- Squares that are made row by row, and of each row one piece after another.
-use Rattle.std.specs.Prelude.{◌/◌, ◌%◌}
-use Rattle.std.specs.List.{between}
+use Rattle.std.specs.{Prelude.◌/◌, Prelude.◌%◌, List.between}
 use Rattle.std.proofs.Common.{◌≡◌, ℕ, ◌+◌, ◌-◌, ◌*◌, ◌<◌, ◌≤◌, List, ◌++◌, length, get_or, Bool, false, inl, inr, ap, sym, ◌∙◌, arith, zero-add, length-append}
 use Rattle.std.proofs.lemmas.{Bool.cases_lt, Nat.div-mul-add, Nat.mod-mul-add, Nat.mul-add-lt}
 use Rattle.std.proofs.lemmas.List.{get_or_append_left, get_or-append_right, Edits.length-between, Edits.get_or-between}

@@ -1,6 +1,5 @@
 -- The grid of a mapping matrix: its modules, its matrix, and that none of its finder patterns' modules is wrong.
-use Rattle.std.specs.Prelude.{◌/◌, ◌%◌, not, count_by}
-use Rattle.std.specs.List.{range_with_len}
+use Rattle.std.specs.{Prelude.◌/◌, Prelude.◌%◌, Prelude.not, Prelude.count_by, List.range_with_len}
 use Rattle.std.proofs.Common.{◌≡◌, ℕ, zero, suc, ◌+◌, ◌*◌, ◌<◌, refl, List, [], ◌∷◌, get_or, map, Bool, true, false, cond, ◌&&◌, ap, sym, ◌∙◌, arith, zero-add}
 use Rattle.std.proofs.lemmas.Nat.{mul-add-lt, div_below, mod_below, div-mul-add, mod-mul-add, div-add-mod'}
 use Rattle.std.proofs.lemmas.List.FromFn.{fill_by_all, get_or-map-range_with_len, length-map-range_with_len}

@@ -1,6 +1,5 @@
 -- What stands in a row of a grid and of a mapping matrix, by the framed region and the place within it.
-use Rattle.std.specs.Prelude.{◌/◌, ◌%◌}
-use Rattle.std.specs.List.{range_with_len}
+use Rattle.std.specs.{Prelude.◌/◌, Prelude.◌%◌, List.range_with_len}
 use Rattle.std.proofs.Common.{◌≡◌, ℕ, ◌+◌, ◌-◌, ◌*◌, ◌<◌, ◌≤◌, List, [], ◌∷◌, ◌++◌, length, get_or, take, zero, suc, Bool, true, false, ◌==◌, cond, map, refl, inl, inr, ap, sym, ◌∙◌, arith, zero-add}
 use Rattle.std.proofs.lemmas.{Bool.cases_lt, Bool.Decides.nat_tests, List.FromFn.get_or-map-range_with_len}
 use Rattle.std.proofs.lemmas.Nat.{div-mul-add, mod-mul-add, mod_below, div-add-mod'}

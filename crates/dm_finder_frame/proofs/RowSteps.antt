@@ -1,6 +1,5 @@
 -- One step of each loop that makes a row: the modules so far are those of the square, and stay so.
-use Rattle.std.specs.Prelude.{◌%◌, OnOk}
-use Rattle.std.specs.List.{between}
+use Rattle.std.specs.{Prelude.◌%◌, Prelude.OnOk, List.between}
 use Rattle.std.proofs.Common.{◌≡◌, ℕ, ◌+◌, ◌*◌, ◌<◌, ◌≤◌, List, [], ◌∷◌, ◌++◌, length, get_or, take, Bool, true, false, ◌==◌, Result, Ok, Err, is_ok, cond, refl, ap, ◌∙◌, subst, arith, length-append, rules}
 use Rattle.std.proofs.{Math.Nat.mul-le-mul_right, lemmas.List.length-take-le, lemmas.List.Edits.length-between}
 use Rattle.std.proofs.lemmas.List.FromFn.{length-map-range_with_len}

@@ -2,10 +2,10 @@
 
 ghost use Rattle.std.specs.Prelude.{◌≡◌, ◌<◌, ◌≤◌, ◌+◌, ◌*◌, ◌%◌, IfOk, OnOk};
 ghost use Rattle.dm_size.specs.Sizes.{mapping, region, side};
-ghost use Rattle.dm_finder_frame.specs.Frame.{grid_module, grid_of_matrix};
-ghost use Rattle.dm_finder_frame.specs.inner.Filled.{first_modules};
+ghost use Rattle.dm_finder_frame.specs.{Frame.grid_module, Frame.grid_of_matrix, inner.Filled.first_modules};
 
 use crate::grid::Grid;
+use crate::region::band_of;
 use dm_size::{Matrix, Size};
 use std::alloc::{AllocError, Allocator};
 
@@ -42,8 +42,8 @@ fn push_inner_row<A: Allocator>(
         (modules.new.items ≡ first_modules (side size) (grid_module size matrix.now) ((row + 1) * side size)) }
 {
     let region = size.region();
-    let place = row % (region + 2);
-    let line = matrix.row(row / (region + 2) * region + place - 1);
+    let (band, place) = band_of(row, region + 2);
+    let line = matrix.row(band * region + place - 1);
     let width = region as usize;
     for b in 0..size.across() as usize {
         modules.push(true)?;
@@ -68,7 +68,7 @@ fn push_row<A: Allocator>(
         (modules.new.items ≡ first_modules (side size) (grid_module size matrix.now) ((row + 1) * side size)) }
 {
     let region = size.region();
-    let place = row % (region + 2);
+    let (_, place) = band_of(row, region + 2);
     if place == 0 {
         return modules.extend_from_slice(&TOP[..size.side() as usize]);
     }

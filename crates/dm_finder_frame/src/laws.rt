@@ -28,6 +28,7 @@ pub fn squares_are_whole()
 
 /// Flipped modules leave a grid's size as it is, and its number of modules; one flip more is one more at the list's
 /// end.
+#[tactic(auto, using(crate::proofs::Flips::flips_keep_the_size, crate::proofs::Flips::flips_keep_it_whole, crate::proofs::Flips::one_flip_more))]
 pub fn flips_are_made_in_order()
     ensures size { (g : GridView) (flips : List (ℕ × ℕ)) → (flipped g flips).size ≡ g.size }
     ensures whole { (g : GridView) (flips : List (ℕ × ℕ)) → IsWholeGrid g → IsWholeGrid (flipped g flips) }

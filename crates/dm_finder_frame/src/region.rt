@@ -1,10 +1,25 @@
 //! Places of a symbol within its framed data regions.
 
-ghost use Rattle.std.specs.Prelude.{◌≡◌, ◌<◌, IfSome};
+ghost use Rattle.std.specs.Prelude.{◌≡◌, ◌<◌, ◌/◌, ◌%◌, IfSome};
 ghost use Rattle.dm_size.specs.Sizes.{mapping, side};
 ghost use Rattle.dm_finder_frame.specs.Frame.{mapping_cell};
 
 use dm_size::Size;
+
+/// In which band of rows of one height a row stands, and its place there. Small symbols have one band, and to divide
+/// costs more.
+#[inline(always)]
+pub(crate) fn band_of(row: u16, height: u16) -> (u16, u16)
+    requires { 0 < height }
+    ensures band { result.0 ≡ row / height }
+    ensures place { result.1 ≡ row % height }
+{
+    if row < height {
+        (0, row)
+    } else {
+        (row / height, row % height)
+    }
+}
 
 /// The row and the column in the mapping matrix of a grid's module, or `None` on a finder pattern; all from 0
 /// (ISO/IEC 16022:2006, 5.8).

@@ -7,6 +7,7 @@ ghost use Rattle.dm_finder_frame.specs.inner.Filled.{first_modules, wrong_among}
 
 use crate::fault::{FrameFault, WrongFrame};
 use crate::grid::{Grid, LentGrid};
+use crate::region::band_of;
 use arrayvec::ArrayVec;
 use dm_size::{Matrix, Size};
 use std::alloc::{Allocator, Global};
@@ -125,7 +126,8 @@ fn push_row<const ROOM: usize>(modules: &mut ArrayVec<bool, ROOM>, grid: &LentGr
 {
     let size = grid.size();
     let region = size.region();
-    let line = grid.row(row / region * (region + 2) + row % region + 1);
+    let (band, place) = band_of(row, region);
+    let line = grid.row(band * (region + 2) + place + 1);
     let width = region as usize;
     for b in 0..size.across() as usize {
         let start = b * (width + 2) + 1;
