@@ -1,6 +1,5 @@
 -- The image of a grid, drawn row by row into light pixels.
-use Rattle.std.specs.Prelude.{nat_lt, if◌then◌else◌}
-use Rattle.std.specs.List.{between}
+use Rattle.std.specs.{Prelude.nat_lt, Prelude.if◌then◌else◌, List.between}
 use Rattle.std.proofs.Common.{◌≡◌, ℕ, ◌+◌, ◌-◌, ◌*◌, ◌/◌, ◌%◌, ◌<◌, ◌≤◌, Bool, false, List, ◌++◌, length, take, drop, get_or, ap, ◌∙◌, arith, ⊎_elim}
 use Rattle.std.proofs.Math.Nat.{mul-le-mul_right, mod-lt, mod-add-div, div-lt_iff_lt-mul}
 use Rattle.std.proofs.lemmas.{List.FromFn.fill_by_all, Bool.cases_lt, Bool.Decides.nat_tests}

@@ -5,8 +5,7 @@ use Rattle.std.proofs.KnownBytes.{Appends-trans, Appends-nil, Consumes-trans, Co
 use Rattle.relay_streams.proofs.Parts.{part_more, part_after}
 use Rattle.relay_streams.specs.Streams.{AppendsPart, InputView, OutputView}
 use Rattle.dm_pbm_io.specs.inner.Streaming.{TakesBytes, FindsEnd, Remembers, TakesUntil, AppendsText}
-use Rattle.dm_pbm_io.specs.declared.fault.PbmFault.{PbmFault}
-use Rattle.dm_pbm_io.specs.declared.fault.PbmFault.TheVariants.{Read}
+use Rattle.dm_pbm_io.specs.declared.fault.PbmFault.{PbmFault, TheVariants.Read}
 
 -- nothing is taken yet
 pub takes-nil : (a : InputView) → TakesBytes a a []
@@ -55,8 +54,8 @@ pub until-end : (a b c : InputView) (bs : List ℕ) (fault : PbmFault) → Takes
 until-end a b c bs fault p q n = grind arith
 
 -- nothing is written yet
-pub adds-nil : (a : OutputView) → AppendsText a a []
-adds-nil a = record { appended = Appends-nil a.contents; kept = refl }
+pub adds_nil : (a : OutputView) → AppendsText a a []
+adds_nil a = record { appended = Appends-nil a.contents; kept = refl }
 
 -- first some text, and then more
 pub adds-trans : (a b c : OutputView) (bs cs : List ℕ) → AppendsText a b bs → AppendsText b c cs →

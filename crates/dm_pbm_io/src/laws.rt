@@ -15,6 +15,7 @@ pub fn limits_by_number()
 {}
 
 /// What is written for an image that can be read begins with a spelling of that image.
+#[tactic(auto, using(crate::proofs::RoundTrip::written_readable))]
 pub fn written_is_readable()
     ensures { IsWrittenReadable }
 {}

@@ -9,8 +9,8 @@ use crate::limits::GREATEST_SIDE;
 use crate::source::{ByteSource, next_row};
 use dm_placement::bits_of;
 
-// The most bytes of a row of a packed raster.
-const ROW_BYTES: usize = 128;
+/// The most bytes of a row of a packed raster.
+pub(crate) const ROW_BYTES: usize = 128;
 
 // Draws the pixels of the bytes of a row.
 fn draw_row(pixels: &mut [bool], row: &[u8])
@@ -28,9 +28,10 @@ fn draw_row(pixels: &mut [bool], row: &[u8])
     }
 }
 
-/// Draws the next row of a packed raster over other pixels. The image needs all of its bytes.
+/// Draws the next row of a packed raster over other pixels, by a room for its bytes. The image needs all of them.
 pub(crate) fn draw_next<M, S: ByteSource<M>>(
     source: &mut S,
+    room: &mut [u8; ROW_BYTES],
     pixels: &mut [bool],
 ) -> Result<(), PbmFault>
     requires { length pixels.old ≤ GREATEST_SIDE }
@@ -40,8 +41,7 @@ pub(crate) fn draw_next<M, S: ByteSource<M>>(
         (λ fault. (part : List ℕ) × TakesUntil (S.view source.old) (S.view source.new) part fault
         × (length part < stride (length pixels.old)) × HasNoByte (S.view source.new).remaining fault) }
 {
-    let mut bytes = [0u8; ROW_BYTES];
-    let row = &mut bytes[..pixels.len().div_ceil(8)];
+    let row = &mut room[..pixels.len().div_ceil(8)];
     next_row(source, row)?;
     draw_row(pixels, row);
     Ok(())

@@ -7,7 +7,7 @@ ghost use Rattle.dm_pbm_io.specs.inner.Streaming.{TakesBytes, TakesUntil};
 use crate::fault::PbmFault;
 use crate::header::{is_hidden, is_white};
 use crate::limits::{GREATEST_SIDE, PLAIN_BYTES};
-use crate::packed::draw_next;
+use crate::packed::{ROW_BYTES, draw_next};
 use crate::source::{ByteSource, next_byte};
 
 // The pixel that a digit stands for.
@@ -72,8 +72,13 @@ pub(crate) fn read_packed<M, S: ByteSource<M>>(
         (λ fault. (raster : List ℕ) × TakesUntil (S.view source.old) (S.view source.new) raster fault
         × StopsInPacked raster width height (S.view source.new).remaining fault) }
 {
+    let mut room = [0; ROW_BYTES];
     for row in 0..height {
-        draw_next(source, &mut pixels[row * width..row * width + width])?;
+        draw_next(
+            source,
+            &mut room,
+            &mut pixels[row * width..row * width + width],
+        )?;
     }
     Ok(())
 }

@@ -1,12 +1,10 @@
-//! The writing of images. A writer gets the header in one piece, a packed row in one piece of up to 1,024 pixels, and a
-//! plain row line by line. The pieces are made on the stack.
+//! The writing of images. A writer gets the header in one piece, a packed row in pieces of up to 256 pixels, and a plain
+//! row line by line. The pieces are made on the stack.
 
 ghost use Rattle.std.specs.Prelude.{◌≡◌, ◌≤◌, ◌*◌, true, [], ◌∷◌, ◌++◌, false, length, map, slice_index_or, OnOk, OnErr};
-ghost use Rattle.std.specs.Io.KnownBytes.{Appends};
-ghost use Rattle.std.specs.Fmt.{decimal};
-ghost use Rattle.dm_pbm_io.specs.Header.{magic, stride, digit_of};
+ghost use Rattle.std.specs.{Io.KnownBytes.Appends, Fmt.decimal};
+ghost use Rattle.dm_pbm_io.specs.{Header.magic, Header.stride, Header.digit_of, inner.Streaming.AppendsText};
 ghost use Rattle.dm_pbm_io.specs.Image.{picture, number_of_first, packed, plain_row, row_text, rows_text, written};
-ghost use Rattle.dm_pbm_io.specs.inner.Streaming.{AppendsText};
 ghost use Rattle.relay_streams.specs.Streams.{AppendsPart, StaysFailed};
 
 use crate::image::Image;
@@ -17,11 +15,12 @@ use relay_streams::{Output, WriteFault};
 use std::alloc::Allocator;
 use std::io::Write;
 
-// The most pixels of a packed row that are written at once.
-const PACKED_PIXELS: usize = 1024;
+// The most pixels of a packed row that are written at once: a symbol has no more in a row, and larger room takes longer
+// to make.
+const PACKED_PIXELS: usize = 256;
 
 // The bytes of that many packed pixels.
-const PACKED_BYTES: usize = 128;
+const PACKED_BYTES: usize = 32;
 
 // The most digits of a line of a plain row.
 const LINE_DIGITS: usize = 70;
@@ -74,15 +73,21 @@ fn byte_of_eight(row: &[bool]) -> u8
 }
 
 // The byte of the pixels that are left of a row. Past its end they are light.
-#[tactic(auto, using(std::proofs::lemmas::Grind::common_steps, crate::proofs::Written::bound_more, crate::proofs::Written::number_more))]
+#[tactic(auto, using(crate::proofs::Eight::gathers_row))]
 fn byte_of_rest(row: &[bool]) -> u8
     ensures { result ≡ number_of_first 0 row.now 8 }
 {
-    let mut byte = 0u16;
-    for k in 0..8 {
-        byte = 2 * byte + u16::from(is_black(row, k));
-    }
-    byte as u8
+    let pixels = [
+        u8::from(is_black(row, 0)),
+        u8::from(is_black(row, 1)),
+        u8::from(is_black(row, 2)),
+        u8::from(is_black(row, 3)),
+        u8::from(is_black(row, 4)),
+        u8::from(is_black(row, 5)),
+        u8::from(is_black(row, 6)),
+        u8::from(is_black(row, 7)),
+    ];
+    (u64::from_le_bytes(pixels).wrapping_mul(GATHER) >> 56) as u8
 }
 
 // The byte of the first eight pixels of a row.
@@ -193,7 +198,7 @@ fn write_row<M, K: ByteSink<M>>(sink: &mut K, plain: bool, row: &[bool]) -> Resu
 }
 
 // Writes the rows of an image.
-#[tactic(auto, using(std::proofs::lemmas::Grind::common_steps, crate::proofs::Written::rows_room))]
+#[tactic(auto, using(std::proofs::lemmas::Grind::common_steps, crate::proofs::Streaming::adds_nil, crate::proofs::Written::rows_room))]
 fn write_rows<M, K: ByteSink<M>>(
     sink: &mut K,
     plain: bool,

@@ -1,5 +1,4 @@
-use Rattle.std.proofs.Common.{◌++◌, ap, sym, refl}
-use Rattle.std.proofs.lemmas.Result.{err_from_is_err_and}
+use Rattle.std.proofs.{Common.◌++◌, Common.ap, Common.sym, Common.refl, lemmas.Result.err_from_is_err_and}
 use Rattle.dm_pbm_io.proofs.Streaming.{takes-trans, until-trans}
 use Rattle.dm_pbm_io.specs.{Header.magic, Image.Refuses.after_magic}
 use Rattle.dm_pbm_io.proofs.image.read_from.Goals as goal
