@@ -123,9 +123,10 @@ pub record RefusalsCountNot : Type 0 where
 -- ---- what the terms of the laws cover at least
 
 -- A command is at the path that it names. However a print ended, the labels of its job were let out, its ID is not
--- printed again, and its document was read. The label that a `copy` at such a path wrote was let out, too. However a `deliver` ended, and whatever is known of its output, what it
--- delivered was printed. A grid near one that was let out may be taken in, and so may files that were exported or kept.
--- An ID is free if the ledger that was left says so; it is on a ticket that this ledger awaits, or it is that of a job.
+-- printed again, and its document was read. The label that a `copy` at such a path wrote was let out, too. However a
+-- `deliver` ended, and whatever is known of its output, what it delivered was printed. A grid near one that was let out
+-- may be taken in, and so may files that were exported or kept. An ID is free if the ledger that was left says so; it is
+-- on a ticket that this ledger awaits, or it is that of a job.
 pub record SayAtLeast (A : Type 0) : Type 0 where
   pub place : (ran : Ran A) (saved : Saved) → (at_its_path ran saved).path ≡ path_of ran.command
   pub label : (among : List ℕ → Bool) (ran : Ran A) (job : JobView) (i : ℕ) (grid : GridView) →
