@@ -215,6 +215,8 @@ impl<R: Files + Alloc + Clone + Drop, A: Allocator + Copy> Folders for RealDisk<
         let listed = keys_of(self.alloc, self.runtime, folder);
         let mut keys = self.kept(listed)?;
         keys.sort_unstable();
+        // A name that is renamed while the folder is listed may come twice.
+        keys.dedup();
         keys.truncate(limit.saturating_add(1));
         Ok(keys)
     }
