@@ -4,7 +4,7 @@ use Rattle.std.specs.{Str.bytes_eq, FinMap.empty}
 use Rattle.relay_shared.specs.Files.{DeskFiles}
 use Rattle.dm_disk.specs.Disk.{draft_of, path_in, saved_under, set_in, unclaimed}
 use Rattle.dm_store.specs.{Saved.Replaces, Saved.Saved, Saved.SavedSet, Saved.in_memory, declared.store.StoreFault.StoreFault, declared.mem_store.NextSave.TheVariants.Fine}
-use Rattle.relay_places.specs.declared.{place.Access.Access, place.Place.Place, command_files.Entered.Entered, command_files.Found.Found, command_files.NoLock.TheVariants.Unneeded, mem_places.MemPlace.MemPlace, place.Access.TheVariants.Creates, place.Access.TheVariants.Makes, place.Access.TheVariants.Saves, place.Access.TheVariants.Looks}
+use Rattle.relay_places.specs.declared.{place.Access.Access, place.Place.Place, command_files.Entered.Entered, command_files.Found.Found, command_files.NoLock.TheVariants.Unneeded, command_files.NoLock.TheVariants.NoFolder, mem_places.MemPlace.MemPlace, place.Access.TheVariants.Creates, place.Access.TheVariants.Makes, place.Access.TheVariants.Saves, place.Access.TheVariants.Looks}
 
 abbrev pub files_of : Saved → SavedSet → DeskFiles
 files_of joint set = record { joint = joint; set = set }
@@ -81,8 +81,9 @@ locks Looks found = false
 locks access found = found.has_documents
 
 -- A command comes to its files. It has the lock of their place if what it does and what it finds there want one, unless
--- there is no folder for the lock.
+-- there is no folder for the lock: then it has found nothing there.
 abbrev pub Enters : Place → Entered → Type 0
 Enters place entered = MatchResult entered.lock
     (λ lock. IsTrue (locks place.access entered.found) × (string_bytes lock.path ≡ string_bytes place.lock))
-    (λ why. (why ≡ Unneeded) → IsFalse (locks place.access entered.found))
+    (λ why. ((why ≡ Unneeded) → IsFalse (locks place.access entered.found))
+    × ((why ≡ NoFolder) → IsFalse entered.found.is_any))

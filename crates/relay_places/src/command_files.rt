@@ -230,6 +230,9 @@ impl<'a> CommandFiles<'a> {
             return Err(Reason::SecondName);
         }
         let lock = self.lock(file)?;
+        if lock.is_err() && found.is_any {
+            return Err(Reason::NoLock);
+        }
         Ok(Entered { found, lock })
     }
 
