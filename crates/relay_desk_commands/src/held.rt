@@ -225,8 +225,8 @@ fn held_of<A: Allocator + Copy, S: Store, T: StoreSet, R: Read, W: Write, E: Wri
 ///
 /// In place of a file that can't be read stands `file FILE NAME` (`joint`, of an older version, comes first), and the
 /// others are listed all the same. The exit status is then 1. Nothing is printed before what was seen is settled: if that
-/// fails, a refusal stands alone. No desk is opened, nothing is saved or moved; beside the lines, one document at a time
-/// is in memory.
+/// fails, a refusal stands alone. No desk is opened, nothing is saved or moved. Beside the lines and the older file, one
+/// document at a time is in memory.
 pub fn held_command<A: Allocator + Copy, S: Store, T: StoreSet, R: Read, W: Write, E: Write>(
     alloc: A,
     store: S,

@@ -21,7 +21,8 @@ use std::io::{Read, Write};
 /// One byte more than the greatest file of a document.
 pub const IMPORT_BYTES: usize = 41_643;
 
-// Writes the line of a desk's answer, which may rest on what was found there. Gives the exit status, and the name of the refusal, if it is one.
+// Writes the line of a desk's answer, which may rest on what was found there. Gives the exit status, and the name of the
+// refusal, if it is one.
 #[rattlefmt::skip] // a pattern a line
 fn tell<W: Write>(
     _settled: &Settled, output: &mut Output<W>, answer: Result<Imported, ImportFault>,
