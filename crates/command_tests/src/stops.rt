@@ -194,7 +194,7 @@ fn a_command_keeps_what_it_answered(rt: HostRuntime) {
 }
 
 // The move of an old file, stopped twice. A file that the first stop left is there for a reader, but a second stop may
-// take it back until the set has listed its keys; both documents of the old file are found whatever is left. The
+// take it back until the set is settled; both documents of the old file are found whatever is left. The
 // command moves them first, and adds nothing to them.
 fn keeps_both(alloc: Global, first: u32, second: u32) -> Result<bool, StoreFault> {
     let mut disk = disk_after(alloc, &[Call::Joint])?;

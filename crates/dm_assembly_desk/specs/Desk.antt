@@ -409,6 +409,18 @@ HasJointFileFault bytes moves.Damaged =
 HasJointFileFault bytes moves.Device = ⊥
 HasJointFileFault bytes moves.Memory = ⊥
 
+-- ---- what a move promises
+
+-- the file of a document: the set's or, if it has none, that of what the joint file has of it
+abbrev pub file_in_either : Contents → Documents → ℕ → Option (List ℕ)
+file_in_either content held id = option_or (map.get content id) (option_map (file id) (map.get held id))
+
+-- Whatever documents the old store holds, it and the set hold together what they held before.
+abbrev pub KeepsFiles : Saved → SavedSet → Saved → SavedSet → Type 0
+KeepsFiles old set old_after set_after = IsTrue old.is_honest → IsTrue set.is_honest →
+    (held : Documents) → HoldsJointFile old.content held → (kept : Documents) × HoldsJointFile old_after.content kept
+    × ((id : ℕ) → file_in_either set_after.content kept id ≡ file_in_either set.content held id)
+
 -- ---- what is moved
 
 -- the documents of which the set has no file, by rising ID
@@ -481,28 +493,22 @@ abbrev pub move_answer : ℕ → Result (Unit {0}) StoreFault → Result ℕ Mov
 move_answer written (Ok _) = Ok written
 move_answer written (Err fault) = Err (move_fault_of fault)
 
--- What a move does: it ends before its first save, and nothing has changed; or at the save of the next document that
+-- How a move ends: before its first save, and nothing has changed; or at the save of the next document that
 -- the set lacked; or all are saved, and it ends with the last save, of a joint file without documents in the old store.
-pub data Moves (old : Saved) (set : SavedSet) (result : Result ℕ MoveFault) (old_after : Saved) (set_after : SavedSet)
+pub data EndsMove (old : Saved) (set : SavedSet) (result : Result ℕ MoveFault) (old_after : Saved) (set_after : SavedSet)
     : Type 0 where
-  early : EndsEarly old set result → old_after ≡ old → set_after ≡ set → Moves old set result old_after set_after
+  early : EndsEarly old set result → old_after ≡ old → set_after ≡ set → EndsMove old set result old_after set_after
   at_key : (held : Documents) (k : ℕ) (now : SavedSet) (next : ℕ × Pages) (fault : StoreFault)
       → MoveReaches old set held k now → (IsTrue set.is_honest → slice_get (lacked_by set.content held) k ≡ Some next)
       → SavesKey now next.0 (file next.0 next.1) (Err fault) set_after → old_after ≡ old
-      → result ≡ Err (move_fault_of fault) → Moves old set result old_after set_after
+      → result ≡ Err (move_fault_of fault) → EndsMove old set result old_after set_after
   at_last : (held : Documents) (k : ℕ) (answer : Result (Unit {0}) StoreFault) → MoveReaches old set held k set_after
       → (IsTrue set.is_honest → k ≡ length (lacked_by set.content held))
       → Replaces old (joint_file map.empty) answer old_after → MayLackMemory old answer → result ≡ move_answer k answer
-      → Moves old set result old_after set_after
+      → EndsMove old set result old_after set_after
 
--- ---- what is joined
-
--- the file of a document: the set's or, if it has none, that of what the joint file has of it
-abbrev pub file_in_either : Contents → Documents → ℕ → Option (List ℕ)
-file_in_either content held id = option_or (map.get content id) (option_map (file id) (map.get held id))
-
--- Whatever documents the old store holds, it and the set hold together what they held before.
-abbrev pub KeepsFiles : Saved → SavedSet → Saved → SavedSet → Type 0
-KeepsFiles old set old_after set_after = IsTrue old.is_honest → IsTrue set.is_honest →
-    (held : Documents) → HoldsJointFile old.content held → (kept : Documents) × HoldsJointFile old_after.content kept
-    × ((id : ℕ) → file_in_either set_after.content kept id ≡ file_in_either set.content held id)
+-- a move: whatever comes of it, nothing is lost; and it ends so
+pub record Moves (old : Saved) (set : SavedSet) (result : Result ℕ MoveFault) (old_after : Saved) (set_after : SavedSet)
+    : Type 0 where
+  pub keeps : KeepsFiles old set old_after set_after
+  pub ends : EndsMove old set result old_after set_after

@@ -1,11 +1,11 @@
 //! Desks, which gather the pages of documents from scanned labels, and save each document in a file of its own.
 //!
-//! [`Desk::open`] makes a desk over a set of stores. It holds the documents whose files the set has, and settles what
-//! it found; after [`Desk::open_unsettled`] that is left to [`Desk::settle`]. [`Desk::accept`] opens a scanned label
-//! and saves its page, [`Desk::pages`] lends what is held of a document, [`Desk::held`] lists all documents,
-//! [`Desk::document`] joins the pages of one if all of them are held, and [`Desk::forget`] drops it. [`Desk::export`]
-//! gives the held pages of a document as a file, and [`Desk::import`] adds those of such a file. [`move_pages`] moves
-//! the documents of a joint file, in which version 1 kept them all, to a set. [`held_at`] and [`JointFile`] say without
+//! [`Desk::open`] makes a desk over a set of stores. It holds the documents whose files the set has, and
+//! [`Desk::settle`] settles what it found. [`Desk::accept`] opens a scanned label and saves its page, [`Desk::pages`]
+//! lends what is held of a document, [`Desk::held`] lists all documents, [`Desk::document`] joins the pages of one if
+//! all of them are held, and [`Desk::forget`] drops it. [`Desk::export`] gives the held pages of a document as a file,
+//! and [`Desk::import`] adds those of such a file. [`move_pages`] moves the documents of a joint file, in which version
+//! 1 kept them all, to a set. [`held_at`] and [`JointFile`] say without
 //! a desk what one file holds.
 //!
 //! Proved: each answer follows from what is held, and each refusal is the first that applies. A page is saved before it

@@ -58,10 +58,11 @@ module _ (old new : DiskState) (folder : List ℕ) (honesty : new.is_honest ≡ 
         → ListsKeys keys (set_in old folder) limit answer (set_in new folder)
     set_lists keys limit answer kept lists = set_gives keys _ answer kept lists
 
-    pub set_settles : (answer : Result (Unit {0}) StoreFault) → KeepsAll old new
+    pub set_settles : {V : Type 0} (answer : Result V StoreFault) → KeepsAll old new
         → Settles (set_in old folder) answer (set_in new folder)
-    set_settles (Ok done) kept = set_gives (λ given. given) tt (Ok done) kept (λ _. refl)
-    set_settles (Err fault) kept = set_gives (λ given. given) tt (Err fault) kept (λ _. tt)
+    set_settles (Ok done) kept = (set_kept kept, tt)
+    set_settles (Err faults.Device) kept = (set_kept kept, refl)
+    set_settles (Err faults.Memory) kept = (set_kept kept, refl)
 
     pub set_loads : {V : Type 0} (bytes : V → List ℕ) (key limit : ℕ) (answer : Result (Option V) StoreFault) →
         key < 2 ^ 16 → KeepsAll old new →

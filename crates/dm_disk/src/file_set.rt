@@ -64,6 +64,8 @@ fn remove_key<D: Disk>(disk: &mut D, folder: &str, key: u16) -> Result<(), Store
 impl<D: Folders, A: Allocator> StoreSet for Filed<D, AtFolder, A> {
     type Memory = D::Memory;
 
+    type Settled = ();
+
     ghost state = { λ f. set_in (D.state f.disk) f.path };
 
     ghost is_settled = { λ f. IsFolderSettled (D.state f.disk) f.path };

@@ -1,8 +1,8 @@
 //! A store in a file of a disk.
 
-ghost use Rattle.std.specs.Prelude.{◌≡◌, ◌≢◌, ℕ, List, None, Some, Err, IfOk, IsOk, IsErrOf, IsSome, IsTrue};
+ghost use Rattle.std.specs.Prelude.{◌≡◌, ◌≢◌, ℕ, List, None, Some, Err, IsOk, IsErrOf, IsTrue};
 ghost use Rattle.dm_disk.specs.Disk.{KeepsFile, KeepsAll, KeepsName, SavesFile, IsFileSettled, IsSettled, draft_of, Content, saved_under};
-ghost use Rattle.dm_store.specs.Saved.{Loads, Replaces, MayLackMemory, SavesOpen, HeldAfterFault};
+ghost use Rattle.dm_store.specs.Saved.{Loads, Settles, Replaces, MayLackMemory, SavesOpen, HeldAfterFault};
 
 use crate::disk::Disk;
 use crate::filed::{AtFile, Filed};
@@ -88,29 +88,25 @@ impl<D: Disk, A: Allocator> Store for Filed<D, AtFile, A> {
             (saved_under (D.state self.new.disk) self.new.path) }
         ensures path { self.new.path ≡ self.old.path }
         ensures kept { KeepsAll (D.state self.old.disk) (D.state self.new.disk) }
-        ensures settled { IfOk result (λ loaded. IsSome loaded → IsFileSettled (D.state self.new.disk) self.new.path) }
     {
-        let Some(bytes) = self.disk.read(self.path.as_str(), limit)? else {
-            return Ok(None);
-        };
-        self.disk.settle_entry(self.path.as_str())?;
-        Ok(Some(bytes))
+        self.disk.read(self.path.as_str(), limit)
     }
 
-    fn load_unsettled(&mut self, limit: usize) -> Result<Option<Vec<u8, D::Memory>>, StoreFault>
-        ensures loads { Loads (λ bytes. bytes.items)
-            (saved_under (D.state self.old.disk) self.old.path) limit result
+    fn settle(&mut self) -> Result<(), StoreFault>
+        ensures settles { Settles (saved_under (D.state self.old.disk) self.old.path) result
             (saved_under (D.state self.new.disk) self.new.path) }
         ensures path { self.new.path ≡ self.old.path }
         ensures kept { KeepsAll (D.state self.old.disk) (D.state self.new.disk) }
+        ensures settled { IsOk result → IsFileSettled (D.state self.new.disk) self.new.path }
     {
-        self.disk.read(self.path.as_str(), limit)
+        self.disk.settle_entry(self.path.as_str())
     }
 
     fn replace(&mut self, bytes: &[u8]) -> Result<(), StoreFault>
         ensures replaces { Replaces (saved_under (D.state self.old.disk) self.old.path) bytes.now
             result (saved_under (D.state self.new.disk) self.new.path) }
         ensures memory { MayLackMemory (saved_under (D.state self.old.disk) self.old.path) result }
+        ensures settled { IsOk result → IsFileSettled (D.state self.new.disk) self.new.path }
         ensures path { self.new.path ≡ self.old.path }
         ensures refused { IsErrOf result StoreFault.Memory
             → KeepsAll (D.state self.old.disk) (D.state self.new.disk) }

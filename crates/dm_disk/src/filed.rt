@@ -16,10 +16,9 @@ use std::marker::Model;
 /// written; it has the mode of the file that it replaces. A `replace` that fails takes it away, if it can. So `PATH` is
 /// a plain file after a `replace`, which makes no folder. No third file is touched.
 ///
-/// A `load` syncs the folder before it answers, so that no stop takes back what it gives of a file whose bytes are on
-/// the disk, as those of a save are. It does not sync the bytes: those of a file that somebody else put there, and did
-/// not sync, a stop may take back. A load answers `None` if the file or its folder isn't there. A `load_unsettled`
-/// syncs nothing.
+/// A `load` answers `None` if the file or its folder isn't there. A `settle` syncs the folder, so that no stop takes
+/// back what was loaded before of a file whose bytes are on the disk, as those of a save are. It does not sync the
+/// bytes: those of a file that somebody else put there, and did not sync, a stop may take back.
 ///
 /// **A set.** The file of a key has the key as its name, in four lower-case hexadecimal digits, and is loaded and
 /// replaced as that of a store. Files of other names are not looked at. A folder that isn't there has no keys, and the

@@ -1,5 +1,5 @@
 -- A verdict carried out, step by step.
-use Rattle.std.proofs.Common.{arith, ◌≡◌, ℕ, List, false, Some, Result, Ok, Err, inl, inr, length, true}
+use Rattle.std.proofs.Common.{arith, ◌≡◌, ℕ, List, false, Some, Result, Ok, Err, inl, inr, length, refl, true}
 use Rattle.std.specs.Prelude.{◌==◌, IfOk}
 use Rattle.std.proofs.lemmas.Bool.{cond-true, eq-eqb}
 use Rattle.dm_size.specs.declared.size.Size.{Size}
@@ -44,3 +44,18 @@ pub prints : (old : PrinterView) (size : Size) (scheme : Scheme) (document ends 
     (result ≡ Err printing.Save → (job : JobView) × IsMade old.ledger size scheme document (Some ends) job) →
     Prints old size scheme document result new
 prints old size scheme document ends next result new running order are verdict sound saves made lost = grind arith
+
+-- a refusal that is not that of the save changes nothing
+pub unchanged : {X F may_lack : Type 0} (failed memory save : F) (verdict : Result LedgerView F) (old new : PrinterView)
+    (fault : F) → old.is_failed ≡ false → (fault ≡ save → ⊥)
+    → CarriesOut {X = X} failed memory save may_lack verdict old (Err fault) new → new ≡ old
+unchanged {X} {F} {may_lack} failed memory save verdict old new fault runs isnt carries = by_verdict verdict refl
+  where
+    by_saves : (next : LedgerView) → SavesLedger {X = X} may_lack memory save next old (Err fault) new →
+        new ≡ old
+    by_saves next (inl lack) = lack.2
+    by_saves next (inr fails) = absurd (isnt fails.0)
+
+    by_verdict : (v : Result LedgerView F) → verdict ≡ v → new ≡ old
+    by_verdict (Err other) is = (carries.refused runs other is).1
+    by_verdict (Ok next) is = by_saves next (carries.saves runs next is).1

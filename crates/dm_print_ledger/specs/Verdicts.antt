@@ -13,6 +13,7 @@ use Rattle.dm_size.specs.declared.size.Size.{Size}
 use Rattle.dm_encodation.specs.declared.scheme.Scheme.{Scheme}
 use Rattle.dm_finder_frame.specs.Frame.{GridView}
 use Rattle.dm_append_label.specs.Labels.{Seals, PageView, AreEnds, HasNoEnds, parts_from}
+use Rattle.dm_store.specs.declared.store.StoreFault.{StoreFault}
 use Rattle.dm_store.specs.declared.store.StoreFault.TheVariants as replacing
 use Rattle.dm_print_ledger.specs.declared.fault.CreateFault.TheVariants as creating
 use Rattle.dm_print_ledger.specs.declared.fault.PrintFault.TheVariants as printing
@@ -205,6 +206,11 @@ pub record LoadsLedger {X : Type 0} (saved : Saved) (verdict result : Result X O
   pub answer : IsTrue saved.is_honest → (result ≡ verdict) ⊎ ((result ≡ Err Device) ⊎ (result ≡ Err Memory))
   pub device : result ≡ Err Device → saved.load_plan ≡ LoadsOpen
   pub memory : result ≡ Err Memory → IsTrue saved.may_lack_memory
+
+-- how the fault of a load, or of a settle, is named
+abbrev pub open_fault_of : StoreFault → OpenFault
+open_fault_of replacing.Device = Device
+open_fault_of replacing.Memory = Memory
 
 -- a printer with this number that runs over the store, or why there is none
 abbrev pub PrinterOpens : Saved → ℕ → Result PrinterView OpenFault → Type 0

@@ -11,7 +11,7 @@ use crate::limits::MOST_BYTES;
 use crate::printer::Printer;
 use crate::range::{Range, is_range};
 use arrayvec::ArrayVec;
-use dm_store::{Store, StoreFault};
+use dm_store::{Store, StoreFault, load_settled};
 use std::alloc::Allocator;
 
 /// No printer was created: why, and the store.
@@ -72,11 +72,11 @@ fn opening_of(number: u16, range: Range) -> Ledger
     }
 }
 
-// Saves a first ledger on a store that holds nothing.
+// Saves a first ledger on a store that holds nothing. That it holds something is told once no stop takes that back.
 fn save_first<S: Store>(store: &mut S, ledger: &Ledger) -> Result<(), CreateFault>
     ensures { SavesFirst (S.state store.old) ledger.now result (S.state store.new) }
 {
-    match store.load(MOST_BYTES) {
+    match load_settled(store, MOST_BYTES) {
         Ok(None) => {}
         Ok(Some(_)) => return Err(CreateFault::Exists),
         Err(StoreFault::Device) => return Err(CreateFault::Device),

@@ -1,9 +1,9 @@
 //! What a ledger says to somebody who only looks at it.
 
-ghost use Rattle.std.specs.Prelude.{◌≡◌, ◌≢◌, ◌==◌, ◌&&◌, not, Err, Ok, IsOk, IsTrue, IfOk};
+ghost use Rattle.std.specs.Prelude.{◌≡◌, ◌≢◌, ◌==◌, ◌&&◌, not, Err, Ok, IsTrue, IfOk};
 ghost use Rattle.std.specs.List.{list_any, All};
 ghost use Rattle.dm_print_ledger.specs.Ledger.{is_old as test_of_old, read_ledger, ShownView, is_sound, free_count, is_range};
-ghost use Rattle.dm_print_ledger.specs.Verdicts.{LoadsLedger, are_of_one, is_behind as test_of_behind, lacks_gift, is_of as test_of_number, lacks_ticket, numbered, share_numbers, share_ticket, show_verdict, shown_of_none, shown_of_ticket};
+ghost use Rattle.dm_print_ledger.specs.Verdicts.{LoadsLedger, are_of_one, is_behind as test_of_behind, lacks_gift, is_of as test_of_number, lacks_ticket, numbered, share_numbers, share_ticket, show_verdict, shown_of_ticket};
 
 use crate::fault::OpenFault;
 use crate::format::{first_ledger, second_ledger};
@@ -14,7 +14,7 @@ use crate::limits::MOST_BYTES;
 use crate::range::Range;
 use crate::ticket::Ticket;
 use arrayvec::ArrayVec;
-use dm_store::{Store, StoreFault};
+use dm_store::Store;
 use std::marker::Model;
 
 /// What a store holds of a printer, to be looked at: nothing is saved by it, and no printer goes on with it.
@@ -36,7 +36,8 @@ impl Model for Shown {
 }
 
 impl Shown {
-    /// What the ledger says that the store holds. It takes no memory but the store's.
+    /// What the ledger says that the store holds. It takes no memory but the store's. Until the store is settled, a stop
+    /// may take back what is shown.
     ///
     /// # Errors
     /// The load's `Device` or `Memory`, `Absent`, `NotALedger`, `Version` and `Damaged`: the first of these, in this
@@ -44,14 +45,10 @@ impl Shown {
     pub fn load<S: Store>(store: &mut S) -> Result<Shown, OpenFault>
         ensures loads { LoadsLedger (S.state store.old) (show_verdict (S.state store.old).content) result }
         ensures same { S.state store.new ≡ S.state store.old }
-        // No stop takes back what is shown.
-        ensures settled { IsOk result → S.is_settled store.new }
     {
-        match store.load(MOST_BYTES) {
-            Ok(None) => Err(OpenFault::Absent),
-            Ok(Some(bytes)) => shown_in(bytes.as_slice()),
-            Err(StoreFault::Device) => Err(OpenFault::Device),
-            Err(StoreFault::Memory) => Err(OpenFault::Memory),
+        match store.load(MOST_BYTES)? {
+            None => Err(OpenFault::Absent),
+            Some(bytes) => shown_in(bytes.as_slice()),
         }
     }
 
@@ -63,22 +60,6 @@ impl Shown {
         ensures { result ≡ read_ledger bytes.now }
     {
         shown_in(bytes)
-    }
-
-    /// What is shown by nothing.
-    pub fn none() -> Shown
-        ensures { result ≡ shown_of_none }
-    {
-        let ledger = Ledger {
-            number: 0,
-            next_serial: 0,
-            free: ArrayVec::new(),
-            givers: ArrayVec::new(),
-        };
-        Shown {
-            number: None,
-            ledger,
-        }
     }
 
     /// What a ticket shows: that its giver gave it, and, if it is open, that its IDs are free.

@@ -1,5 +1,5 @@
 -- What contracts see of a store and of a set: what it holds, whether it does what it says, and what it may do next.
-use Rattle.std.specs.Prelude.{◌≡◌, ◌+◌, ◌⊎◌, ℕ, Bool, List, take, Option, Some, option_map, Result, Ok, Err, IfOk, IsErrOf, IsTrue, None, IsErr, IsSome, true, false, zero, suc, refl}
+use Rattle.std.specs.Prelude.{◌≡◌, ◌+◌, ◌⊎◌, ℕ, Bool, List, take, Option, Some, option_map, Result, Ok, Err, IfOk, IfErr, IsErrOf, IsTrue, None, IsErr, IsSome, true, false, zero, suc, refl}
 use Rattle.std.specs.Ordering.{nat_cmp}
 use Rattle.dm_store.specs.declared.{store.StoreFault.StoreFault, mem_store.NextSave.NextSave, fuse.Kept.Kept}
 use Rattle.dm_store.specs.declared.fuse.{Kept.TheVariants.Old, Kept.TheVariants.New, Turn.Turn}
@@ -53,6 +53,15 @@ pub record GivesLoaded {X V W : Type 0} (seen : V → W) (old : SavedIn X) (want
 abbrev pub Loads : {V : Type 0} → (V → List ℕ) → Saved → ℕ → Result (Option V) StoreFault → Saved → Type 0
 Loads bytes old limit answer new =
     GivesLoaded (option_map bytes) old (option_map (take (limit + 1)) old.content) answer new
+
+-- a settle may fail so, which is whenever a load may
+abbrev pub MayNotSettle : {X : Type 0} → SavedIn X → StoreFault → Type 0
+MayNotSettle saved faults.Device = saved.load_plan ≡ LoadsOpen
+MayNotSettle saved faults.Memory = IsTrue saved.may_lack_memory
+
+-- Before and after what was found is settled, and the answer. Nothing changes.
+abbrev pub Settles : {X V : Type 0} → SavedIn X → Result V StoreFault → SavedIn X → Type 0
+Settles old answer new = (new ≡ old) × IfErr answer (MayNotSettle old)
 
 -- how a replace or a remove ended
 abbrev pub outcome_of : Result (Unit {0}) StoreFault → Outcome
@@ -118,10 +127,6 @@ ListsKeys keys old limit answer new = GivesLoaded keys old (take (limit + 1) (ma
 abbrev pub LoadsKey : {V : Type 0} → (V → List ℕ) → SavedSet → ℕ → ℕ → Result (Option V) StoreFault → SavedSet → Type 0
 LoadsKey bytes old key limit answer new =
     GivesLoaded (option_map bytes) old (option_map (take (limit + 1)) (map.get old.content key)) answer new
-
--- The set before and after what was loaded is settled, and the answer. This may fail whenever a load may.
-abbrev pub Settles : SavedSet → Result (Unit {0}) StoreFault → SavedSet → Type 0
-Settles old answer new = GivesLoaded (λ done. done) old tt answer new
 
 -- the set before and after a save of one key's bytes, and its answer
 abbrev pub SavesKey : SavedSet → ℕ → List ℕ → Result (Unit {0}) StoreFault → SavedSet → Type 0

@@ -1,6 +1,6 @@
 //! A store, or a set of stores, behind a fuse: its first calls pass, and each later one is stopped.
 
-ghost use Rattle.std.specs.Prelude.{◌≡◌, Some, IfOk, IsOk, IsSome, IsTrue, IsNone, ◌↔◌};
+ghost use Rattle.std.specs.Prelude.{◌≡◌, Some, IsOk, IsTrue, IsNone, ◌↔◌};
 ghost use Rattle.dm_store.specs.Saved.{turn_of_load, turn_of_save, after_call, Fused, Loads, Replaces, MayLackMemory, with_open_plans, Goes, ListsKeys, LoadsKey, Settles, SavesKey, RemovesKey};
 
 use crate::set::StoreSet;
@@ -119,7 +119,6 @@ impl<S: Store> Store for Fuse<S> {
     fn load(&mut self, limit: usize) -> Result<Option<Vec<u8, S::Memory>>, StoreFault>
         ensures loads { Loads (λ bytes. bytes.items) (with_open_plans (S.state self.old.inner)) limit result
             (with_open_plans (S.state self.new.inner)) }
-        ensures settled { IfOk result (λ loaded. IsSome loaded → S.is_settled self.new.inner) }
         ensures goes { Goes (turn_of_load self.old.left) StoreFault.Device
             (λ answer inner. Loads (λ bytes. bytes.items) (S.state self.old.inner) limit answer (S.state inner))
             self.old.inner result self.new.inner }
@@ -131,10 +130,26 @@ impl<S: Store> Store for Fuse<S> {
         }
     }
 
+    fn settle(&mut self) -> Result<(), StoreFault>
+        ensures settles { Settles (with_open_plans (S.state self.old.inner)) result
+            (with_open_plans (S.state self.new.inner)) }
+        ensures settled { IsOk result → S.is_settled self.new.inner }
+        ensures goes { Goes (turn_of_load self.old.left) StoreFault.Device
+            (λ answer inner. Settles (S.state self.old.inner) answer (S.state inner))
+            self.old.inner result self.new.inner }
+        ensures counts { self.new ≡ record self.old { inner = self.new.inner; left = after_call self.old.left } }
+    {
+        match self.take_load() {
+            Turn::Passes => self.inner.settle(),
+            Turn::Made | Turn::Stopped => Err(StoreFault::Device),
+        }
+    }
+
     fn replace(&mut self, bytes: &[u8]) -> Result<(), StoreFault>
         ensures replaces { Replaces (with_open_plans (S.state self.old.inner)) bytes.now result
             (with_open_plans (S.state self.new.inner)) }
         ensures memory { MayLackMemory (with_open_plans (S.state self.old.inner)) result }
+        ensures settled { IsOk result → S.is_settled self.new.inner }
         ensures goes { Goes (turn_of_save self.old.left self.old.kept) StoreFault.Device
             (λ answer inner. Replaces (S.state self.old.inner) bytes.now answer (S.state inner))
             self.old.inner result self.new.inner }
@@ -153,6 +168,8 @@ impl<S: Store> Store for Fuse<S> {
 
 impl<S: StoreSet> StoreSet for Fuse<S> {
     type Memory = S::Memory;
+
+    type Settled = S::Settled;
 
     ghost state = { λ fused. with_open_plans (S.state fused.inner) };
 
@@ -186,7 +203,7 @@ impl<S: StoreSet> StoreSet for Fuse<S> {
         }
     }
 
-    fn settle(&mut self) -> Result<(), StoreFault>
+    fn settle(&mut self) -> Result<S::Settled, StoreFault>
         ensures settles { Settles (with_open_plans (S.state self.old.inner)) result
             (with_open_plans (S.state self.new.inner)) }
         ensures settled { IsOk result → S.is_settled self.new.inner }

@@ -9,11 +9,11 @@
 //! - After a save that answers `Ok` an honest store holds the new content. After `Memory` nothing has changed. After
 //!   `Device` it holds the old or the new content, as its plan for the save said. An honest set changes no other key.
 //! - No call changes the honesty or what loads may do.
-//! - After a settle that answers `Ok`, and a load of bytes by a store, no stop takes back what is held (`is_settled`).
+//! - After a settle that answers `Ok`, and after such a save of a store, no stop takes back what is held
+//!   (`is_settled`).
 //!
 //! [`MemStore`] and [`MemSet`] are honest, and meet a device fault exactly where they were set to. A [`Fuse`] stops a
-//! store or a set after a number of calls. [`KeyMap`] is the map that a set in memory is made of. [`Unsettled`] is a
-//! store whose loads a stop may take back, for those who tell nothing of them before their next save.
+//! store or a set after a number of calls. [`KeyMap`] is the map that a set in memory is made of.
 #![tactic(auto)]
 
 mod fuse;
@@ -22,12 +22,10 @@ mod mem_set;
 mod mem_store;
 mod set;
 mod store;
-mod unsettled;
 
 pub use fuse::{Fuse, FuseSet, FuseStore, Kept};
 pub use key_map::KeyMap;
 pub use mem_set::{MemSet, SavedBytes};
 pub use mem_store::{MemStore, NextSave};
 pub use set::StoreSet;
-pub use store::{Store, StoreFault};
-pub use unsettled::Unsettled;
+pub use store::{Store, StoreFault, load_settled};

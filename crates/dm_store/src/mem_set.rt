@@ -96,6 +96,8 @@ impl<A: Allocator + Copy> MemSet<A> {
 impl<A: Allocator + Copy> StoreSet for MemSet<A> {
     type Memory = A;
 
+    type Settled = ();
+
     ghost state = { λ set. set };
 
     ghost is_settled = { λ _. Unit {0} };

@@ -1,7 +1,7 @@
 //! A store in memory.
 
-ghost use Rattle.std.specs.Prelude.{◌≡◌, ◌↔◌, false, None, Some, option_map, IsErrOf, IsSome};
-ghost use Rattle.dm_store.specs.Saved.{Saved, in_memory, saved_code, load_plan_of, save_plan_of, Loads, LoadsOpen};
+ghost use Rattle.std.specs.Prelude.{◌≡◌, ◌≢◌, ◌↔◌, Err, false, None, Some, option_map, IsErrOf, IsSome};
+ghost use Rattle.dm_store.specs.Saved.{Saved, in_memory, saved_code, load_plan_of, save_plan_of, Loads, LoadsOpen, Settles};
 
 use crate::store::{Store, StoreFault};
 use std::alloc::{Allocator, Global};
@@ -66,7 +66,7 @@ impl<A: Allocator + Copy> MemStore<A> {
         self.next_save = next;
     }
 
-    /// Sets whether loads answer a device fault, until it is set anew.
+    /// Sets whether loads and settles answer a device fault, until it is set anew.
     pub fn set_load(&mut self, fails: bool)
         ensures { self.new ≡ record self.old { load_plan = load_plan_of fails } }
     {
@@ -102,6 +102,18 @@ impl<A: Allocator + Copy> Store for MemStore<A> {
         };
         let shown = bytes.get(..=limit).unwrap_or(bytes.as_slice());
         Ok(Some(Vec::from_slice(self.alloc, shown)?))
+    }
+
+    fn settle(&mut self) -> Result<(), StoreFault>
+        ensures settles { Settles self.old result self.new }
+        ensures device { IsErrOf result StoreFault.Device ↔ (self.old.load_plan ≡ LoadsOpen) }
+        // It takes no memory.
+        ensures memory { result ≢ Err StoreFault.Memory }
+    {
+        if self.fails_loads {
+            return Err(StoreFault::Device);
+        }
+        Ok(())
     }
 
     fn replace(&mut self, bytes: &[u8]) -> Result<(), StoreFault> {

@@ -11,6 +11,10 @@ pub trait StoreSet: Drop {
     /// What the keys and the bytes that a load gives are allocated in.
     type Memory: Allocator;
 
+    /// That what was found is settled. Only [`StoreSet::settle`] makes one, so what tells of what was found can ask for
+    /// it.
+    type Settled: Drop;
+
     /// What it holds, whether it is honest, and its plans.
     ghost state: { Self → SavedSet };
 
@@ -27,7 +31,7 @@ pub trait StoreSet: Drop {
 
     /// Settles what the calls before have found, the keys and the bytes: no stop of the machine takes it back then.
     /// Whoever answers by loads calls it once, after all of them.
-    fn settle(&mut self) -> Result<(), StoreFault>
+    fn settle(&mut self) -> Result<Self::Settled, StoreFault>
         ensures settles { Settles (state self.old) result (state self.new) }
         ensures settled { IsOk result → is_settled self.new };
 

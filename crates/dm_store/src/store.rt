@@ -1,8 +1,8 @@
 //! What a store promises, and its faults.
 
-ghost use Rattle.std.specs.Prelude.{◌≡◌, IfOk, IsSome};
+ghost use Rattle.std.specs.Prelude.{◌≡◌, IfOk, IsOk, IsSome};
 ghost use Rattle.dm_store.specs.declared.store.StoreFault.TheVariants.{Memory};
-ghost use Rattle.dm_store.specs.Saved.{Saved, Loads, Replaces, MayLackMemory};
+ghost use Rattle.dm_store.specs.Saved.{Saved, Loads, Settles, Replaces, MayLackMemory};
 
 use std::alloc::{AllocError, Allocator};
 use std::io::{self, ErrorKind};
@@ -50,19 +50,35 @@ pub trait Store: Drop {
 
     /// The saved bytes, or their first `limit + 1` where they are longer, or `None` where nothing is saved.
     fn load(&mut self, limit: usize) -> Result<Option<Vec<u8, Self::Memory>>, StoreFault>
-        ensures loads { Loads (λ bytes. bytes.items) (state self.old) limit result (state self.new) }
-        ensures settled { IfOk result (λ loaded. IsSome loaded → is_settled self.new) };
+        ensures loads { Loads (λ bytes. bytes.items) (state self.old) limit result (state self.new) };
 
-    /// The same, but a stop of the machine may take back what it gives: for those who tell nothing of it before their
-    /// next save is done.
-    fn load_unsettled(&mut self, limit: usize) -> Result<Option<Vec<u8, Self::Memory>>, StoreFault>
-        ensures loads { Loads (λ bytes. bytes.items) (state self.old) limit result (state self.new) }
-    {
-        self.load(limit)
-    }
+    /// Settles what the loads before have given, if that was bytes: no stop of the machine takes it back then. Whoever
+    /// tells of them, and saves nothing, calls it first.
+    fn settle(&mut self) -> Result<(), StoreFault>
+        ensures settles { Settles (state self.old) result (state self.new) }
+        ensures settled { IsOk result → is_settled self.new };
 
     /// Puts the bytes in place of the saved ones.
     fn replace(&mut self, bytes: &[u8]) -> Result<(), StoreFault>
         ensures replaces { Replaces (state self.old) bytes.now result (state self.new) }
-        ensures memory { MayLackMemory (state self.old) result };
+        ensures memory { MayLackMemory (state self.old) result }
+        ensures settled { IsOk result → is_settled self.new };
+}
+
+/// Loads, and settles what that gave: no stop of the machine takes it back then.
+///
+/// # Errors
+/// Those of the load, then those of the settle.
+pub fn load_settled<S: Store>(
+    store: &mut S,
+    limit: usize,
+) -> Result<Option<Vec<u8, S::Memory>>, StoreFault>
+    ensures loads { Loads (λ bytes. bytes.items) (S.state store.old) limit result (S.state store.new) }
+    ensures settled { IfOk result (λ loaded. IsSome loaded → S.is_settled store.new) }
+{
+    let loaded = store.load(limit)?;
+    if loaded.is_some() {
+        store.settle()?;
+    }
+    Ok(loaded)
 }

@@ -6,7 +6,7 @@ use Rattle.dm_assembly_desk.specs.declared.{reply.Held.Held, limits.TheConstants
 use Rattle.relay_shared.specs.Files.{DeskFiles}
 use Rattle.relay_shared.specs.Lines.{id_text, word_text, accepted_line, imported_line}
 use Rattle.hex.specs.Hex.{decode_sized, encode_lower}
-use Rattle.dm_store.specs.Saved.{Saved, SavedSet, ListsKeys, LoadsOpen, Settles}
+use Rattle.dm_store.specs.Saved.{Saved, SavedSet, ListsKeys, LoadsOpen, MayNotSettle}
 use Rattle.dm_append_label.specs.Labels.{id_words, PageView, Carries, Fits, IsTooLong, Seals}
 use Rattle.dm_append_label.specs.{Opening.OpensAs, declared.fault.LabelFault.LabelFault, declared.opening.Opened.Opened}
 use Rattle.dm_assembly_desk.specs.Desk.{Asks, Exports, Forgets, ImportsBytes, AcceptsGrid, kind_name, ask_fault_name, desk_fault_name, export_fault_name, forget_fault_name, import_fault_name, move_fault_name, scan_fault_name, move_fault_of, Moves, HasDeskFault, DeskOpens, HasJointFileFault, HoldsJointFile, SeesKey}
@@ -326,7 +326,7 @@ rests_on_held (Err other) = false
 -- the desk's answer to the grid rests on what it holds, and that could not be settled
 abbrev pub IsUnsettled : GridView → StoreFault → DeskView → Type 0
 IsUnsettled grid why desk = (reply : Result Accepted ScanFault) × (rests_on_held reply ≡ true)
-    × AcceptsGrid grid desk reply desk × Settles desk.saved (Err why) desk.saved
+    × AcceptsGrid grid desk reply desk × MayNotSettle desk.saved why
 
 -- What is said of a picture, and the desk and the standard error afterwards. The picture's grid is handed to the desk,
 -- if it has one; a refusal is noted.
@@ -442,7 +442,7 @@ pub data TellsHeld (set : SavedSet) (joint : SeenJoint) (id : Option ℕ) (old :
     : Type 0 where
   told : (text : List ℕ) (wanted : ℕ) → Says set joint id text wanted → Tells text wanted old status new
       → TellsHeld set joint id old status new
-  unsettled : (why : StoreFault) → Settles set (Err why) set
+  unsettled : (why : StoreFault) → MayNotSettle set why
       → TellsRefusal (move_fault_name (move_fault_of why)) old status new → TellsHeld set joint id old status new
   no_memory : TellsRefusal (refusal_name refusals.Memory) old status new → TellsHeld set joint id old status new
 

@@ -5,7 +5,6 @@ ghost use Rattle.relay_desk_commands.specs.Desks.{IsTextOfId, HasNoDesk, OpensDe
 ghost use Rattle.dm_assembly_desk.specs.Documents.{DeskIsInOrder};
 ghost use Rattle.relay_shared.specs.{Command.TellsRefusal, Files.DeskFiles};
 
-use crate::settling::{Settled, settle_desk};
 use dm_append_label::FileId;
 use dm_assembly_desk::{Desk, MoveFault, move_pages};
 use dm_store::{Store, StoreSet};
@@ -64,16 +63,17 @@ impl<S: Store, T: StoreSet, A: Allocator + Copy> OpenDesk<S, T, A> {
         let OpenDesk { store, desk } = self;
         let mut set = desk.close();
         match set.settle() {
-            Ok(()) => Ok(ClosedDesk { store, set }),
+            Ok(_) => {}
             Err(fault) => {
                 let name = MoveFault::from(fault).name();
-                Err(Unopened { name, store, set })
+                return Err(Unopened { name, store, set });
             }
         }
+        Ok(ClosedDesk { store, set })
     }
 
     /// Settles what was found, before the desk answers; or there is no desk, and why.
-    pub(crate) fn settle(self) -> Result<(OpenDesk<S, T, A>, Settled), Unopened<S, T>>
+    pub(crate) fn settle(self) -> Result<(OpenDesk<S, T, A>, T::Settled), Unopened<S, T>>
         ensures { MatchResult result
             (λ opened. (S.state opened.0.store ≡ S.state self.store) × (opened.0.desk ≡ self.desk))
             (λ unopened. (before : DeskFiles) (capacity : ℕ)
@@ -82,7 +82,7 @@ impl<S: Store, T: StoreSet, A: Allocator + Copy> OpenDesk<S, T, A> {
             (record { joint = S.state unopened.store; set = T.state unopened.set })) }
     {
         let OpenDesk { store, mut desk } = self;
-        match settle_desk(&mut desk) {
+        match desk.settle() {
             Ok(settled) => Ok((OpenDesk { store, desk }, settled)),
             Err(fault) => {
                 let name = MoveFault::from(fault).name();
@@ -149,7 +149,7 @@ pub(crate) fn desk_of<A: Allocator + Copy, S: Store, T: StoreSet>(
             return Err(Unopened { name, store, set });
         }
     }
-    match Desk::open_unsettled(alloc, set, capacity) {
+    match Desk::open(alloc, set, capacity) {
         Ok(desk) => Ok(OpenDesk { store, desk }),
         Err(refused) => {
             let name = refused.fault.name();

@@ -16,7 +16,7 @@ use dm_append_label::FileId;
 use dm_assembly_desk::{
     AskFault, DeskFault, Held, JointFile, MOST_JOINT_FILE_BYTES, MoveFault, held_at, is_listed,
 };
-use dm_store::{Store, StoreFault, StoreSet};
+use dm_store::{Store, StoreFault, StoreSet, load_settled};
 use relay_shared::{EndedDesk, Refusal, Streams, refuse, status_after};
 use relay_streams::{Output, WriteFault};
 use std::alloc::Allocator;
@@ -208,12 +208,12 @@ fn held_of<A: Allocator + Copy, S: Store, T: StoreSet, R: Read, W: Write, E: Wri
 {
     let mut store = store;
     let mut set = set;
-    let loaded = store.load(MOST_JOINT_FILE_BYTES);
+    let loaded = load_settled(&mut store, MOST_JOINT_FILE_BYTES);
     let joint = joint_in(&loaded);
     let mut gathered = Output::new(Vec::new(alloc));
     let status = tell(&mut set, &mut gathered, &joint, id);
     let status = match set.settle() {
-        Ok(()) => put_gathered(&mut streams.output, gathered, status),
+        Ok(_) => put_gathered(&mut streams.output, gathered, status),
         Err(fault) => refuse(&mut streams.output, MoveFault::from(fault).name()),
     };
     EndedDesk { status, store, set }
@@ -236,7 +236,7 @@ pub fn held_command<A: Allocator + Copy, S: Store, T: StoreSet, R: Read, W: Writ
 ) -> EndedDesk<S, T>
     ensures ends { EndsHeld (option_copied text.entry) (desk_at (S.state store) (T.state set) streams.old) result.status
         (desk_at (S.state result.store) (T.state result.set) streams.new) }
-    // No stop takes back what it tells, unless it has refused the text or could not settle what it saw.
+    // No stop takes back what it tells of the folder, unless it has refused the text or could not settle what it saw.
     ensures settled { T.is_settled result.set ⊎ RefusesOnOutput (refusal_name Refusal.FileId) streams.old result.status streams.new
         ⊎ IsUnsettledHeld streams.old result.status streams.new }
 {

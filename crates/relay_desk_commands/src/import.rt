@@ -8,7 +8,6 @@ ghost use Rattle.relay_desk_commands.specs.Desks.{EndsImport, HasNoDesk, Imports
 
 use crate::desk_opening::{OpenDesk, open_desk};
 use crate::lines::room_text;
-use crate::settling::Settled;
 use dm_assembly_desk::{Desk, ImportFault, Imported};
 use dm_store::{Store, StoreSet};
 use relay_shared::{
@@ -24,8 +23,8 @@ pub const IMPORT_BYTES: usize = 41_643;
 // Writes the line of a desk's answer, which may rest on what was found there. Gives the exit status, and the name of the
 // refusal, if it is one.
 #[rattlefmt::skip] // a pattern a line
-fn tell<W: Write>(
-    _settled: &Settled, output: &mut Output<W>, answer: Result<Imported, ImportFault>,
+fn tell<T: StoreSet, W: Write>(
+    _settled: &T::Settled, output: &mut Output<W>, answer: Result<Imported, ImportFault>,
 ) -> (u8, Option<&'static str>)
     ensures { TellsAnswer import_line import_fault_name answer output.old result.0 output.new }
 {
@@ -52,7 +51,7 @@ fn why_refused<A: Allocator + Copy, T: StoreSet>(
 #[rattlefmt::skip] // a signature a line
 fn open_settled<A: Allocator + Copy, S: Store, T: StoreSet, W: Write>(
     alloc: A, store: S, set: T, output: &mut Output<W>, capacity: u16,
-) -> Result<(OpenDesk<S, T, A>, Settled), EndedDesk<S, T>>
+) -> Result<(OpenDesk<S, T, A>, T::Settled), EndedDesk<S, T>>
     ensures { MatchResult result
         (λ opened. OpensDesk (record { joint = S.state store; set = T.state set }) capacity (S.state opened.0.store)
         opened.0.desk × (output.new ≡ output.old) × DeskIsInOrder opened.0.desk)
@@ -69,7 +68,7 @@ fn open_settled<A: Allocator + Copy, S: Store, T: StoreSet, W: Write>(
 // Takes in a file, whose bytes are read into this room, and writes the line of the answer.
 #[rattlefmt::skip] // a signature a line
 fn import_file<A: Allocator + Copy, T: StoreSet, F: NamedFile, W: Write>(
-    alloc: A, settled: &Settled, desk: &mut Desk<T, A>, file: &F, room: &mut [u8], output: &mut Output<W>,
+    alloc: A, settled: &T::Settled, desk: &mut Desk<T, A>, file: &F, room: &mut [u8], output: &mut Output<W>,
 ) -> u8
     requires running { desk.old.is_failed ≡ false }
     requires room { length room.old ≡ IMPORT_BYTES }
@@ -82,7 +81,7 @@ fn import_file<A: Allocator + Copy, T: StoreSet, F: NamedFile, W: Write>(
     };
     let mut input = Input::new(reader);
     let (status, refused) = match input.fill(room) {
-        Ok(count) => tell(settled, output, desk.import(&room[..count])),
+        Ok(count) => tell::<T, W>(settled, output, desk.import(&room[..count])),
         Err(fault) => (refuse(output, fault.name()), Some(fault.name())),
     };
     let why = match refused {
@@ -112,7 +111,7 @@ fn import_input<A: Allocator + Copy, S: Store, T: StoreSet, R: Read, W: Write, E
         Ok(opened) => opened,
         Err(ended) => return ended,
     };
-    EndedDesk { status: tell(&settled, output, desk.import(&bytes)).0, store, set: desk.close() }
+    EndedDesk { status: tell::<T, W>(&settled, output, desk.import(&bytes)).0, store, set: desk.close() }
 }
 
 /// Reads files that `export` has written, at most 41,643 bytes of each, or one from the input where none is named. It

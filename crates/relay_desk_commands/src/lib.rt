@@ -6,7 +6,7 @@
 //! desk's call, writes its answer, and leaves the files as the call left them. `scan` does so for each image, `import`
 //! for each file, in order. `held` opens no desk and leaves the files as they were: it writes a line for each document,
 //! by what its file holds, and for each that is not sound. What `copy` gives opens as the page that is held. No stop of
-//! the machine takes back what a command that saves nothing has told (`settled`).
+//! the machine takes back what a command that saves nothing has told of a desk's folder (`settled`).
 #![tactic(auto)]
 
 mod all_documents;
@@ -19,7 +19,6 @@ mod import;
 pub mod laws;
 mod lines;
 mod scan;
-mod settling;
 
 pub use all_documents::{EndedAll, GivenAll, GivenDocument, give_all, opening_command};
 pub use copy::{CopyOptions, copy_command};

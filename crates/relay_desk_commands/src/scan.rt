@@ -11,7 +11,6 @@ ghost use Rattle.relay_desk_commands.specs.Desks.{desk_at, EndsRefusal, EndsScan
 
 use crate::desk_opening::{OpenDesk, open_desk};
 use crate::lines::room_text;
-use crate::settling::{Settled, settle_desk};
 use dm_append_label::LabelFault::{Block, Border};
 use dm_append_label::{FileId, MOST_PAGE_BYTES, open_page};
 use dm_assembly_desk::{Accepted, Desk, Kind, MoveFault, ScanFault};
@@ -57,7 +56,7 @@ fn put_refused<W: Write>(
 struct Scanning<T: StoreSet, A: Allocator + Copy> {
     desk: Desk<T, A>,
     // What was held when the desk was opened is settled, if it was.
-    settled: Option<Settled>,
+    settled: Option<T::Settled>,
 }
 
 impl<T: StoreSet, A: Allocator + Copy> Scanning<T, A> {
@@ -88,7 +87,7 @@ impl<T: StoreSet, A: Allocator + Copy> Scanning<T, A> {
         if self.settled.is_some() | !Self::rests_on_held(&answer) {
             return Ok(answer);
         }
-        self.settled = Some(settle_desk(&mut self.desk)?);
+        self.settled = Some(self.desk.settle()?);
         Ok(answer)
     }
 

@@ -2,7 +2,7 @@
 use Rattle.std.proofs.Common.{◌≡◌, ℕ, false, List, None, Option, Some, Result, sym, ap, subst}
 use Rattle.dm_store.specs.Saved.{Saved, SavedSet}
 use Rattle.dm_assembly_desk.specs.{Documents.DeskView, Documents.HoldsFiles, declared.fault.MoveFault.MoveFault}
-use Rattle.dm_assembly_desk.specs.Desk.{Moves, early, at_key, at_last}
+use Rattle.dm_assembly_desk.specs.Desk.{EndsMove, early, at_key, at_last}
 use Rattle.dm_assembly_desk.specs.declared.limits.TheConstants.{MOST_CAPACITY}
 use Rattle.dm_assembly_desk.proofs.Reopening.{one_held}
 use Rattle.dm_event_history.specs.{Relay.Label, Headline.HaveLeft}
@@ -15,7 +15,7 @@ use Rattle.relay_desk_runs.proofs.Saving.{ShowsPrinted}
 
 -- nothing is moved
 pub unmoved : (old : Saved) (set : SavedSet) (result : Result ℕ MoveFault) (old_after : Saved) (set_after : SavedSet) →
-    HasNoDocuments old → Moves old set result old_after set_after → (old_after ≡ old) × (set_after ≡ set)
+    HasNoDocuments old → EndsMove old set result old_after set_after → (old_after ≡ old) × (set_after ≡ set)
 unmoved old set result old_after set_after none (early ends same_old same_set) = (same_old, same_set)
 unmoved old set result old_after set_after none (at_key held k now next fault reaches is saves same result_is) =
     absurd (none.none held (reaches.joint none.honest) reaches.some)
@@ -35,9 +35,9 @@ as_they_were old new same =
 pub unopened : (old new : DeskFiles) (capacity : ℕ) (name : List ℕ) → HasNoDocuments old.joint →
     HasNoDesk old capacity name new → AreSame old new
 unopened old new capacity name none (not_moved fault moves is) =
-    let same = unmoved _ _ _ _ _ none moves in record { joint = same.0; set = same.1 }
+    let same = unmoved _ _ _ _ _ none moves.ends in record { joint = same.0; set = same.1 }
 unopened old new capacity name none (not_opened fault moves has is) =
-    let same = unmoved _ _ _ _ _ none moves.1 in record { joint = same.0; set = same.1 }
+    let same = unmoved _ _ _ _ _ none moves.1.ends in record { joint = same.0; set = same.1 }
 
 pub still_clean : (labels : List Label) (old new : OnDesk) → HasPrinted labels old → AreSame old.files new.files →
     HasPrinted labels new
@@ -57,7 +57,7 @@ pub is_opened : (labels : List Label) (files : DeskFiles) (capacity : ℕ) (join
     HoldsPrinted labels files.set → HasNoDocuments files.joint → OpensDesk files capacity joint desk →
     IsOpened labels files.set desk × (joint ≡ files.joint)
 is_opened labels files capacity joint desk printed none o =
-    let same = unmoved _ _ _ _ _ none o.moves.1 in
+    let same = unmoved _ _ _ _ _ none o.moves.1.ends in
     let set : HoldsPrinted labels desk.saved = subst (HoldsPrinted labels) (sym same.1) printed in
     let found : HoldsFiles desk.saved.content desk.held = o.opens.found set.honest in
     let one : desk.held ≡ set.held = one_held desk.saved.content desk.held set.held found set.files in (
@@ -109,7 +109,7 @@ pub at_desk_joint : {Refuses : List ℕ → StreamsView → ℕ → StreamsView 
     new.files.joint ≡ old.files.joint
 at_desk_joint capacity old status new none (no_desk name has refuses) =
     (unopened old.files new.files capacity name none has).joint
-at_desk_joint capacity old status new none (opened desk opens rest) = (unmoved _ _ _ _ _ none opens.moves.1).0
+at_desk_joint capacity old status new none (opened desk opens rest) = (unmoved _ _ _ _ _ none opens.moves.1.ends).0
 
 pub on_id_joint : {Refuses : List ℕ → StreamsView → ℕ → StreamsView → Type 0} {Ends : ℕ → OnDesk → ℕ → OnDesk → Type 0}
     (text : List ℕ) (old : OnDesk) (status : ℕ) (new : OnDesk) →

@@ -10,7 +10,7 @@ use Rattle.relay_shared.specs.Command.{FileView, GivesNothing, refusal_name, Ref
 use Rattle.relay_shared.specs.declared.command.Refusal.{Refusal, TheVariants.Ticket, TheVariants.Memory, TheVariants.Output, TheVariants.Side, TheVariants.TooMany}
 use Rattle.dm_store.specs.Saved.{Saved}
 use Rattle.dm_print_ledger.specs.Verdicts.{Creates, create_fault_name, open_fault_name, give_fault_name, take_fault_name, PrinterOpens, GivesTicket, TakesTicket, LoadsLedger, show_verdict, print_fault_name, Prints, HasLabels, AreBeside, AreLastFree, IsLongest, are_of_one, is_behind, is_of, lacks_ticket, share_numbers, share_ticket, shown_of_none, shown_of_ticket}
-use Rattle.dm_print_ledger.specs.declared.{fault.CreateFault.CreateFault, fault.GiveFault.GiveFault, fault.GiveFault.TheVariants.NotFree, fault.OpenFault.OpenFault, fault.PrintFault.PrintFault, fault.PrintFault.TheVariants.TooLong, fault.TakeFault.TakeFault, giver.Giver.Giver, range.Range.Range}
+use Rattle.dm_print_ledger.specs.declared.{fault.CreateFault.CreateFault, fault.GiveFault.GiveFault, fault.GiveFault.TheVariants.NotFree, fault.OpenFault.OpenFault, fault.PrintFault.PrintFault, fault.PrintFault.TheVariants.TooLong, fault.TakeFault.TakeFault, fault.TakeFault.TheVariants.Old, giver.Giver.Giver, range.Range.Range}
 use Rattle.dm_size.specs.{declared.size.Size.Size, Sizes.IsSide, Sizes.side}
 use Rattle.dm_encodation.specs.declared.scheme.Scheme.{Scheme}
 use Rattle.dm_finder_frame.specs.Frame.{GridView}
@@ -193,6 +193,13 @@ pub data EndsTake (number : ℕ) (text : List ℕ) (old : OnLedger) (status : �
       new.streams.output → OnlyOutput old.streams new.streams → EndsTake number text old status new
   not_opened : (fault : OpenFault) → HasTicket text → PrinterOpens old.saved number (Err fault) → new.saved ≡ old.saved
       → RefusesOnOutput (open_fault_name fault) old.streams status new.streams → EndsTake number text old status new
+
+-- `take` tells something else than that the ticket was taken before
+abbrev pub IsNotToldOld : StreamsView → ℕ → StreamsView → Type 0
+IsNotToldOld old status new = RefusesOnOutput (refusal_name Ticket) old status new
+    ⊎ ((fault : OpenFault) × RefusesOnOutput (open_fault_name fault) old status new)
+    ⊎ ((answer : Result (Unit {0}) TakeFault) × (answer ≢ Err Old) × (left : ℕ)
+    × TellsAnswer (λ _. taken_line left) take_fault_name answer old.output status new.output)
 
 -- how `left` ends, with the store as it was: it wrote what an honest store holds, or why it can't be shown
 pub data EndsLeft (old : OnLedger) (status : ℕ) (new : OnLedger) : Type 0 where

@@ -9,7 +9,7 @@ ghost use Rattle.relay_shared.specs.Command.{PutsText, TellsAnswer, TellsRefusal
 
 use crate::lines::{put_left, put_ticket};
 use dm_print_ledger::{CreateRefused, GiveFault, OpenRefused, Printer, Range, Ticket};
-use dm_store::{Store, Unsettled};
+use dm_store::Store;
 use itoa::Buffer;
 use relay_shared::{Ended, Streams, refuse, status_after};
 use relay_streams::{Output, WriteFault};
@@ -36,16 +36,6 @@ pub(crate) fn open_printer<A: Allocator + Copy, S: Store, W: Write>(
             Err(Ended { status, store })
         }
     }
-}
-
-/// The end of a command that has loaded its ledger unsettled.
-pub(crate) fn end_of<S: Store>(ended: Ended<Unsettled<S>>) -> Ended<S>
-    ensures status { result.status ≡ ended.status }
-    ensures store { S.state result.store ≡ S.state ended.store.0 }
-{
-    let Ended { status, store } = ended;
-    let Unsettled(store) = store;
-    Ended { status, store }
 }
 
 /// Makes the ledger of the printer of a number, to which a range is free, on a store that holds nothing, and prints
@@ -114,9 +104,9 @@ pub fn give_command<A: Allocator + Copy, S: Store, R: Read, W: Write, E: Write>(
         (ledger_at (S.state result.store) streams.new) }
 {
     // As in `print`, a refusal that rests on what was loaded costs nothing.
-    match open_printer(alloc, Unsettled(store), &mut streams.output, number) {
-        Ok(printer) => end_of(give_from(printer, &mut streams.output, to, range)),
-        Err(ended) => end_of(ended),
+    match open_printer(alloc, store, &mut streams.output, number) {
+        Ok(printer) => give_from(printer, &mut streams.output, to, range),
+        Err(ended) => ended,
     }
 }
 
@@ -142,16 +132,16 @@ pub fn give_last_command<A: Allocator + Copy, S: Store, R: Read, W: Write, E: Wr
     ensures { EndsGiveLast number to count (ledger_at (S.state store) streams.old) result.status
         (ledger_at (S.state result.store) streams.new) }
 {
-    let printer = match open_printer(alloc, Unsettled(store), &mut streams.output, number) {
+    let printer = match open_printer(alloc, store, &mut streams.output, number) {
         Ok(printer) => printer,
-        Err(ended) => return end_of(ended),
+        Err(ended) => return ended,
     };
     match printer.last_free(count) {
-        Ok(range) => end_of(give_from(printer, &mut streams.output, to, range)),
+        Ok(range) => give_from(printer, &mut streams.output, to, range),
         Err(most) => {
             let status = refuse(&mut streams.output, GiveFault::NotFree.name());
             let _ = note_longest(&mut streams.errors, most);
-            let Unsettled(store) = printer.close();
+            let store = printer.close();
             Ended { status, store }
         }
     }

@@ -1,13 +1,14 @@
 //! `relay left`: what a ledger holds.
 
-ghost use Rattle.std.specs.Prelude.{◌≡◌, IsTrue};
+ghost use Rattle.std.specs.Prelude.{◌≡◌, IsOk, IsTrue};
 ghost use Rattle.std.specs.List.{All, flat_map};
 ghost use Rattle.dm_print_ledger.specs.Ledger.{is_range};
+ghost use Rattle.dm_print_ledger.specs.Verdicts.{LoadsLedger, show_verdict};
 ghost use Rattle.relay_printer_commands.specs.Printers.{free_line, shown_lines, took_line, EndsLeft, ledger_at};
 ghost use Rattle.relay_shared.specs.Command.{PutsText};
 
 use crate::lines::{put_free, put_given, put_left, put_number, put_took};
-use dm_print_ledger::{Giver, Range, Shown};
+use dm_print_ledger::{Giver, OpenFault, Range, Shown};
 use dm_store::Store;
 use relay_shared::{Ended, Streams, refuse, status_after};
 use relay_streams::{Output, WriteFault};
@@ -42,6 +43,17 @@ fn put_shown<W: Write>(output: &mut Output<W>, shown: &Shown) -> Result<(), Writ
     put_givers(output, shown.givers())
 }
 
+// What the ledger that a store holds says, settled.
+fn shown_settled<S: Store>(store: &mut S) -> Result<Shown, OpenFault>
+    ensures loads { LoadsLedger (S.state store.old) (show_verdict (S.state store.old).content) result }
+    ensures same { S.state store.new ≡ S.state store.old }
+    ensures settled { IsOk result → S.is_settled store.new }
+{
+    let shown = Shown::load(store)?;
+    store.settle()?;
+    Ok(shown)
+}
+
 /// Prints what the ledger in a store holds, a line for each fact, or the line `refused NAME`. Nothing is saved, and no
 /// memory is taken but the store's.
 pub fn left_command<S: Store, R: Read, W: Write, E: Write>(
@@ -53,7 +65,7 @@ pub fn left_command<S: Store, R: Read, W: Write, E: Write>(
     // No stop takes back what is shown.
     ensures settled { result.status ≡ 0 → S.is_settled result.store }
 {
-    match Shown::load(&mut store) {
+    match shown_settled(&mut store) {
         Ok(shown) => {
             let status = status_after(put_shown(&mut streams.output, &shown));
             Ended { status, store }

@@ -7,13 +7,13 @@ ghost use Rattle.relay_streams.specs.Streams.{TakesPart};
 ghost use Rattle.relay_printer_commands.specs.Printers.{EndsPrint, HasSide, IsChosen, LosesImages, Suits, TellsPrint, images_of, ledger_at};
 ghost use Rattle.relay_shared.specs.Command.{ReadsNothing};
 
-use crate::ledger::{end_of, open_printer};
+use crate::ledger::open_printer;
 use crate::lines::put_printed;
 use dm_encodation::Scheme;
 use dm_pbm_io::image_of;
 use dm_print_ledger::{Job, PrintFault, label_count};
 use dm_size::Size;
-use dm_store::{Store, Unsettled};
+use dm_store::Store;
 use relay_command::Labels;
 use relay_shared::{DOCUMENT_BYTES, Ended, Refusal, Streams, read_document, refuse};
 use relay_streams::Output;
@@ -126,12 +126,12 @@ pub fn print_command<A: Allocator + Copy, S: Store, R: Read, W: Write, E: Write>
         return Ended { status, store };
     };
     // What is loaded decides over no label before the next ledger is saved; a refusal that rests on it costs nothing.
-    let mut printer = match open_printer(alloc, Unsettled(store), &mut streams.errors, number) {
+    let mut printer = match open_printer(alloc, store, &mut streams.errors, number) {
         Ok(printer) => printer,
-        Err(ended) => return end_of(ended),
+        Err(ended) => return ended,
     };
     let answer = printer.print(&document, size, scheme);
     let status = tell_print(alloc, streams, answer, printer.left());
-    let Unsettled(store) = printer.close();
+    let store = printer.close();
     Ended { status, store }
 }

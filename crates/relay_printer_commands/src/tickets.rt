@@ -2,17 +2,18 @@
 //! two forms: twenty hexadecimal digits, those of its ten bytes; or the check form, 24 digits in groups of four, joined
 //! by hyphens, those of the ten bytes and of two error correction codewords.
 
-ghost use Rattle.std.specs.Prelude.{◌≡◌, ◌+◌, ◌++◌, ◌*◌, ◌<◌, ◌↔◌, ℕ, List, length, slice_index, IsTrue, MatchOption};
+ghost use Rattle.std.specs.Prelude.{◌≡◌, ◌+◌, ◌++◌, ◌*◌, ◌<◌, ◌↔◌, ◌≢◌, ◌⊎◌, ℕ, List, length, slice_index, Err, IfErr, IsOk, IsTrue, MatchOption};
 ghost use Rattle.std.specs.List.{All};
 ghost use Rattle.dm_print_ledger.specs.Ledger.{AreOfTicket, ticket_bytes};
-ghost use Rattle.relay_printer_commands.specs.Printers.{taken_line, HasTicket, IsBareText, IsCheckText, IsChecked, IsTextOf, EndsTicket, check_line, digits_in_groups, from_line, ledger_at, EndsTake};
+ghost use Rattle.relay_printer_commands.specs.Printers.{taken_line, HasTicket, IsBareText, IsCheckText, IsChecked, IsTextOf, EndsTicket, check_line, digits_in_groups, from_line, ledger_at, EndsTake, IsNotToldOld};
 ghost use Rattle.relay_shared.specs.Command.{PutsText, TellsAnswer};
-ghost use Rattle.dm_print_ledger.specs.Verdicts.{take_fault_name};
+ghost use Rattle.dm_print_ledger.specs.Verdicts.{open_fault_of, take_fault_name};
+ghost use Rattle.dm_store.specs.{Saved.MayNotSettle, declared.store.StoreFault.StoreFault};
 
 use crate::ledger::open_printer;
 use crate::lines::{put_check, put_from, put_taken};
 use dm_check_blocks::checks_of;
-use dm_print_ledger::{TakeFault, Ticket};
+use dm_print_ledger::{OpenFault, TakeFault, Ticket};
 use dm_store::Store;
 use hex::FromHex;
 use relay_shared::{Ended, Refusal, Streams, refuse, status_after};
@@ -131,6 +132,19 @@ fn tell_take<W: Write>(output: &mut Output<W>, answer: Result<(), TakeFault>, le
     }
 }
 
+// Settles what was loaded, if it is told that the ticket was taken before: then the ticket is thrown away.
+fn settle_old<S: Store>(store: &mut S, answer: Result<(), TakeFault>) -> Result<(), OpenFault>
+    ensures same { S.state store.new ≡ S.state store.old }
+    ensures fault { IfErr result (λ fault. (answer ≡ Err TakeFault.Old) × (why : StoreFault)
+        × (fault ≡ open_fault_of why) × MayNotSettle (S.state store.old) why) }
+    ensures settled { IsOk result → S.is_settled store.new ⊎ (answer ≢ Err TakeFault.Old) }
+{
+    if let Err(TakeFault::Old) = answer {
+        store.settle()?;
+    }
+    Ok(())
+}
+
 /// Takes the ticket of a text, in either form, and prints `taken left N`, how many IDs are free then, or
 /// the line `refused NAME`. The text is looked at before the store.
 pub fn take_command<A: Allocator + Copy, S: Store, R: Read, W: Write, E: Write>(
@@ -140,8 +154,10 @@ pub fn take_command<A: Allocator + Copy, S: Store, R: Read, W: Write, E: Write>(
     number: u16,
     text: &str,
 ) -> Ended<S>
-    ensures { EndsTake number text.now (ledger_at (S.state store) streams.old) result.status
+    ensures ends { EndsTake number text.now (ledger_at (S.state store) streams.old) result.status
         (ledger_at (S.state result.store) streams.new) }
+    // No stop takes back that the ticket was taken before.
+    ensures settled { S.is_settled result.store ⊎ IsNotToldOld streams.old result.status streams.new }
 {
     let Some(ticket) = ticket_of(text) else {
         let status = refuse(&mut streams.output, Refusal::Ticket.name());
@@ -152,7 +168,15 @@ pub fn take_command<A: Allocator + Copy, S: Store, R: Read, W: Write, E: Write>(
         Err(ended) => return ended,
     };
     let answer = printer.take(&ticket);
-    let status = tell_take(&mut streams.output, answer, printer.left());
-    let store = printer.close();
+    let left = printer.left();
+    let mut store = printer.close();
+    match settle_old(&mut store, answer) {
+        Ok(()) => {}
+        Err(fault) => {
+            let status = refuse(&mut streams.output, fault.name());
+            return Ended { status, store };
+        }
+    }
+    let status = tell_take(&mut streams.output, answer, left);
     Ended { status, store }
 }

@@ -5,6 +5,7 @@ use Rattle.std.specs.Prelude.{IfSome}
 use Rattle.dm_print_ledger.specs.{declared.fault.TakeFault.TakeFault, Verdicts.TakesTicket}
 use Rattle.dm_print_ledger.specs.declared.fault.TakeFault.TheVariants as take_fault
 use Rattle.dm_print_ledger.specs.Ledger.{LedgerView, PrinterView, TicketView, running}
+use Rattle.dm_print_ledger.proofs.CarryLaws.{unchanged}
 use Rattle.dm_event_history.specs.declared.{event.Event.TheVariants.Take, reply.Reply.Reply}
 use Rattle.dm_event_history.specs.Relay.{Actor, Relay, Running, stored_of}
 use Rattle.dm_event_history.proofs.Gotten.{get_more}
@@ -14,7 +15,7 @@ use Rattle.dm_event_world.proofs.PrinterEvents.{take_ends}
 use Rattle.relay_printer_commands.specs.Printers.{EndsTake, OnLedger, HasTicket, IsTextOf}
 use Rattle.relay_printer_commands.specs.Printers.EndsTake.{no_ticket, opened as was_opened, not_opened}
 use Rattle.relay_runs.specs.Runs.{if_taken, ticket_taken, EachTakeIsARun, FollowsRun, KeepsLedger, grids_of}
-use Rattle.relay_runs.proofs.{Plans.fine_printer, Plans.under_stop, Files.holds_file, Files.opened, Files.unchanged}
+use Rattle.relay_runs.proofs.{Plans.fine_printer, Plans.under_stop, Files.holds_file, Files.opened}
 use Rattle.relay_runs.proofs.{Calling.met_ended, Calling.met_reply, Calling.shows_opened, Printing.none_mapped}
 use Rattle.relay_runs.proofs.{Places.called, Places.still_within, TicketTexts.text_range, Uncalled.none_there, Uncalled.uncalled}
 

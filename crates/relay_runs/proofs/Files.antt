@@ -89,18 +89,3 @@ file_of saved actor honest file is =
       sound = ap is_sound own.1 ∙ file.sound;
       content = file.content ∙ ap (λ (l : LedgerView). Some (ledger_bytes l)) (sym own.1);
     }
-
--- a refusal that is not that of the save changes nothing
-pub unchanged : {X F may_lack : Type 0} (failed memory save : F) (verdict : Result LedgerView F) (old new : PrinterView)
-    (fault : F) → old.is_failed ≡ false → (fault ≡ save → ⊥)
-    → CarriesOut {X = X} failed memory save may_lack verdict old (Err fault) new → new ≡ old
-unchanged {X} {may_lack = may_lack} failed memory save verdict old new fault runs isnt carries = by_verdict verdict refl
-  where
-    by_saves : (next : LedgerView) → verdicts.SavesLedger {X = X} may_lack memory save next old (Err fault) new →
-        new ≡ old
-    by_saves next (inl lack) = lack.2
-    by_saves next (inr fails) = absurd (isnt fails.0)
-
-    by_verdict : (v : Result LedgerView _) → verdict ≡ v → new ≡ old
-    by_verdict (Err other) is = (carries.refused runs other is).1
-    by_verdict (Ok next) is = by_saves next (carries.saves runs next is).1

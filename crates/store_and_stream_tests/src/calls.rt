@@ -2,7 +2,7 @@
 
 use crate::scripted::Scripted;
 use dm_disk::{FileSet, FileStore, Folders, RealDisk};
-use dm_store::{Store, StoreFault, StoreSet};
+use dm_store::{Store, StoreFault, StoreSet, load_settled};
 use std::alloc::{Allocator, Global};
 use test_helpers::Refusing;
 
@@ -77,7 +77,7 @@ fn named<A: Allocator>(answer: Result<Given<A>, StoreFault>) -> &'static str {
 // The answer of any store, of any set, and over any disk: what is over those of a system is proved in more time.
 fn of_any_store<S: Store>(mut store: S, call: &Call) -> Result<Given<S::Memory>, StoreFault> {
     match call {
-        Call::Load(limit) => return Ok(Given::Bytes(store.load(*limit)?)),
+        Call::Load(limit) => return Ok(Given::Bytes(load_settled(&mut store, *limit)?)),
         _ => store.replace(b"three")?,
     }
     Ok(Given::Done)
@@ -88,7 +88,9 @@ fn of_any_set<S: StoreSet>(mut set: S, call: &Call) -> Result<Given<S::Memory>, 
         Call::LoadKey(limit) => return Ok(Given::Bytes(set.load(1, *limit)?)),
         Call::Keys(limit) => return Ok(Given::Keys(set.keys(*limit)?)),
         Call::RemoveKey => set.remove(1)?,
-        Call::Settle => set.settle()?,
+        Call::Settle => {
+            set.settle()?;
+        }
         Call::ReplaceKey(true) => {
             set.keys(9)?;
             set.replace(1, b"three")?;

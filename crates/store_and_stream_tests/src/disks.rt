@@ -2,7 +2,7 @@
 //! ways to save that are wrong.
 
 use dm_disk::{Disk, FileStore};
-use dm_store::{Kept, Store, StoreFault};
+use dm_store::{Kept, Store, StoreFault, load_settled};
 use std::alloc::{AllocError, Global};
 use test_helpers::{KeepingNames, MemDisk, Stopping};
 
@@ -47,10 +47,11 @@ fn saved(alloc: Global, passes: u32, kept: Kept) -> Result<(bool, MemDisk), Allo
     Ok((is_done, store.into_disk().into_inner()))
 }
 
-// Whether a load gives the new content, and the disk then.
+// Whether a load that is settled gives the new content, and the disk then.
 fn loaded(alloc: Global, disk: MemDisk) -> Result<(bool, MemDisk), AllocError> {
     let mut store = store_over(alloc, disk)?;
-    let is_new = matches!(store.load(9), Ok(Some(bytes)) if bytes.as_slice() == b"new".as_slice());
+    let is_new =
+        matches!(load_settled(&mut store, 9), Ok(Some(bytes)) if bytes.as_slice() == b"new".as_slice());
     Ok((is_new, store.into_disk()))
 }
 
@@ -67,7 +68,7 @@ const STOPS: &[(u32, Kept, Leaves)] = &[
     (4, Kept::Old, NEW),
 ];
 
-// A save whose machine stops at each of its calls. A load then gives what no stop takes back.
+// A save whose machine stops at each of its calls. A load that is settled then gives what no stop takes back.
 #[test]
 fn a_stop_leaves_the_old_or_the_new(rt: HostRuntime) {
     for (passes, kept, wanted) in STOPS.iter() {

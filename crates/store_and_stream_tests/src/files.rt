@@ -24,8 +24,8 @@ type Case = (Call, Text, Text, Text, usize, Text);
 
 #[rattlefmt::skip]
 const CASES: &[Case] = &[
-    // A load sees what is there before it opens it and after. It takes two bytes at a time, and then none. Then a store
-    // syncs the folder; a set does that in a call of its own.
+    // A load sees what is there before it opens it and after. It takes two bytes at a time, and then none. A store is
+    // settled with it here, which syncs the folder; for a set that is a call of its own.
     (Call::Load(9), "one", "one", "one", 9,
         "look pages/0001, open pages/0001, look, read, read, read, open above/pages/, sync"),
     (Call::LoadKey(9), "one", "one", "one", 9, "look pages/0001, open pages/0001, look, read, read, read"),

@@ -9,8 +9,8 @@ use dm_store::{FuseSet, FuseStore, Kept, MemSet, MemStore, Store, StoreSet};
 use std::process::Abort;
 use test_helpers::Refusing;
 
-// The calls of the old store, a load and a save, and of the set, the keys, their settle and two saves.
-const OLD_CALLS: u32 = 2;
+// The calls of the old store, a load, its settle and a save, and of the set, the keys, their settle and two saves.
+const OLD_CALLS: u32 = 3;
 
 const SET_CALLS: u32 = 4;
 

@@ -18,9 +18,9 @@ const SAVED: [Files; 6] =
     [[b"", THIRD], [FIRST, THIRD], [WHOLE, THIRD], [WHOLE, FULL], [WHOLE, b""], [WHOLE, THIRD]];
 
 // How many saves are kept where the set stops after 0, 1, 2 calls and so on: where the save that it stops at has left
-// the old file, and where it has left the new one. A desk is opened by three calls: the keys, a load, and the settle.
+// the old file, and where it has left the new one. A desk is opened by two calls: the keys, and a load.
 #[rattlefmt::skip]
-const STOPS: [(usize, usize); 9] = [(0, 0), (0, 0), (0, 0), (0, 1), (1, 2), (2, 3), (3, 4), (4, 5), (5, 5)];
+const STOPS: [(usize, usize); 8] = [(0, 0), (0, 0), (0, 1), (1, 2), (2, 3), (3, 4), (4, 5), (5, 5)];
 
 // The set of a desk after all calls, or after the first that was stopped.
 fn used<'a, S: StoreSet>(rt: &impl Abort, memory: &'a Memory, mut desk: Desk<S, &'a Memory>) -> S {
@@ -66,7 +66,7 @@ fn the_set_stops_at_each_call(rt: HostRuntime) {
         for (kept, saves) in [(Kept::Old, *old), (Kept::New, *new)] {
             let set = stopped(&rt, &memory, passes as u32, kept);
             assert!(rt;
-                set.spent() == (passes < 8) && saves < SAVED.len(),
+                set.spent() == (passes < 7) && saves < SAVED.len(),
                 "{passes}"
             );
             assert!(rt;

@@ -6,12 +6,12 @@ use Rattle.relay_printer_commands.proofs.ledger.give_last_command.Goals as goal
 pub returns-in-Err : goal.returns-in-Err
 returns-in-Err g c =
     let is = c.in-Err.ensures.opens in
-    rw (c.end_of.ensures.status, c.end_of.ensures.store, ← c.streams.view_is) (unopened is.0 is.1 c.in-Err.ensures.same (is.2, refl))
+    rw (← c.streams.view_is) (unopened is.0 is.1 c.in-Err.ensures.same (is.2, refl))
 
 pub returns-in-Ok-last_free : goal.returns-in-Ok-last_free
 returns-in-Ok-last_free g c =
     let was = rw c.in-Ok.ensures.opens.1 at c.give_from.ensures in
-    rw (c.end_of-in-Ok-last_free.ensures.status, c.end_of-in-Ok-last_free.ensures.store, ← c.streams.view_is) (gave c.in-Ok-last_free.range c.in-Ok.printer was.0 was.1 c.in-Ok-last_free.ensures
+    rw (← c.streams.view_is) (gave c.in-Ok-last_free.range c.in-Ok.printer was.0 was.1 c.in-Ok-last_free.ensures
     c.in-Ok.ensures.opens.0 was.2 was.3 was.4 refl)
 
 pub returns-in-Err-last_free : goal.returns-in-Err-last_free

@@ -26,7 +26,7 @@ returns-in_default-clause-ends g c =
 pub returns-in-Err-open_printer-clause-ends : goal.returns-in-Err-open_printer-clause-ends
 returns-in-Err-open_printer-clause-ends g c =
     let is = c.in-Err-open_printer.ensures.opens in
-    rw (c.end_of.ensures.status, c.end_of.ensures.store, ← c.streams.view_is) (read c.in-Some.size c.in-Ok.document.items c.read_document.new.input
+    rw (← c.streams.view_is) (read c.in-Some.size c.in-Ok.document.items c.read_document.new.input
     c.in-Ok.ensures.taken (rw c.deref.ensures.value at c.in-Some.ensures)
     (not_opened is.0 is.1 c.in-Err-open_printer.ensures.same (is.2, refl)))
 

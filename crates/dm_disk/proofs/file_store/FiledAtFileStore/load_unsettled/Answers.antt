@@ -1,4 +1,0 @@
-use Rattle.dm_disk.proofs.file_store.FiledAtFileStore.load_unsettled.Goals as goal
-
-pub returns-clause-kept : goal.returns-clause-kept
-returns-clause-kept g c = rw (← c.self.view_is) c.read.ensures.kept
