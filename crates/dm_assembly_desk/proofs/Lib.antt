@@ -21,3 +21,4 @@ pub mod AddLaws
 pub mod AddFacts
 pub mod LonePages
 pub mod StoredFiles
+pub mod HeldAfter

@@ -1,9 +1,9 @@
 //! Scanned labels, whose pages are held and saved: a scan is the import of one page.
 
-ghost use Rattle.std.specs.Prelude.{◌≡◌, ◌≤◌, length, true, false, Err};
+ghost use Rattle.std.specs.Prelude.{◌≡◌, ◌≤◌, length, true, false, Err, IfOk, IsSome};
 ghost use Rattle.dm_append_label.specs.Labels.{IsHead};
 ghost use Rattle.dm_assembly_desk.specs.Desk.{Accepts, AcceptsGrid};
-ghost use Rattle.dm_assembly_desk.specs.Documents.{KeepsPages, DeskIsInOrder};
+ghost use Rattle.dm_assembly_desk.specs.Documents.{KeepsPages, DeskIsInOrder, page_at};
 
 use crate::desk::Desk;
 use crate::fault::ScanFault;
@@ -22,6 +22,7 @@ impl<S: StoreSet, A: Allocator + Copy> Desk<S, A> {
     pub fn accept(&mut self, grid: &Grid<A>) -> Result<Accepted, ScanFault>
         ensures failed { self.old.is_failed ≡ true → (result ≡ Err ScanFault.Failed) × (self.new ≡ self.old) }
         ensures scanned { self.old.is_failed ≡ false → AcceptsGrid grid.now self.old result self.new }
+        ensures held { IfOk result (λ reply. IsSome (page_at self.new.held reply.id reply.m)) }
         ensures kept { KeepsPages self.old.held self.new.held }
         ensures before { DeskIsInOrder self.old }
         ensures after { DeskIsInOrder self.new }
@@ -36,6 +37,7 @@ impl<S: StoreSet, A: Allocator + Copy> Desk<S, A> {
     pub fn accept_lent(&mut self, grid: &LentGrid) -> Result<Accepted, ScanFault>
         ensures failed { self.old.is_failed ≡ true → (result ≡ Err ScanFault.Failed) × (self.new ≡ self.old) }
         ensures scanned { self.old.is_failed ≡ false → AcceptsGrid grid.now self.old result self.new }
+        ensures held { IfOk result (λ reply. IsSome (page_at self.new.held reply.id reply.m)) }
         ensures kept { KeepsPages self.old.held self.new.held }
         ensures before { DeskIsInOrder self.old }
         ensures after { DeskIsInOrder self.new }
@@ -57,6 +59,7 @@ impl<S: StoreSet, A: Allocator + Copy> Desk<S, A> {
         requires short { length bytes.now ≤ MOST_PAGE_BYTES }
         ensures accepts { Accepts (record { id = page.id; m = page.m; n = page.n; bytes = bytes.now })
             self.old result self.new }
+        ensures held { IfOk result (λ reply. IsSome (page_at self.new.held reply.id reply.m)) }
         ensures after { DeskIsInOrder self.new }
     {
         let FoundPage { id, m, n, .. } = page;

@@ -4,7 +4,8 @@ use Rattle.dm_append_label.specs.Labels.{PageView}
 use Rattle.dm_assembly_desk.specs.Documents.{Pages, lent_bytes, IsEntry, DeskView}
 use Rattle.dm_assembly_desk.specs.Desk.{Adds, lone}
 use Rattle.dm_assembly_desk.specs.declared.{adding.AddFault.AddFault, fault.ScanFault.ScanFault, reply.Imported.Imported}
-use Rattle.dm_assembly_desk.proofs.LonePages.{lone_lent, lone_entry}
+use Rattle.dm_assembly_desk.proofs.LonePages.{lone_lent, lone_entry, lone_here}
+use Rattle.dm_assembly_desk.proofs.HeldAfter.{held_once_accepted}
 use Rattle.dm_assembly_desk.proofs.desk.Desk.accept_page.Goals as goal
 
 -- what was added is the page alone
@@ -42,3 +43,11 @@ returns-in-Err-clause-accepts g c =
       lone_added c.number.result p c.args.bytes c.args.self.now (Err c.in-Err.fault) c.add.new.self
           c.number.ensures.same refl c.requires.head.most c.in-Err.ensures.adds,
     )
+
+pub returns-in-Ok-clause-held : goal.returns-in-Ok-clause-held
+returns-in-Ok-clause-held g c =
+    let p : PageView = record { id = c.args.page.id; m = c.args.page.m; n = c.args.page.n; bytes = c.args.bytes.now } in
+    let head = c.requires.head in
+    held_once_accepted p c.args.self.now c.in-Ok.reply c.add.new.self (lone_here p head.first head.last)
+    (lone_added c.number.result p c.args.bytes c.args.self.now (Ok c.in-Ok.reply) c.add.new.self c.number.ensures.same
+    refl head.most c.in-Ok.ensures.adds)

@@ -6,7 +6,7 @@ use Rattle.dm_store.specs.declared.store.StoreFault.TheVariants as removing
 use Rattle.dm_assembly_desk.specs.Documents.{Documents, DeskView, DeskIsInOrder}
 use Rattle.dm_assembly_desk.specs.{Desk.answer_by, Desk.SaveEnds, Desk.Forgets, declared.fault.ForgetFault.ForgetFault}
 use Rattle.dm_assembly_desk.specs.declared.fault.ForgetFault.TheVariants as forgets
-use Rattle.dm_assembly_desk.proofs.{DeskViews.desk_of, Saving.gone_ends, Saving.gone_order, Saving.refused_same}
+use Rattle.dm_assembly_desk.proofs.{HeldAfter.gone_once_forgotten, DeskViews.desk_of, Saving.gone_ends, Saving.gone_order, Saving.refused_same}
 use Rattle.dm_assembly_desk.proofs.desk.Desk.forget.Goals as goal
 
 -- a document that is held is let go, and the remove has ended so
@@ -73,3 +73,7 @@ pub returns-in-Err-Memory-clause-forgotten : goal.returns-in-Err-Memory-clause-f
 returns-in-Err-Memory-clause-forgotten g c = λ _. refused _ c.self.view_is c.number-id.result _ c.self.invariant
     c.if-self.false (search rules) c.number-id.ensures.same
     (rw c.in-Err-Memory.field-0-is at c.in-Err-Memory.ensures.removes)
+
+pub returns-in-Ok-clause-gone : goal.returns-in-Ok-clause-gone
+returns-in-Ok-clause-gone g c = λ _. gone_once_forgotten _ _ _ (done _ c.self.view_is c.number-id.result _ c.self.invariant
+    c.if-self.false (search rules) c.number-id.ensures.same _ c.remove-in-Ok.ensures.after c.in-Ok.ensures.removes)
