@@ -4,6 +4,7 @@ use relay_program_runs::needed::{
     needs_files, needs_labels_and_exports, needs_numbers, needs_ranges, needs_tickets,
 };
 use relay_program_runs::worked::worked_commands;
+use relay_program_runs::worked_lines::worked_lines;
 
 #[test]
 fn short_lists_go_well(rt: HostRuntime) {
@@ -17,4 +18,9 @@ fn short_lists_go_well(rt: HostRuntime) {
 #[test]
 fn worked_commands_deliver_what_was_printed(rt: HostRuntime) {
     assert!(rt; worked_commands(rt.alloc()).is_some());
+}
+
+#[test]
+fn worked_lines_go_well(rt: HostRuntime) {
+    assert!(rt; worked_lines(rt.alloc()));
 }

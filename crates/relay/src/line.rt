@@ -269,8 +269,8 @@ impl<I: Read + Drop, O: Write + Drop, E: Write + Drop, P: Places> System<I, O, E
         }
     }
 
-    // Does what a line says, and gives the exit status.
-    fn do_line(self, alloc: Global, line: &CommandLine<'_>) -> (u8, Self)
+    /// Does what a line says, and gives the exit status.
+    pub fn do_line(self, alloc: Global, line: &CommandLine<'_>) -> (u8, Self)
         ensures { DoesFor Global (P.known self.places) line.now
             (system_at self.standard (P.state self.places)) result.0
             (system_at result.1.standard (P.state result.1.places)) }

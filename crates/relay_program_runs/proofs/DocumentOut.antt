@@ -27,7 +27,7 @@ part_kept None out keeps = ([], tt)
 part_kept (Some w) None keeps = absurd keeps
 part_kept (Some w) (Some z) keeps = ([], append-nil z ∙ keeps)
 
-part_of : (old wrote out : Option (List ℕ)) (text : List ℕ) → AppendsPart old wrote text → IsPartOut wrote out →
+pub part_of : (old wrote out : Option (List ℕ)) (text : List ℕ) → AppendsPart old wrote text → IsPartOut wrote out →
     IsPartOut (append_known old text) out
 part_of None wrote out text part is = ([], tt)
 part_of (Some xs) None out text part is = absurd part.2
@@ -38,7 +38,7 @@ part_of (Some xs) (Some w) (Some z) text (part, (rest, is), added) (r, keeps) = 
       ∙ ap (λ (l : List ℕ). xs ++ l) (sym is),
 )
 
-all_of : (old wrote out : Option (List ℕ)) (text : List ℕ) → Appends old wrote text → Keeps wrote out → Appends old out text
+pub all_of : (old wrote out : Option (List ℕ)) (text : List ℕ) → Appends old wrote text → Keeps wrote out → Appends old out text
 all_of None wrote out text all keeps = tt
 all_of (Some xs) None out text all keeps = absurd all
 all_of (Some xs) (Some w) None text all keeps = absurd keeps
@@ -89,7 +89,7 @@ after_fault FaultNew old wanted held is = inr is
 after_fault SavesFine old wanted held is = is
 after_fault SavesOpen old wanted held is = is
 
-saved_so : (path bytes : List ℕ) (old new : PlacesView) (answer : Result (Unit {0}) StoreFault) →
+pub saved_so : (path bytes : List ℕ) (old new : PlacesView) (answer : Result (Unit {0}) StoreFault) →
     SavesNew path bytes old answer new → IsTrue (old path).joint.is_honest →
     (IsError answer × ((new path).joint.content ≡ (old path).joint.content)) ⊎ ((new path).joint.content ≡ Some bytes)
 saved_so path bytes old new answer (inl (same, inl fault)) honest =

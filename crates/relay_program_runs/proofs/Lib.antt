@@ -17,3 +17,4 @@ pub mod LinePaths
 pub mod DocumentOut
 pub mod DocumentsOut
 pub mod LinesOut
+pub mod WorkedLines

@@ -32,13 +32,13 @@ near_itself grid = record {
   words = λ b within. omega (arith, differ-self (block_of grid.size b (words_of_grid grid)));
 }
 
-near_one : {A : Type 0} (IsAmong : List ℕ → Type 0) (earlier : List (Ran A)) {one : Ran A} {grid : GridView}
+pub near_one : {A : Type 0} (IsAmong : List ℕ → Type 0) (earlier : List (Ran A)) {one : Ran A} {grid : GridView}
     (number : ℕ) → slice_get earlier number ≡ Some one → LetsOut IsAmong grid one →
     (own : GridView) × IsNear grid own × SomeRan (LetsOut IsAmong own) earlier
 near_one IsAmong earlier {one} {grid} number at out = (grid, near_itself grid, (number, one, at, out))
 
 -- it took in no grid, and no file
-takes_none : {A : Type 0} {IsAmong : List ℕ → Type 0} {earlier : List (Ran A)} {ran : Ran A} → (passed ran).scanned ≡ [] →
+pub takes_none : {A : Type 0} {IsAmong : List ℕ → Type 0} {earlier : List (Ran A)} {ran : Ran A} → (passed ran).scanned ≡ [] →
     (passed ran).imported ≡ [] → TakesPrinted IsAmong earlier ran
 takes_none {A} {IsAmong} {earlier} no_grid no_file = record {
   scans = λ among. subst (AllByRecursion (λ grid. (own : GridView) × IsNear grid own
@@ -91,7 +91,7 @@ module _ {A : Type 0} {f1 f2 f3 f4 f5 f6 f7 f8 f9 f10 f11 f12 f13 f14 t i9 i10 i
   abbrev IsAmong : List ℕ → Type 0
   IsAmong path = IsTrue true
 
-  printed : PrintedWell a2.joint (passed (ran r5)).printed o5
+  printed : PrintedWell a2.joint (passed (ran r5)).printed (Some o5)
   printed = print_done r5
 
   abbrev before_scan : List (Ran A)

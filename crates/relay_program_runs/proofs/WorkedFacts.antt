@@ -34,7 +34,7 @@ use Rattle.relay_desk_commands.specs.Desks.EndsCopyOf.{no_side as no_size, of_si
 use Rattle.relay_runs.proofs.{Files.opened as open_as, Ledgers.first_saved, TicketTexts.text_once}
 use Rattle.relay_runs.specs.Runs.{job_ended, ticket_given, ticket_taken, KeepsLedger}
 use Rattle.relay_desk_runs.specs.Answered.{file_exported, files_imported, if_imported, label_copied}
-use Rattle.relay_program_runs.specs.{Law.passed, Passed.Made, Passed.made_where}
+use Rattle.relay_program_runs.specs.{Law.IsBlank, Law.passed, Passed.Made, Passed.made_where}
 use Rattle.relay_program_runs.specs.Worked.{IsDone, two_files, given, no_files, streams_of_input}
 use Rattle.relay_program_runs.proofs.{Images.Is12, Steps.PrintsId, Steps.ran}
 
@@ -47,7 +47,7 @@ refused_one (inl told) = omega (arith, told.1)
 refused_one (inr failed) = omega (arith, failed.2)
 
 -- what was written to an output that had nothing is all that it has
-all_out : (new : Option (List ℕ)) (out text : List ℕ) → new ≡ Some out → Appends (Some []) new text → out ≡ text
+pub all_out : (new : Option (List ℕ)) (out text : List ℕ) → new ≡ Some out → Appends (Some []) new text → out ≡ text
 all_out None out text some appends = cc (some)
 all_out (Some xs) out text some appends = (let same : out ≡ xs = cc (some) in same ∙ appends)
 
@@ -77,6 +77,19 @@ made_well number range streams new (created printer creates told) =
           save_plan = saves.1.1.follows i;
         },
       )
+      | inr no_range ↦ absurd (cc (no_range.0))
+    ]
+
+pub made_keeps : {number : ℕ} {range : Range} {old : Saved} {streams : StreamsView} {new : OnLedger} → IsBlank None old →
+    EndsLedger number range (ledger_at old streams) 0 new → KeepsLedger new.saved (Running (opening number range))
+made_keeps blank (not_created fault creates told) = absurd (refused_one told.0)
+made_keeps {number} {range} {old} {new = new} blank (created printer creates told) =
+    elim (first_saved number range old new.saved (Ok printer) creates) [
+      | inl saves ↦ record {
+        honest = saves.1.1.same_honesty ∙ blank.honest;
+        sound = opening_sound number range saves.0;
+        content = saves.1.1.done refl blank.honest;
+      }
       | inr no_range ↦ absurd (cc (no_range.0))
     ]
 
@@ -125,11 +138,11 @@ labels_12 Q size scheme id n m (part ∷ parts) (grid ∷ labels) so is are = (
 )
 
 -- a print that ended well has a job, of the least ID that was free, and its labels are all that was written
-pub record PrintedWell (saved : Saved) (job : Option JobView) (out : List ℕ) : Type 0 where
+pub record PrintedWell (saved : Saved) (job : Option JobView) (out : Option (List ℕ)) : Type 0 where
   pub it : JobView
   pub job_is : job ≡ Some it
   pub id_is : (ledger : LedgerView) → KeepsLedger saved (Running ledger) → it.id ≡ least ledger.free
-  pub written : out ≡ images_of it.labels
+  pub written : Appends (Some []) out (images_of it.labels)
   pub labels : AllByRecursion (Is12 (IsIn it.labels)) it.labels
 
 made_job : (ledger : LedgerView) (size : Size) (scheme : Scheme) (document : List ℕ) (cutting : Option (List ℕ))
@@ -148,35 +161,33 @@ is_12 : (size : Size) → side size ≡ 12 → side size ≡ side Side12
 unfolding row
 is_12 size is = is
 
+pub printed_well : {saved : Saved} {number : ℕ} {input : List ℕ} (new : OnLedger)
+    (ends : EndsPrint number (OfSide 12) Ascii (ledger_at saved (streams_of_input input)) 0 new) →
+    PrintedWell saved (job_ended ends) new.streams.output.contents
+printed_well new (no_side isnt same told) = absurd (refused_one told.0)
+printed_well new (not_read fault rest suits failed same told) = absurd (refused_one told.0)
+printed_well new (too_long document rest suits is_read long same told) = absurd (refused_one told.0)
+printed_well new (was_read size document rest is_read chosen (print_not_opened fault opens same told)) =
+    absurd (refused_one told.0)
+printed_well new (was_read size document rest is_read chosen (print_opened before after (Err fault) opens prints same told)) =
+    absurd (refused_one told.0)
+printed_well {saved} {number} {input} new
+    (was_read size document rest is_read chosen (print_opened before after (Ok job) opens prints same told)) =
+    let made = made_job before.ledger size Ascii document prints.cutting job prints.made in
+    record {
+      it = job;
+      job_is = refl;
+      id_is = λ ledger keeps. made.1.id_is
+          ∙ ap (λ (v : PrinterView). least v.ledger.free) (open_as saved (Running ledger) number before keeps opens).1;
+      written = images_out job.labels _ (record (streams_of_input input) { input = rest }) new.streams told.0;
+      labels = labels_12 (IsIn job.labels) size Ascii _ _ 1 made.0 job.labels (λ grid at. at)
+          (same_size size Side12 (is_12 size chosen.suits)) made.1.labels;
+    }
+
 pub print_done : {A : Type 0} {f : Bor (List ℕ)} {number : ℕ} {x y : DeskFiles} {input o : List ℕ}
-    (r : IsDone A (Print f number (OfSide 12) Ascii) x input 0 y o) → PrintedWell x.joint (passed (ran r)).printed o
-print_done {A} {number = number} {x} {input = input} {o} r =
-    by_ends (ledger_at r.after.files.joint r.after.streams) r.output_is r.does.0.0
-  where
-    by_ends : (new : OnLedger) → new.streams.output.contents ≡ Some o →
-        (ends : EndsPrint number (OfSide 12) Ascii (ledger_at x.joint (streams_of_input input)) 0 new) →
-        PrintedWell x.joint (job_ended ends) o
-    by_ends new some (no_side side same told) = absurd (refused_one told.0)
-    by_ends new some (not_read fault rest side failed same told) = absurd (refused_one told.0)
-    by_ends new some (too_long document rest side is_read long same told) = absurd (refused_one told.0)
-    by_ends new some (was_read size document rest is_read chosen (print_not_opened fault opens same told)) =
-        absurd (refused_one told.0)
-    by_ends new some
-        (was_read size document rest is_read chosen (print_opened before after (Err fault) opens prints same told)) =
-        absurd (refused_one told.0)
-    by_ends new some
-        (was_read size document rest is_read chosen (print_opened before after (Ok job) opens prints same told)) =
-        let made = made_job before.ledger size Ascii document prints.cutting job prints.made in
-        record {
-          it = job;
-          job_is = refl;
-          id_is = λ ledger keeps. made.1.id_is
-              ∙ ap (λ (v : PrinterView). least v.ledger.free) (open_as x.joint (Running ledger) number before keeps opens).1;
-          written = all_out new.streams.output.contents o (images_of job.labels) some
-              (images_out job.labels _ (record (streams_of_input input) { input = rest }) new.streams told.0);
-          labels = labels_12 (IsIn job.labels) size Ascii _ _ 1 made.0 job.labels (λ grid at. at)
-              (same_size size Side12 (is_12 size chosen.suits)) made.1.labels;
-        }
+    (r : IsDone A (Print f number (OfSide 12) Ascii) x input 0 y o) → PrintedWell x.joint (passed (ran r)).printed (Some o)
+print_done {x} r = subst (PrintedWell x.joint (passed (ran r)).printed) r.output_is
+    (printed_well (ledger_at r.after.files.joint r.after.streams) r.does.0.0)
 
 pub prints_id : {A : Type 0} {f : Bor (List ℕ)} {number : ℕ} {x y : DeskFiles} {input o : List ℕ} {ledger : LedgerView} →
     KeepsLedger x.joint (Running ledger) → (r : IsDone A (Print f number (OfSide 12) Ascii) x input 0 y o) →
@@ -195,20 +206,22 @@ answered_next failed memory save verdict old new x runs honest carries next is =
     let does = carries.saves runs next is in
     record { honest = does.1.0.same_honesty ∙ honest; sound = does.0; content = does.1.0.done refl honest }
 
+pub given_well : {saved : Saved} {number to first last : ℕ} {input : List ℕ} {ledger : LedgerView} {new : OnLedger} →
+    KeepsLedger saved (Running ledger) →
+    (ends : EndsGive number to (range_of first last) (ledger_at saved (streams_of_input input)) 0 new) →
+    ticket_given ends ≡ Some (ticket_of ledger to (range_of first last))
+given_well keeps (give_not_opened fault opens same told) = absurd (refused_one told.0)
+given_well keeps (give_opened before after (Err fault) opens gives same told only) = absurd (refused_one told)
+given_well {saved} {number} {to} {first} {last} {ledger = ledger} keeps
+    (give_opened before after (Ok ticket) opens gives same told only) =
+    ap Some (gives.1 ∙ ap (λ (v : PrinterView). ticket_of v.ledger to (range_of first last))
+    (open_as saved (Running ledger) number before keeps opens).1)
+
 pub gave : {A : Type 0} {f : Bor (List ℕ)} {number to first last : ℕ} {x y : DeskFiles} {input o : List ℕ}
     {ledger : LedgerView} → KeepsLedger x.joint (Running ledger) →
     (r : IsDone A (Give f number to first last) x input 0 y o) →
     (passed (ran r)).given ≡ Some (ticket_of ledger to (range_of first last))
-gave {number = number} {to} {first} {last} {x} {input = input} {ledger = ledger} keeps r = by_ends r.does.0
-  where
-    by_ends : {new : OnLedger}
-        (ends : EndsGive number to (range_of first last) (ledger_at x.joint (streams_of_input input)) 0 new) →
-        ticket_given ends ≡ Some (ticket_of ledger to (range_of first last))
-    by_ends (give_not_opened fault opens same told) = absurd (refused_one told.0)
-    by_ends (give_opened before after (Err fault) opens gives same told only) = absurd (refused_one told)
-    by_ends (give_opened before after (Ok ticket) opens gives same told only) =
-        ap Some (gives.1 ∙ ap (λ (v : PrinterView). ticket_of v.ledger to (range_of first last))
-        (open_as x.joint (Running ledger) number before keeps opens).1)
+gave keeps r = given_well keeps r.does.0
 
 -- the ledger after a ticket was taken
 abbrev pub with_ticket : LedgerView → TicketView → LedgerView
@@ -221,30 +234,33 @@ with_ticket ledger ticket = record ledger {
 abbrev pub Took : Option TicketView → TicketView → Saved → LedgerView → Type 0
 Took taken ticket saved ledger = (taken ≡ Some ticket) × KeepsLedger saved (Running (with_ticket ledger ticket))
 
+module _ {saved : Saved} {text input : List ℕ} {number : ℕ} {ledger : LedgerView} (ticket : TicketView)
+    (is : IsTextOf text ticket) (verdict : take_verdict ledger ticket ≡ Ok (with_ticket ledger ticket))
+    (keeps : KeepsLedger saved (Running ledger)) where
+  pub took_well : {new : OnLedger} (ends : EndsTake number text (ledger_at saved (streams_of_input input)) 0 new) →
+      Took (ticket_taken ends) ticket new.saved ledger
+  took_well (no_ticket has same told) = absurd (refused_one told.0)
+  took_well (take_not_opened fault has opens same told) = absurd (refused_one told.0)
+  took_well (take_opened other before after (Err fault) has is_other opens takes same told only) =
+      absurd (refused_one told)
+  took_well (take_opened other before after (Ok done) has is_other opens takes same told only) =
+      let one : other ≡ ticket = text_once text other ticket is_other is in (
+        ap Some one,
+        subst (λ (s : Saved). KeepsLedger s (Running (with_ticket ledger ticket))) (sym same)
+            (answered_next take_fault.Failed take_fault.Memory take_fault.Save (take_verdict ledger ticket)
+            (running saved ledger) after done refl keeps.honest
+            (subst (λ (u : TicketView). TakesTicket (running saved ledger) u (Ok done) after) one
+            (subst (λ (v : PrinterView). TakesTicket v other (Ok done) after)
+            (open_as saved (Running ledger) number before keeps opens).1 takes)) (with_ticket ledger ticket) verdict),
+      )
+
 pub took : {A : Type 0} {f t : Bor (List ℕ)} {number : ℕ} {x y : DeskFiles} {input o : List ℕ} {ledger : LedgerView}
     (ticket : TicketView) → IsTextOf t.now ticket → take_verdict ledger ticket ≡ Ok (with_ticket ledger ticket) →
     KeepsLedger x.joint (Running ledger) → (r : IsDone A (Take f number t) x input 0 y o) →
     Took (passed (ran r)).taken ticket y.joint ledger
-took {t = t} {number} {x} {y} {input} {ledger = ledger} ticket is verdict keeps r =
-    let well = by_ends r.does.0 in
+took {ledger = ledger} ticket is verdict keeps r =
+    let well = took_well ticket is verdict keeps r.does.0 in
     (well.0, subst (λ (d : DeskFiles). KeepsLedger d.joint (Running (with_ticket ledger ticket))) r.files_are well.1)
-  where
-    by_ends : {new : OnLedger} (ends : EndsTake number t.now (ledger_at x.joint (streams_of_input input)) 0 new) →
-        Took (ticket_taken ends) ticket new.saved ledger
-    by_ends (no_ticket has same told) = absurd (refused_one told.0)
-    by_ends (take_not_opened fault has opens same told) = absurd (refused_one told.0)
-    by_ends (take_opened other before after (Err fault) has is_other opens takes same told only) =
-        absurd (refused_one told)
-    by_ends (take_opened other before after (Ok done) has is_other opens takes same told only) =
-        let one : other ≡ ticket = text_once t.now other ticket is_other is in (
-          ap Some one,
-          subst (λ (s : Saved). KeepsLedger s (Running (with_ticket ledger ticket))) (sym same)
-              (answered_next take_fault.Failed take_fault.Memory take_fault.Save (take_verdict ledger ticket)
-              (running x.joint ledger) after done refl keeps.honest
-              (subst (λ (u : TicketView). TakesTicket (running x.joint ledger) u (Ok done) after) one
-              (subst (λ (v : PrinterView). TakesTicket v other (Ok done) after)
-              (open_as x.joint (Running ledger) number before keeps opens).1 takes)) (with_ticket ledger ticket) verdict),
-        )
 
 -- ---- `export` and `import`
 

@@ -5,3 +5,4 @@ pub mod Worked
 pub mod Lines
 pub mod InTurn
 pub mod Where
+pub mod WorkedLines

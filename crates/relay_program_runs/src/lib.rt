@@ -5,3 +5,4 @@
 pub mod laws;
 pub mod needed;
 pub mod worked;
+pub mod worked_lines;
