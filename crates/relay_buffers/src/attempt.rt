@@ -46,13 +46,9 @@ pub fn write_some<W: Write>(writer: &mut W, text: &[u8]) -> Result<usize, Refusa
                 return Err(Refusal { error });
             }
             Ok(count) => return Ok(count),
-            Err(error) => {
-                if error.kind() != ErrorKind::Interrupted {
-                    return Err(Refusal { error });
-                }
-            }
+            Err(error) if error.kind() == ErrorKind::Interrupted => tries += 1,
+            Err(error) => return Err(Refusal { error }),
         }
-        tries += 1;
     }
     Err(interrupted_always(tries))
 }

@@ -1,10 +1,12 @@
 //! What a reader or a writer refuses.
 
-ghost use Rattle.std.specs.Prelude.{◌≡◌};
+ghost use Rattle.std.specs.Prelude.{◌≡◌, ◌≢◌, ◌≤◌, ◌+◌, ◌^◌};
+ghost use Rattle.std.specs.IoError.{error_kind};
 ghost use Rattle.relay_streams.specs.Streams.{read_fault_name, input_fault_name, write_fault_name};
 ghost use Rattle.relay_streams.specs.declared.fault.InputFault.TheVariants as input_faults;
 
 use std::alloc::AllocError;
+use std::io::{self, ErrorKind};
 use thiserror::Error;
 
 /// Why no byte was read.
@@ -82,4 +84,12 @@ impl WriteFault {
             WriteFault::Write => "Write",
         }
     }
+}
+
+// What a call fails with that signals have interrupted so many times. It is given up after no fewer.
+pub(crate) fn interrupted_always(_tries: u64) -> io::Error
+    requires { 2 ^ 64 ≤ _tries + 1 }
+    ensures { error_kind result ≢ ErrorKind.Interrupted }
+{
+    io::Error::from(ErrorKind::TimedOut)
 }

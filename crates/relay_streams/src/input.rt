@@ -6,9 +6,9 @@ ghost use Rattle.std.specs.Io.{ReadsAtMost};
 ghost use Rattle.std.specs.Io.KnownBytes.{Keeps, ReadConsumes};
 ghost use Rattle.relay_streams.specs.Streams.{Fills, GivesNext, TakesFewer, TakesFirst, TakesPart, InputView, ReadsFirst};
 
-use crate::fault::{InputFault, ReadFault};
+use crate::fault::{InputFault, ReadFault, interrupted_always};
 use std::alloc::Allocator;
-use std::io::{self, Error, ErrorKind, Read};
+use std::io::{self, ErrorKind, Read};
 use std::marker::Model;
 
 /// A reader, and whether a read has failed.
@@ -31,17 +31,14 @@ fn read_some<R: Read>(reader: &mut R, buffer: &mut [u8]) -> io::Result<usize>
     ensures bytes { ReadConsumes (R.remaining reader.old) (R.remaining reader.new) result buffer.new }
     ensures retried { IfErr result (λ error. error_kind error ≢ ErrorKind.Interrupted) }
 {
-    for _ in 0..u64::MAX {
+    let mut tries = 0;
+    while tries < u64::MAX {
         match reader.read(buffer) {
-            Ok(count) => return Ok(count),
-            Err(error) => {
-                if error.kind() != ErrorKind::Interrupted {
-                    return Err(error);
-                }
-            }
+            Err(error) if error.kind() == ErrorKind::Interrupted => tries += 1,
+            ended => return ended,
         }
     }
-    Err(Error::from(ErrorKind::Other))
+    Err(interrupted_always(tries))
 }
 
 // Reads some bytes, with this crate's fault.
@@ -49,10 +46,7 @@ fn read_piece<R: Read>(reader: &mut R, buffer: &mut [u8]) -> Result<usize, ReadF
     ensures bound { ReadsAtMost result buffer.new }
     ensures bytes { ReadConsumes (R.remaining reader.old) (R.remaining reader.new) result buffer.new }
 {
-    match read_some(reader, buffer) {
-        Ok(count) => Ok(count),
-        Err(_) => Err(ReadFault::Read),
-    }
+    read_some(reader, buffer).or(Err(ReadFault::Read))
 }
 
 /// The next byte of any reader, or `None` at its end. A read that a signal interrupts is made again. Of a bare reader

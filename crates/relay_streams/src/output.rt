@@ -1,13 +1,14 @@
 //! Writers that remember whether a write has failed.
 
-ghost use Rattle.std.specs.Prelude.{◌<◌, length, IfOk, OnOk, ◌≡◌, true, false, OnErr};
+ghost use Rattle.std.specs.IoError.{error_kind};
+ghost use Rattle.std.specs.Prelude.{◌<◌, ◌≢◌, length, IfErr, IfOk, OnOk, ◌≡◌, true, false, OnErr};
 ghost use Rattle.std.specs.Io.{WritesAtMost};
 ghost use Rattle.std.specs.Io.KnownBytes.{Appends, WriteAppends};
 ghost use Rattle.relay_streams.specs.Streams.{AppendsPart, OutputView, refused_line, StaysFailed};
 ghost use Rattle.std.specs.List.{flat_map};
 
-use crate::fault::WriteFault;
-use std::io::{ErrorKind, Write};
+use crate::fault::{WriteFault, interrupted_always};
+use std::io::{self, Error, ErrorKind, Write};
 use std::marker::Model;
 
 /// A writer, and whether a write has failed.
@@ -25,23 +26,21 @@ impl<W: Write> Model for Output<W> {
 
 // Writes some bytes of a text, at least one if it has any. A write that a signal interrupts is made again, and one that
 // takes no byte has failed.
-fn write_some<W: Write>(writer: &mut W, text: &[u8]) -> Result<usize, WriteFault>
+fn write_some<W: Write>(writer: &mut W, text: &[u8]) -> io::Result<usize>
     ensures bound { WritesAtMost result text.now }
     ensures some { IfOk result (λ count. 0 < count) }
     ensures bytes { WriteAppends (W.contents writer.old) (W.contents writer.new) result text.now }
+    ensures retried { IfErr result (λ error. error_kind error ≢ ErrorKind.Interrupted) }
 {
-    for _ in 0..u64::MAX {
+    let mut tries = 0;
+    while tries < u64::MAX {
         match writer.write(text) {
-            Ok(0) => return Err(WriteFault::Write),
-            Ok(count) => return Ok(count),
-            Err(error) => {
-                if error.kind() != ErrorKind::Interrupted {
-                    return Err(WriteFault::Write);
-                }
-            }
+            Ok(0) => return Err(Error::from(ErrorKind::WriteZero)),
+            Err(error) if error.kind() == ErrorKind::Interrupted => tries += 1,
+            ended => return ended,
         }
     }
-    Err(WriteFault::Write)
+    Err(interrupted_always(tries))
 }
 
 /// Writes the whole text to any writer, in as many writes as it takes. Of a bare writer no contract says that a write
@@ -55,7 +54,9 @@ pub fn put_to<W: Write>(writer: &mut W, text: &[u8]) -> Result<(), WriteFault>
 {
     let mut rest = text;
     while !rest.is_empty() {
-        let count = write_some(writer, rest)?;
+        let Ok(count) = write_some(writer, rest) else {
+            return Err(WriteFault::Write);
+        };
         rest = &rest[count..];
     }
     Ok(())

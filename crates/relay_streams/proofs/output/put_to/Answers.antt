@@ -13,9 +13,9 @@ pub loop-rest-preserved : goal.loop-rest-preserved
 loop-rest-preserved g c =
     let so_far = c.loop-rest.invariant in
     let rest = c.loop-rest.rest.now in
-    let n = c.in_ok-count.count in
+    let n = c.in-Ok.count in
     record {
       done = so_far.done ++ take n rest;
       split = moves_front _ so_far.done rest n so_far.split;
-      appended = Appends-trans _ _ _ _ _ so_far.appended c.in_ok-count.ensures.bytes;
+      appended = Appends-trans _ _ _ _ _ so_far.appended c.in-Ok.ensures.bytes;
     }
