@@ -1,18 +1,12 @@
 -- Paths that begin or end with others.
-use Rattle.std.proofs.Common.{◌≡◌, ◌∙◌, ◌++◌, ◌-◌, List, ℕ, length, take, drop, ap, sym, append_assoc}
+use Rattle.std.proofs.Common.{◌≡◌, ◌∙◌, ◌++◌, List, ℕ, drop, ap, sym, append_assoc}
 use Rattle.std.specs.Prelude.{codes}
-use Rattle.std.specs.Str.Pattern.{FindsTextPrefix, FindsTextSuffix, HasPrefixMatch, HasSuffixMatch, StripsPrefix}
-use Rattle.relay_places.specs.Places.{IsDraftOf, IsInFolder}
+use Rattle.std.specs.Str.Pattern.{FindsTextPrefix, HasPrefixMatch, StripsPrefix}
+use Rattle.relay_places.specs.Places.{IsInFolder}
 
 -- what is left of a text without its start
 pub strips : (start whole rest : List ℕ) → StripsPrefix (FindsTextPrefix start) whole rest → whole ≡ start ++ rest
 strips start whole rest is = is.1.1 ∙ ap (λ r. start ++ r) (sym is.2)
-
-pub ends_as_draft : (file name rest : List ℕ) → name ≡ file ++ rest
-    → HasSuffixMatch (FindsTextSuffix (codes ".new")) rest → IsDraftOf file name
-ends_as_draft file name rest is ends =
-    let number = take (length rest - ends.0) rest in
-    (number, is ∙ ap (λ r. file ++ r) ends.1.1 ∙ sym (append_assoc file number (codes ".new")))
 
 pub begins_in_folder : (folder name rest : List ℕ) → name ≡ folder ++ rest
     → HasPrefixMatch (FindsTextPrefix (codes "/")) rest → IsInFolder folder name

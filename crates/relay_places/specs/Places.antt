@@ -1,6 +1,6 @@
 -- What is at the paths of a line, and where the files of a command are.
 use Rattle.std.specs.Prelude.{◌≡◌, ℕ, ◌++◌, List, [], ◌∷◌, Bool, true, false, None, Some, not, if◌then◌else◌, IsTrue, IsFalse, codes, string_bytes, ◌≢◌, ◌⊎◌, Result, Ok, Err, MatchResult}
-use Rattle.std.specs.{Str.bytes_eq, FinMap.empty}
+use Rattle.std.specs.{Str.bytes_eq, FinMap.empty, Fmt.decimal}
 use Rattle.relay_shared.specs.Files.{DeskFiles}
 use Rattle.dm_disk.specs.Disk.{draft_of, path_in, saved_under, set_in, unclaimed}
 use Rattle.dm_store.specs.{Saved.Replaces, Saved.Saved, Saved.SavedSet, Saved.in_memory, declared.store.StoreFault.StoreFault, declared.mem_store.NextSave.TheVariants.Fine}
@@ -53,9 +53,12 @@ pub record IsPlaced (place : Place) : Type 0 where
   pub draft : string_bytes place.draft ≡ draft_of (string_bytes place.file)
   pub lock : IsLockOf place (string_bytes place.lock)
 
--- a path is that of a draft of a file: the file's own, perhaps a number, and `.new`
+abbrev pub numbered_draft : List ℕ → ℕ → List ℕ
+numbered_draft file number = file ++ (46 ∷ (decimal number ++ codes ".new"))
+
+-- a path is that of a draft of a file, without a number or with one
 abbrev pub IsDraftOf : List ℕ → List ℕ → Type 0
-IsDraftOf file name = (number : List ℕ) × (name ≡ file ++ number ++ codes ".new")
+IsDraftOf file name = (name ≡ draft_of file) ⊎ ((number : ℕ) × (name ≡ numbered_draft file number))
 
 -- a path leads into a folder
 abbrev pub IsInFolder : List ℕ → List ℕ → Type 0

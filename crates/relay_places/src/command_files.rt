@@ -1,6 +1,6 @@
 //! The files of a command, which are locked at their first load if it may save.
 
-ghost use Rattle.std.specs.Prelude.{◌≡◌, IfOk, MatchResult, string_bytes};
+ghost use Rattle.std.specs.Prelude.{◌≡◌, IfOk, IsTrue, MatchResult, string_bytes};
 ghost use Rattle.relay_places.specs.Places.{Enters, Guards, locks};
 
 use crate::guarded::remove_draft;
@@ -8,7 +8,7 @@ use crate::lock::{Held, Lock, LockFault};
 use crate::new_place::obstacle_at;
 use crate::note::Note;
 use crate::notes::{note_of_draft, note_of_error, note_of_many};
-use crate::place::{Access, Place};
+use crate::place::{Access, Place, numbered_draft};
 use crate::reason::Reason;
 use dm_disk::{MOST_DRAFTS, draft_path};
 use dm_store::StoreFault;
@@ -59,6 +59,18 @@ fn locks_files(access: Access, found: Found) -> bool
     }
 }
 
+// Whether a command has come to its files at this place: what is to be locked for it is.
+fn has_entered(place: &Place, entered: &Entered) -> bool
+    ensures { IsTrue result → Enters place.now entered.now }
+{
+    let locks = locks_files(place.access, entered.found);
+    match &entered.lock {
+        Ok(lock) => locks && lock.path == place.lock,
+        Err(NoLock::Unneeded) => !locks,
+        Err(NoLock::NoFolder) => !entered.found.is_any,
+    }
+}
+
 // Whether something is at a path, as far as that can be found out.
 fn may_be_there(rt: &HostRuntime, path: &str) -> bool {
     let found = rt.symlink_metadata(path);
@@ -91,8 +103,8 @@ fn has_second_name(rt: &HostRuntime, place: &Place, file: &Metadata) -> bool {
 fn remove_own_drafts(rt: &HostRuntime, place: &Place, lock: &Lock, file: &Metadata) {
     for number in 1..=MOST_DRAFTS {
         if is_own_draft(rt, place, number, file)
-            && let Ok(draft) = draft_path(place.file.as_str(), number)
-            && lock.guards(place, draft.as_str())
+            && let Ok(draft) = numbered_draft(rt.alloc(), place.file.as_str(), number)
+            && place.is_locked_by(lock.path.as_str())
         {
             remove_draft(rt, place, lock, draft.as_str());
         }
@@ -243,14 +255,16 @@ impl<'a> CommandFiles<'a> {
     }
 
     /// Whether the command may load what is at a path.
-    pub(crate) fn may_load(&self, path: &str) -> Result<&Entered, StoreFault> {
+    pub(crate) fn may_load(&self, path: &str) -> Result<&Entered, StoreFault>
+        ensures { IfOk result (λ entered. Enters self.now.place entered.now) }
+    {
         if self.entered.get().is_none() {
             let _ = self.entered.set(self.enter());
         }
         let entered = match self.entered.get() {
-            Some(Ok(entered)) => entered,
+            Some(Ok(entered)) if has_entered(&self.place, entered) => entered,
             Some(Err(reason)) => return Err(self.refuse(*reason)),
-            None => return Err(self.refuse(Reason::NotLocked)),
+            _ => return Err(self.refuse(Reason::NotLocked)),
         };
         let folder = self.place.folder.as_str();
         match &self.place.folder_fault {
@@ -266,12 +280,12 @@ impl<'a> CommandFiles<'a> {
         ensures { IfOk result (λ lock. Guards self.now.place lock.path.now path.now) }
     {
         let lock = match self.entered.get() {
-            Some(Ok(Entered { lock: Ok(lock), .. })) if lock.guards(&self.place, path) => lock,
+            Some(Ok(Entered { lock: Ok(lock), .. })) if self.place.has(path) => lock,
             _ => return Err(self.refuse(Reason::NotLocked)),
         };
         match lock.look(self.rt) {
-            Some(held) => Ok(held),
-            None => Err(self.refuse(Reason::LostLock)),
+            Some(held) if self.place.is_locked_by(held.path) => Ok(held),
+            _ => Err(self.refuse(Reason::LostLock)),
         }
     }
 

@@ -3,7 +3,7 @@
 ghost use Rattle.std.specs.Prelude.{◌≡◌, ◌+◌, IfOk, IsErrOf, IsTrue, string_bytes, take};
 ghost use Rattle.std.specs.FinMap as map;
 ghost use Rattle.dm_disk.specs.Disk.{KeepsAll, ReadsFile, Removes, Renames, SettlesFolder, Syncs, SyncsEntry, WritesFile, contents_in};
-ghost use Rattle.relay_places.specs.Places.{Guards};
+ghost use Rattle.relay_places.specs.Places.{Enters, Guards};
 
 use crate::command_files::Entered;
 use crate::lock::{Held, Lock};
@@ -89,7 +89,10 @@ impl<D: Folders> Guarded<D> {
 // What reads a file, or syncs it.
 #[rattlefmt::skip]
 impl<D: Disk> Guarded<D> {
-    pub(crate) fn read(&mut self, _entered: &Entered, name: &str, limit: usize) -> Result<Option<Vec<u8, D::Memory>>, StoreFault>
+    pub(crate) fn read(
+        &mut self, place: &Place, entered: &Entered, name: &str, limit: usize,
+    ) -> Result<Option<Vec<u8, D::Memory>>, StoreFault>
+        requires { Enters place.now entered.now }
         ensures honesty { (D.state self.new.disk).is_honest ≡ (D.state self.old.disk).is_honest }
         ensures kept { KeepsAll (D.state self.old.disk) (D.state self.new.disk) }
         ensures reads { IsTrue (D.state self.old.disk).is_honest
@@ -125,7 +128,10 @@ impl<D: Disk> Guarded<D> {
 
 #[rattlefmt::skip]
 impl<D: Folders> Guarded<D> {
-    pub(crate) fn keys(&mut self, _entered: &Entered, folder: &str, limit: usize) -> Result<Vec<u16, D::Memory>, StoreFault>
+    pub(crate) fn keys(
+        &mut self, place: &Place, entered: &Entered, folder: &str, limit: usize,
+    ) -> Result<Vec<u16, D::Memory>, StoreFault>
+        requires { Enters place.now entered.now }
         ensures honesty { (D.state self.new.disk).is_honest ≡ (D.state self.old.disk).is_honest }
         ensures kept { KeepsAll (D.state self.old.disk) (D.state self.new.disk) }
         ensures lists { IsTrue (D.state self.old.disk).is_honest → IfOk result (λ keys.

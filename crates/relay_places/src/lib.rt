@@ -12,8 +12,9 @@
 //! makes, writes, renames or removes a file takes the lock that guards it: the one beside this ledger, or beside this
 //! desk's folder (`Guards` of `specs/Places.antt`). By its type this command took that lock, and looked at it before
 //! that call; but drafts that a stop has left a file as names are removed right after the lock was taken. Whether a
-//! command locks depends on what it does, and on what it finds there (`locks`, `Enters`). That `flock` keeps others out
-//! is trusted. What is found, and what the look says, is in no clause.
+//! command locks depends on what it does, and on what it finds there (`locks`). Each call that loads a file or lists a
+//! folder comes after that: it takes what was found, and the lock, if there is to be one (`Enters`). That `flock` keeps
+//! others out is trusted. What is found, and what the look says, is in no clause.
 #![tactic(auto)]
 
 mod command_files;

@@ -42,9 +42,9 @@ const NOTHING_DONE: Done = Done {
 /// The system's disk, which asks for the lock of a command's files.
 pub(crate) type LockedDisk<'a> = Locked<'a, SystemDisk<'a>>;
 
-impl<'a, D: Drop> Locked<'a, D> {
+impl<'a> LockedDisk<'a> {
     // A disk of a command's files.
-    fn new(files: &Rc<CommandFiles<'a>>, disk: D) -> Result<Locked<'a, D>, AllocError> {
+    fn new(files: &Rc<CommandFiles<'a>>, disk: SystemDisk<'a>) -> Result<Self, AllocError> {
         Ok(Locked {
             within: Guarded::new(disk),
             done: NOTHING_DONE,
@@ -94,7 +94,7 @@ impl<D: Disk + KeepsError> Disk for Locked<'_, D> {
     fn read(&mut self, name: &str, limit: usize) -> Result<Option<Vec<u8, D::Memory>>, StoreFault> {
         let entered = self.files.may_load(name)?;
         self.done.loaded = String::from_str(self.files.rt.alloc(), name).ok();
-        let read = self.within.read(entered, name, limit);
+        let read = self.within.read(&self.files.place, entered, name, limit);
         self.told(name, read)
     }
 
@@ -110,13 +110,13 @@ impl<D: Disk + KeepsError> Disk for Locked<'_, D> {
     }
 
     fn rename(&mut self, from: &str, to: &str) -> Result<(), StoreFault> {
-        let lock = self.files.may_save(to)?;
-        if !self.files.place.has(from) {
+        let files = &*self.files;
+        let lock = files.may_save(to)?;
+        if !files.place.has(from) {
             return Err(StoreFault::Device);
         }
-        let renamed = self.within.rename(&self.files.place, lock, from, to);
-        self.files
-            .look_at_new(renamed.is_ok(), self.within.other_drafts());
+        let renamed = self.within.rename(&files.place, lock, from, to);
+        files.look_at_new(renamed.is_ok(), self.within.other_drafts());
         self.told(to, renamed)
     }
 
@@ -148,7 +148,7 @@ impl<D: Folders + KeepsError> Folders for Locked<'_, D> {
 
     fn keys(&mut self, folder: &str, limit: usize) -> Result<Vec<u16, D::Memory>, StoreFault> {
         let entered = self.files.may_load(folder)?;
-        let keys = self.within.keys(entered, folder, limit);
+        let keys = self.within.keys(&self.files.place, entered, folder, limit);
         self.done.has_no_list = matches!(&keys, Err(StoreFault::Device));
         if let Ok(keys) = &keys {
             self.files.look_at_count(keys.len(), limit);

@@ -33,12 +33,11 @@ fn take(kept: &mut [MemPlace], alloc: Global, path: &str) -> (MemStore, MemSet)
     ensures given { files_of result.0 result.1 ≡ kept_at kept.old path.now }
     ensures others { KeepsOthers path.now (kept_at kept.old) (kept_at kept.new) }
 {
-    let nothing = (MemStore::new(alloc), MemSet::new(alloc));
     let Some((first, rest)) = kept.split_first_mut() else {
-        return nothing;
+        return (MemStore::new(alloc), MemSet::new(alloc));
     };
     if first.path.as_str() == path {
-        return mem::replace(&mut first.files, nothing);
+        return mem::replace(&mut first.files, (MemStore::new(alloc), MemSet::new(alloc)));
     }
     take(rest, alloc, path)
 }

@@ -1,7 +1,7 @@
 //! The files that a command names, and where they are.
 
 ghost use Rattle.std.specs.Prelude.{◌≡◌, ◌++◌, if◌then◌else◌, IfOk, IsTrue, string_bytes};
-ghost use Rattle.relay_places.specs.Places.{IsDraftOf, IsInFolder, IsLockOf, IsOwn, IsPlaced};
+ghost use Rattle.relay_places.specs.Places.{IsInFolder, IsLockOf, IsOwn, IsPlaced, numbered_draft};
 
 use std::alloc::{AllocError, Global};
 use std::io::{self, ErrorKind};
@@ -70,14 +70,21 @@ fn locked_path<'a>(is_desk: bool, file: &'a str, folder: &'a str) -> &'a str
     if is_desk { folder } else { file }
 }
 
-// Whether a path is that of a draft of a file.
-fn is_draft_of(name: &str, file: &str) -> bool
-    ensures { IsTrue result → IsDraftOf file.now name.now }
+// Whether a path is another, and this ending behind it.
+fn is_beside(path: &str, other: &str, ending: &str) -> bool
+    ensures { IsTrue result → path.now ≡ other.now ++ ending.now }
 {
-    match name.strip_prefix(file) {
-        Some(ending) => ending.ends_with(".new"),
+    match path.strip_suffix(ending) {
+        Some(before) => before == other,
         None => false,
     }
+}
+
+/// The path of the draft of a file that has this number.
+pub(crate) fn numbered_draft(alloc: Global, file: &str, number: u8) -> Result<String, AllocError>
+    ensures { IfOk result (λ draft. string_bytes draft ≡ numbered_draft file.now number) }
+{
+    format!(in alloc; "{file}.{number}.new")
 }
 
 // Whether a path leads into a folder.
@@ -135,14 +142,11 @@ impl Place {
         ensures { IsTrue result → IsLockOf self.now path.now }
     {
         let locked = locked_path(self.is_desk, self.file.as_str(), self.folder.as_str());
-        match path.strip_suffix(".lock") {
-            Some(beside) => beside == locked,
-            None => false,
-        }
+        is_beside(path, locked, ".lock")
     }
 
-    /// Whether a path is that of the ledger or the joint file, of a draft of it, or of what is in a desk's folder, or of
-    /// that.
+    /// Whether a path is that of the ledger or the joint file, of its draft without a number, of what is in a desk's
+    /// folder, or of that.
     pub(crate) fn has(&self, name: &str) -> bool
         ensures { IsTrue result → IsOwn self.now name.now }
     {
@@ -150,6 +154,6 @@ impl Place {
         if self.is_desk && (name == folder || is_in_folder(name, folder)) {
             return true;
         }
-        name == file || is_draft_of(name, file)
+        name == file || is_beside(name, file, ".new")
     }
 }
