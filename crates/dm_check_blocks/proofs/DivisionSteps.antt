@@ -65,8 +65,8 @@ pub zeros_after : (m : ℕ) (ys : List ℕ) (n k : ℕ) → length ys ≡ n → 
 zeros_after m ys n k e h = grind (arith, get_or-append_right, get_or-drop, zeros_at)
 
 -- each row of a blank table is blank
-pub blank_row : (f : ℕ) → f < 16 → let blank : List ℕ = replicate 80 0 in row_at (replicate 16 blank) f ≡ blank
-blank_row f h = get_or-replicate 16 f (replicate 80 0) [] h
+pub blank_row : (n f : ℕ) → f < 16 → let blank : List ℕ = replicate n 0 in row_at (replicate 16 blank) f ≡ blank
+blank_row n f h = get_or-replicate 16 f (replicate n 0) [] h
 
 -- a row that is zero after its first places is those places and zeros
 padded : (row : List ℕ) (c n k : ℕ) → c ≤ length row → ((j : ℕ) → c ≤ j → get_or row j 0 ≡ 0) →
@@ -92,34 +92,34 @@ shifted_value g n x h l z =
 
 -- One step: the codeword f is taken off, and f times the row is added to the codewords after it. At a root of the
 -- generator polynomial the value is kept.
-pub row_step : (f : ℕ) (rest ys row : List ℕ) (c n x : ℕ) → length ys ≡ 80 → length row ≡ 80 → c ≤ 80 → c ≤ n →
-    n ≤ length rest → 80 ≤ length rest → x < 256 → value (1 ∷ take c row) x ≡ 0 →
+pub row_step : (f : ℕ) (rest ys row : List ℕ) (w c n x : ℕ) → length ys ≡ w → c ≤ length row → c ≤ w → c ≤ n →
+    n ≤ length rest → w ≤ length rest → x < 256 → value (1 ∷ take c row) x ≡ 0 →
     ((k : ℕ) → c ≤ k → get_or row k 0 ≡ 0) →
-    ((k : ℕ) → k < 80 → get_or ys k 0 ≡ bit_xor (get_or rest k 0) (product f (get_or row k 0))) →
-    value (take n (ys ++ drop 80 rest)) x ≡ value (f ∷ take n rest) x
+    ((k : ℕ) → k < w → get_or ys k 0 ≡ bit_xor (get_or rest k 0) (product f (get_or row k 0))) →
+    value (take n (ys ++ drop w rest)) x ≡ value (f ∷ take n rest) x
 unfolding value
-row_step f rest ys row c n x ly lr few some fits room h root zeros sums =
+row_step f rest ys row w c n x ly lr few some fits room h root zeros sums =
     let g = take c row in
     let shifted : List ℕ = g ++ replicate (n - length g) 0 in
     let first : length g ≡ c = simp length-take (omega arith) in
     let taken : length (take n rest) ≡ n = simp length-take (omega arith) in
     let lz : length shifted ≡ n = simp (length-append, length-replicate) (omega arith) in
-    let lt : length (take n (ys ++ drop 80 rest)) ≡ n =
+    let lt : length (take n (ys ++ drop w rest)) ≡ n =
     simp (length-take, length-append, length-drop) (omega arith) in
-    let place : (k : ℕ) → get_or (ys ++ drop 80 rest) k 0 ≡ bit_xor (get_or rest k 0) (product f (get_or row k 0)) =
-    λ k. ⊎_elim (λ (l : k < 80). get_or-append ys (drop 80 rest) 0 k (omega arith) ∙ sums k l)
-    (λ (l : 80 ≤ k).
-    let back : 80 + (k - 80) ≡ k = omega arith in
-    get_or-append_right ys (drop 80 rest) 80 k 0 ly l ∙ get_or-drop 80 rest (k - 80) 0
+    let place : (k : ℕ) → get_or (ys ++ drop w rest) k 0 ≡ bit_xor (get_or rest k 0) (product f (get_or row k 0)) =
+    λ k. ⊎_elim (λ (l : k < w). get_or-append ys (drop w rest) 0 k (omega arith) ∙ sums k l)
+    (λ (l : w ≤ k).
+    let back : w + (k - w) ≡ k = omega arith in
+    get_or-append_right ys (drop w rest) w k 0 ly l ∙ get_or-drop w rest (k - w) 0
     ∙ ap (λ t. get_or rest t 0) back
     ∙ sym (ap (λ t. bit_xor (get_or rest k 0) (product f t)) (zeros k (omega arith)) ∙
     ap (bit_xor (get_or rest k 0)) (product-zero_r f) ∙ xor_zero_r _))
-    (cases_lt k 80) in
-    let is : take n (ys ++ drop 80 rest) ≡ _ =
-    add_scaled_by_places f (take n (ys ++ drop 80 rest)) (take n rest) shifted (lt ∙ sym taken) (taken ∙ sym lz)
+    (cases_lt k w) in
+    let is : take n (ys ++ drop w rest) ≡ _ =
+    add_scaled_by_places f (take n (ys ++ drop w rest)) (take n rest) shifted (lt ∙ sym taken) (taken ∙ sym lz)
     (λ k l.
     let below : k < n = omega arith in
-    get_or-take n (ys ++ drop 80 rest) k 0 below ∙ place k
+    get_or-take n (ys ++ drop w rest) k 0 below ∙ place k
     ∙ ap (λ t. bit_xor t (product f (get_or row k 0))) (sym (get_or-take n rest k 0 below))
     ∙ ap (λ t. bit_xor (get_or (take n rest) k 0) (product f t))
     (sym (padded row c (n - length g) k (omega arith) zeros))) in
@@ -131,15 +131,15 @@ row_step f rest ys row c n x ly lr few some fits room h root zeros sums =
 
 -- The window after a step: its codewords from the next one on have the value that the old ones had with the codeword at
 -- `at`.
-pub written_value : (old ys : List ℕ) (at end x : ℕ) → at + 1 ≤ end → end ≤ length old → at + 81 ≤ length old →
-    value (take (end - (at + 1)) (ys ++ drop 80 (drop (at + 1) old))) x
+pub written_value : (old ys : List ℕ) (w at end x : ℕ) → at + 1 ≤ end → end ≤ length old →
+    value (take (end - (at + 1)) (ys ++ drop w (drop (at + 1) old))) x
     ≡ value (get_or old at 0 ∷ take (end - (at + 1)) (drop (at + 1) old)) x →
-    value (slice_range (put_mid (at + 1) (at + 1 + 80 - (at + 1)) old ys) (at + 1) end) x
+    value (slice_range (put_mid (at + 1) (at + 1 + w - (at + 1)) old ys) (at + 1) end) x
     ≡ value (slice_range old at end) x
-written_value old ys at end x some most room e =
+written_value old ys w at end x some most e =
     let n = end - (at + 1) in
-    let width : at + 1 + 80 - (at + 1) ≡ 80 = omega arith in
-    let more : List ℕ = ys ++ drop 80 (drop (at + 1) old) in
+    let width : at + 1 + w - (at + 1) ≡ w = omega arith in
+    let more : List ℕ = ys ++ drop w (drop (at + 1) old) in
     let first : at + 1 ≡ length (take (at + 1) old) = simp length-take (omega arith) in
     let one : end - at ≡ suc n = omega arith in
     let f = get_or old at 0 in
@@ -152,14 +152,14 @@ written_value old ys at end x some most room e =
     ap (λ t. value (take t (f ∷ drop (suc at) old)) x) one)
 
 -- sums of bytes and products are bytes
-pub sum_bytes : (f : ℕ) (rest ys row : List ℕ) → length ys ≡ 80 → All (λ word. word < 256) rest → 80 ≤ length rest →
-    ((k : ℕ) → k < 80 → get_or ys k 0 ≡ bit_xor (get_or rest k 0) (product f (get_or row k 0))) →
+pub sum_bytes : (f : ℕ) (rest ys row : List ℕ) (w : ℕ) → length ys ≡ w → All (λ word. word < 256) rest → w ≤ length rest →
+    ((k : ℕ) → k < w → get_or ys k 0 ≡ bit_xor (get_or rest k 0) (product f (get_or row k 0))) →
     All (λ word. word < 256) ys
-sum_bytes f rest ys row long bytes room sums =
+sum_bytes f rest ys row w long bytes room sums =
     All-from_get_or (λ word. word < 256) ys 0
     (λ k h.
     let P : ℕ → Type 0 = λ t. t < 256 in
-    let l : k < 80 = omega arith in
+    let l : k < w = omega arith in
     subst P (sym (sums k l)) (xor_lt 8 (get_or rest k 0) (product f (get_or row k 0))
     (All-get_or (λ word. word < 256) rest k 0 (omega arith) bytes) (product_byte f (get_or row k 0))))
 

@@ -6,7 +6,7 @@ ghost use Rattle.dm_gf256.specs.Field.{IsSoundBlock};
 ghost use Rattle.dm_check_blocks.specs.inner.Remainders.{IsGenerator, AddsWord};
 
 use crate::generator::MOST_CHECKS;
-use crate::multiples::{Multiples, WINDOW_WORDS, generator_row};
+use crate::multiples::{ROW_WORDS, WINDOW_WORDS, divide, generator_row};
 use dm_gf256::add_multiple;
 
 // Divides one codeword more of the message: `checks` is the remainder so far, and `generator` the generator
@@ -53,7 +53,7 @@ fn fill_by_rows(message: &[u8], checks: &mut [u8])
     let mut window = [0; WINDOW_WORDS];
     window[..count].copy_from_slice(message);
     let mut windows = [window];
-    Multiples::of_generator(checks.len()).divide(&mut windows, count);
+    divide(checks.len(), &mut windows, count);
     checks.copy_from_slice(&windows[0][count..count + checks.len()]);
 }
 
@@ -69,7 +69,7 @@ pub fn checks_of(message: &[u8], checks: &mut [u8])
         → IsSoundBlock (length checks.old) (message.now ++ others) → others ≡ checks.new }
 {
     if message.len() < FEWEST_BY_ROWS {
-        let row = generator_row(checks.len());
+        let row = generator_row::<ROW_WORDS>(checks.len());
         fill_word_by_word(message, checks, &row[..checks.len()]);
     } else {
         fill_by_rows(message, checks);

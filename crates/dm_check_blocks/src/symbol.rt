@@ -8,7 +8,7 @@ ghost use Rattle.dm_check_blocks.specs.Blocks.{position, block_of, Completes};
 ghost use Rattle.dm_check_blocks.specs.inner.Remainders.{row_at, KeepsOtherWords, HoldsData, HoldsChecks};
 
 use crate::checks::checks_of;
-use crate::multiples::{Multiples, WINDOW_WORDS, Window};
+use crate::multiples::{WINDOW_WORDS, Window, divide};
 use dm_size::Size;
 use std::alloc::{AllocError, Allocator};
 
@@ -92,7 +92,7 @@ fn complete_in_turns(size: Size, words: &mut [u8])
     let mut windows = [[0; WINDOW_WORDS]; MOST_BLOCKS];
     let windows = &mut windows[..size.blocks()];
     read_blocks(size, words, windows);
-    Multiples::of_generator(size.block_checks()).divide(windows, size.block_data());
+    divide(size.block_checks(), windows, size.block_data());
     write_blocks(size, words, windows);
 }
 

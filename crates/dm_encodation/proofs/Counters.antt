@@ -1,5 +1,5 @@
 -- What a counter of codewords says, and how large its numbers are.
-use Rattle.std.proofs.Common.{◌≡◌, ℕ, ◌+◌, ◌*◌, ◌<◌, ◌≤◌, ◌^◌, List, [], length, drop, refl, arith}
+use Rattle.std.proofs.Common.{◌≡◌, ℕ, ◌+◌, ◌*◌, ◌≤◌, List, [], length, drop, refl, arith}
 use Rattle.std.proofs.lemmas.Bool.{cases_lt, leb-false, lt-leb, ne_eqb, cond_both}
 use Rattle.std.proofs.lemmas.List.{length-take-le, length-drop}
 use Rattle.dm_encodation.specs.inner.Counting.{Counts, CountsRun, IsSmall, IsSmallRun, base_256_need, run_need}
@@ -74,20 +74,22 @@ words-base_256 n k e scheme bytes counts = grind (arith, need-base_256)
 
 -- ---- a counter's numbers
 
--- no sum of a run's counter overflows
-small_run : (t : Letters) (bytes : List ℕ) (c : RunCounter) → length bytes < 2 ^ 64 → CountsRun t bytes c → IsSmallRun c
-small_run t bytes c lt counts =
+-- the numbers of a run's counter
+small_run : (n : ℕ) (t : Letters) (bytes : List ℕ) (c : RunCounter) → length bytes ≤ n → CountsRun t bytes c
+    → IsSmallRun n c
+small_run n t bytes c le counts =
     let run = run_length t bytes in
     let ascii = length-ascii (drop run bytes) in
     grind (arith, run_within, length-values, ascii.1, length-take-le, length-drop)
 
--- no sum of a counter overflows
-pub small : (scheme : Scheme) (bytes : List ℕ) (c : Counter) → length bytes < 2 ^ 64 → Counts scheme bytes c → IsSmall c
-small scheme bytes (counters.Ascii c) lt counts = grind (arith, length-ascii)
-small C40 bytes (counters.Run Capital c) lt counts = small_run Capital bytes c lt counts
-small Text bytes (counters.Run Small c) lt counts = small_run Small bytes c lt counts
-small scheme bytes (counters.Base256 n) lt counts = grind arith
-small Ascii bytes (counters.Run t c) lt counts = absurd counts
-small C40 bytes (counters.Run Small c) lt counts = absurd counts
-small Text bytes (counters.Run Capital c) lt counts = absurd counts
-small Base256 bytes (counters.Run t c) lt counts = absurd counts
+-- the numbers of a counter
+pub small : (n : ℕ) (scheme : Scheme) (bytes : List ℕ) (c : Counter) → length bytes ≤ n → Counts scheme bytes c
+    → IsSmall n c
+small n scheme bytes (counters.Ascii c) le counts = grind (arith, length-ascii)
+small n C40 bytes (counters.Run Capital c) le counts = small_run n Capital bytes c le counts
+small n Text bytes (counters.Run Small c) le counts = small_run n Small bytes c le counts
+small n scheme bytes (counters.Base256 k) le counts = grind arith
+small n Ascii bytes (counters.Run t c) le counts = absurd counts
+small n C40 bytes (counters.Run Small c) le counts = absurd counts
+small n Text bytes (counters.Run Capital c) le counts = absurd counts
+small n Base256 bytes (counters.Run t c) le counts = absurd counts

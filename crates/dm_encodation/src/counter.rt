@@ -1,6 +1,6 @@
 //! The number of codewords that a text takes, counted byte by byte.
 
-ghost use Rattle.std.specs.Prelude.{◌≡◌, ℕ, ◌<◌, ◌≤◌, ◌^◌, ◌++◌, ◌∷◌, [], List, length};
+ghost use Rattle.std.specs.Prelude.{◌≡◌, ℕ, ◌<◌, ◌≤◌, ◌*◌, ◌-◌, ◌^◌, ◌++◌, ◌∷◌, [], List, length};
 ghost use Rattle.dm_encodation.specs.inner.Counting.{Counts, CountsAscii, CountsRun, IsSmall, IsSmallRun, base_256_need, run_need};
 ghost use Rattle.dm_encodation.specs.Written.{ascii_byte, need_of};
 ghost use Rattle.dm_encodation.specs.declared.letters.Letters.{Letters};
@@ -13,13 +13,13 @@ use crate::scheme::Scheme;
 /// The codewords of a text in ASCII.
 #[derive(Clone, Copy)]
 pub(crate) struct AsciiCounter {
-    words: u128,
+    words: usize,
     /// The last byte is a digit that stands alone, so that one more digit would share its codeword.
     lone_digit: bool,
 }
 
 // The codewords of a byte that stands alone in ASCII.
-fn words_of_byte(byte: u8) -> u128
+fn words_of_byte(byte: u8) -> usize
     ensures exact { result ≡ length (ascii_byte byte) }
     ensures few { result ≤ 2 }
 {
@@ -40,7 +40,7 @@ impl AsciiCounter {
     // The counter after one more byte.
     #[inline(always)]
     fn with(self, byte: u8) -> AsciiCounter
-        requires { self.words < 2 ^ 100 }
+        requires { self.words ≤ 2 * (2 ^ 63 - 2) }
         ensures { (bytes : List ℕ) → CountsAscii bytes self
             → CountsAscii (bytes ++ byte ∷ []) result }
     {
@@ -84,7 +84,7 @@ impl RunCounter {
     // The counter after one more byte.
     #[inline(always)]
     fn with(self, letters: Letters, byte: u8) -> RunCounter
-        requires { IsSmallRun self }
+        requires { IsSmallRun (2 ^ 63 - 2) self }
         ensures { (bytes : List ℕ) → CountsRun letters bytes self
             → CountsRun letters (bytes ++ byte ∷ []) result }
     {
@@ -106,24 +106,24 @@ impl RunCounter {
     // The number of codewords that the bytes take.
     #[inline(always)]
     fn words(self) -> u128
-        requires { IsSmallRun self }
+        requires { IsSmallRun (2 ^ 63 - 1) self }
         ensures { result ≡ run_need self.run self.after.words }
     {
         if self.run == 0 {
-            return self.after.words;
+            return self.after.words as u128;
         }
         let run = 1 + self.run / 3 * 2;
         if self.after.words == 0 {
             run
         } else {
-            1 + run + self.after.words
+            1 + run + self.after.words as u128
         }
     }
 }
 
 // The number of codewords that this many bytes take in Base 256.
 fn base_256_words(count: u128) -> u128
-    requires { count < 2 ^ 100 }
+    requires { count < 2 ^ 63 }
     ensures { result ≡ base_256_need count }
 {
     match count {
@@ -158,7 +158,7 @@ impl Counter {
     /// The counter after one more byte.
     #[inline(always)]
     pub(crate) fn with(self, byte: u8) -> Counter
-        requires { IsSmall self }
+        requires { IsSmall (2 ^ 63 - 2) self }
         ensures { (scheme : Scheme) (bytes : List ℕ) → Counts scheme bytes self
             → Counts scheme (bytes ++ byte ∷ []) result }
     {
@@ -172,12 +172,12 @@ impl Counter {
     /// The number of codewords that the bytes take.
     #[inline(always)]
     pub(crate) fn words(self) -> u128
-        requires { IsSmall self }
+        requires { IsSmall (2 ^ 63 - 1) self }
         ensures { (scheme : Scheme) (bytes : List ℕ)
             → Counts scheme bytes self → result ≡ need_of scheme bytes }
     {
         match self {
-            Counter::Ascii(counter) => counter.words,
+            Counter::Ascii(counter) => counter.words as u128,
             Counter::Run(_, counter) => counter.words(),
             Counter::Base256(count) => base_256_words(count),
         }

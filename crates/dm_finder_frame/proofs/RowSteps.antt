@@ -1,7 +1,7 @@
 -- One step of each loop that makes a row: the modules so far are those of the square, and stay so.
 use Rattle.std.specs.{Prelude.◌%◌, Prelude.OnOk, List.between}
-use Rattle.std.proofs.Common.{◌≡◌, ℕ, ◌+◌, ◌*◌, ◌<◌, ◌≤◌, List, [], ◌∷◌, ◌++◌, length, get_or, take, Bool, true, false, ◌==◌, Result, Ok, Err, is_ok, cond, refl, ap, ◌∙◌, subst, arith, length-append, rules}
-use Rattle.std.proofs.{Math.Nat.mul-le-mul_right, lemmas.List.length-take-le, lemmas.List.Edits.length-between}
+use Rattle.std.proofs.Common.{◌≡◌, ℕ, ◌+◌, ◌-◌, ◌*◌, ◌<◌, ◌≤◌, List, [], ◌∷◌, ◌++◌, length, get_or, take, Bool, true, false, ◌==◌, Result, Ok, Err, is_ok, cond, refl, ap, ◌∙◌, subst, arith, length-append, rules}
+use Rattle.std.proofs.{Math.Nat.mul-le-mul_right, lemmas.Nat.div-mul-add, lemmas.Nat.mod-mul-add, lemmas.List.length-take-le, lemmas.List.Edits.length-between}
 use Rattle.std.proofs.lemmas.List.FromFn.{length-map-range_with_len}
 use Rattle.dm_size.specs.{declared.size.Size.Size, Sizes.side, Sizes.region, Sizes.regions, Sizes.across, Sizes.mapping}
 use Rattle.dm_size.specs.Squares.{Square, IsWhole}
@@ -63,6 +63,11 @@ pub inner_fits : (s : Size) (m : Square) (r b h : ℕ) (line : List Bool) → re
 inner_fits s m r b h line e whole same row_in low high b_in is =
     search (arith, parts_fit, fills_side, mapping_place_below, row_length)
 
+-- the rows of a band of framed regions, and of the data regions in it
+pub in_band : (s : Size) (b p : ℕ) → b < across s → p < region s + 2 → let r = b * (region s + 2) + p in (r < side s)
+    × (r % (region s + 2) ≡ p) × (mapping_place (region s) r ≡ b * region s + p - 1)
+in_band s b p b_in p_in = grind (arith, parts_fit, fills_side, div-mul-add, mod-mul-add)
+
 -- a whole row of the grid more
 row_more : (s : Size) (m : Square) (r : ℕ) (xs ys zs : List Bool)
     → xs ≡ first_modules (side s) (grid_module s m) (r * side s) → ys ≡ xs ++ zs → length zs ≡ side s
@@ -82,11 +87,19 @@ pub top_more : (s : Size) (m : Square) (r : ℕ) (xs ys : List Bool) → region 
     → ys ≡ first_modules (side s) (grid_module s m) ((r + 1) * side s)
 top_more s m r xs ys even at begun joined = search (arith, most_side, row_more, length-take-le, top_piece)
 
--- their bottom row
-pub bottom_more : (s : Size) (m : Square) (r : ℕ) (xs ys : List Bool) → r % (region s + 2) ≡ region s + 1
-    → xs ≡ first_modules (side s) (grid_module s m) (r * side s) → ys ≡ xs ++ take (side s) BOTTOM
-    → ys ≡ first_modules (side s) (grid_module s m) ((r + 1) * side s)
-bottom_more s m r xs ys at begun joined = search (arith, most_side, row_more, length-take-le, bottom_piece)
+-- their bottom row, and with it a band of regions
+pub band_more : (s : Size) (m : Square) (b p : ℕ) (xs ys : List Bool) → p ≡ region s
+    → xs ≡ first_modules (side s) (grid_module s m) ((b * (region s + 2) + p + 1) * side s) → ys ≡ xs ++ take (side s) BOTTOM
+    → ys ≡ first_modules (side s) (grid_module s m) ((b + 1) * (region s + 2) * side s)
+band_more s m b p xs ys is begun joined =
+    let f = region s + 2 in
+    let r = b * f + (region s + 1) in
+    let here : b * f + p + 1 ≡ r = omega arith in
+    let next : r + 1 ≡ (b + 1) * f = omega arith in
+    row_more s m r xs ys (take (side s) BOTTOM) (begun ∙ ap (λ k. first_modules (side s) (grid_module s m) (k * side s)) here)
+    joined (length-take-le (side s) BOTTOM (most_side s))
+    (λ k l. bottom_piece s m r (side s) k (mod-mul-add b f (region s + 1) (omega arith)) (most_side s) l)
+    ∙ ap (λ k. first_modules (side s) (grid_module s m) (k * side s)) next
 
 -- one region's part of a row of the mapping matrix more
 pub matrix_more : (g : GridView) (r b h : ℕ) (line xs ys : List Bool) → region g.size ≡ h → IsWholeGrid g

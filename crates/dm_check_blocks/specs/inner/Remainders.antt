@@ -29,7 +29,7 @@ AddsWord generator word old new = (x : ℕ) → x < 256 → value (1 ∷ generat
 
 -- row f of the table is f times the row
 abbrev pub AreMultiples : List ℕ → List (List ℕ) → Type 0
-AreMultiples row rows = (f k : ℕ) → f < 16 → k < 80 → slice_index (row_at rows f) k ≡ product f (slice_index row k)
+AreMultiples row rows = (f k : ℕ) → f < 16 → k < length row → slice_index (row_at rows f) k ≡ product f (slice_index row k)
 
 -- One step of the division of a window: the codewords after the one at `at` have, at each root of the generator
 -- polynomial, the value that they had together with it, however many of them are taken.

@@ -1,5 +1,5 @@
 -- What a counter of codewords knows of the bytes so far, and the pieces that an encoder takes from a text.
-use Rattle.std.specs.Prelude.{◌≡◌, ℕ, ◌+◌, ◌*◌, ◌/◌, ◌<◌, ◌^◌, List, [], ◌∷◌, length, take, drop, Bool, false, ◌&&◌, ◌==◌, nat_le, if◌then◌else◌, ◌++◌, ◌-◌, ◌≤◌}
+use Rattle.std.specs.Prelude.{◌≡◌, ℕ, ◌+◌, ◌*◌, ◌/◌, ◌<◌, List, [], ◌∷◌, length, take, drop, Bool, false, ◌&&◌, ◌==◌, nat_le, if◌then◌else◌, ◌++◌, ◌-◌, ◌≤◌}
 use Rattle.std.specs.{Char.is_ascii_digit, List.flat_map, List.AllByRecursion}
 use Rattle.dm_encodation.specs.{Grammar.values_of, Written.ascii, Written.run_length, Written.pairs}
 use Rattle.dm_encodation.specs.declared.letters.Letters.{Letters, TheVariants.Capital, TheVariants.Small}
@@ -46,17 +46,17 @@ Counts Text bytes (counters.Run Small c) = CountsRun Small bytes c
 Counts Base256 bytes (counters.Base256 n) = n ≡ length bytes
 Counts _ _ _ = ⊥
 
--- no sum of a run's counter overflows
-pub record IsSmallRun (c : RunCounter) : Type 0 where
-  pub values : c.values < 2 ^ 100
-  pub run : c.run < 2 ^ 100
-  pub after : c.after.words < 2 ^ 100
+-- a run's counter of at most n bytes has no greater numbers, so that no sum overflows
+pub record IsSmallRun (n : ℕ) (c : RunCounter) : Type 0 where
+  pub values : c.values ≤ 4 * n
+  pub run : c.run ≤ 4 * n
+  pub after : c.after.words ≤ 2 * n
 
--- no sum of a scheme's counter overflows
-abbrev pub IsSmall : Counter → Type 0
-IsSmall (counters.Ascii c) = c.words < 2 ^ 100
-IsSmall (counters.Run t c) = IsSmallRun c
-IsSmall (counters.Base256 n) = n < 2 ^ 100
+-- nor has a scheme's counter
+abbrev pub IsSmall : ℕ → Counter → Type 0
+IsSmall n (counters.Ascii c) = c.words ≤ 2 * n
+IsSmall n (counters.Run t c) = IsSmallRun n c
+IsSmall n (counters.Base256 count) = count ≤ n
 
 -- the waiting values in order
 abbrev pub held_values : Held → List ℕ

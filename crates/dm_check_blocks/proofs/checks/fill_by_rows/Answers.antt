@@ -1,4 +1,4 @@
-use Rattle.std.proofs.Common.{◌≡◌, ◌++◌, ℕ, List, sym, ◌∙◌, ap, subst, arith, length, length-append, length-drop, take, drop, replicate}
+use Rattle.std.proofs.Common.{◌≡◌, ◌++◌, ℕ, List, sym, ◌∙◌, ap, arith, length, length-append, length-drop, take, drop, replicate}
 use Rattle.std.proofs.lemmas.List.{take_at}
 use Rattle.dm_gf256.specs.Field.{power, value}
 use Rattle.dm_check_blocks.specs.inner.Remainders.{row_at, IsDivided}
@@ -16,8 +16,7 @@ returns c = λ k p q.
     let same : message ≡ c.args.message.now = c.copy_from_slice.ensures.after in
     let first : length message ≡ d = ap length same in
     let size : length old ≡ 336 = simp (length-append, length-drop) (omega arith) in
-    let divided : IsDivided n d old new =
-    subst (λ (t : ℕ). IsDivided t d old new) c.of_generator.ensures (c.divide.ensures 0 (omega arith)) in
+    let divided : IsDivided n d old new = c.divide.ensures 0 (omega arith) in
     ap (λ t. value (t ++ c.copy_from_slice-2.new.self) (power 2 k))
     (sym same ∙ sym (take_at message (drop d zs) d first))
     ∙ ap (λ t. value (take d old ++ t) (power 2 k)) c.copy_from_slice-2.ensures.after

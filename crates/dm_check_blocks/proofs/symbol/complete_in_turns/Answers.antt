@@ -17,13 +17,12 @@ returns-clause-completed c = λ b h.
     let old : List ℕ = row_at c.read_blocks.new.windows b in
     let new : List ℕ = row_at c.divide.new.windows b in
     let held = c.read_blocks.ensures b h in
-    let checks : c.of_generator.result.checks ≡ n = c.of_generator.ensures ∙ c.block_checks.ensures.value in
     let wide : length (take c.blocks-2.result (let z : List (List ℕ) = replicate 8 (replicate 336 0) in z)) ≡ blocks s =
     simp length-take (omega (arith, c.blocks-2.ensures.sound.most_blocks, c.blocks-2.ensures.value)) in
     let inside : b < length c.read_blocks.new.windows = omega (arith, c.read_blocks.auto.windows, wide) in
     let divided : IsDivided n d old new =
     subst (λ (t : ℕ). IsDivided n t old new) c.block_data.ensures.value
-    (subst (λ (t : ℕ). IsDivided t c.block_data.result old new) checks (c.divide.ensures b inside)) in
+    (subst (λ (t : ℕ). IsDivided t c.block_data.result old new) c.block_checks.ensures.value (c.divide.ensures b inside)) in
     let words : List ℕ = c.write_blocks.new.words in
     let message : List ℕ = take d old in
     let rest : List ℕ = slice_range new d (d + n) in

@@ -8,8 +8,9 @@ use Rattle.dm_check_blocks.proofs.DivisionSteps.{row_step, split_multiple, writt
 use Rattle.dm_check_blocks.proofs.multiples.Multiples.step.Goals as goal
 
 pub returns : goal.returns
-returns c =
+returns g c =
     let s = c.args.self.now in
+    let w : ℕ = g.row.ROW in
     let at : ℕ = c.args.at in
     let old : List ℕ = c.args.window.now in
     let ys : List ℕ = c.add_rows.new.words in
@@ -17,29 +18,29 @@ returns c =
     let f : ℕ = get_or old at 0 in
     let row : List ℕ = row_at s.low 1 in
     let byte : f < 256 = c.fits-window at in
-    let sums : (j : ℕ) → j < 80 → get_or ys j 0 ≡ bit_xor (get_or rest j 0) (product f (get_or row j 0)) =
+    let sums : (j : ℕ) → j < w → get_or ys j 0 ≡ bit_xor (get_or rest j 0) (product f (get_or row j 0)) =
     λ j h.
     let low : ℕ = get_or (row_at s.low (f % 16)) j 0 in
     let high : ℕ = get_or (row_at s.high (f / 16)) j 0 in
-    let width : ℕ = at + 1 + 80 - (at + 1) in
+    let width : ℕ = at + 1 + w - (at + 1) in
     c.add_rows.ensures j h
     ∙ ap (λ t. bit_xor t (bit_xor low high)) (get_or-take width rest j 0 (omega arith))
-    ∙ ap (bit_xor (get_or rest j 0)) (ap (bit_xor low) (s.high_multiples (f / 16) j (omega arith) h)
-    ∙ ap (λ t. bit_xor t (product (f / 16) (product 16 (get_or row j 0)))) (s.multiples (f % 16) j (omega arith) h)
+    ∙ ap (bit_xor (get_or rest j 0)) (ap (bit_xor low) (s.high_multiples (f / 16) j (omega arith) (omega arith))
+    ∙ ap (λ t. bit_xor t (product (f / 16) (product 16 (get_or row j 0)))) (s.multiples (f % 16) j (omega arith) (omega arith))
     ∙ split_multiple f (get_or row j 0) byte) in
     let long : length rest ≡ 335 - at = simp length-drop (omega arith) in
-    let wide : length ys ≡ 80 = c.add_rows.auto.words ∙ simp length-take (omega arith) in
+    let wide : length ys ≡ w = c.add_rows.auto.words ∙ simp length-take (omega arith) in
     let bytes : All (λ word. word < 256) old =
     All-from_get_or (λ word. word < 256) old 0 (λ i h. c.fits-window i) in
     record {
       values =
           λ k end p q l m.
-          let first : length (take s.checks row) ≡ s.checks = simp length-take (omega (arith, s.size, s.most)) in
-          written_value old ys at end (power 2 k) (omega arith) (omega arith) (omega arith)
-          (row_step f rest ys row s.checks (end - (at + 1)) (power 2 k) wide s.size (omega (arith, s.most))
+          let first : length (take s.checks row) ≡ s.checks = simp length-take (omega (arith, s.size, s.most.0, s.most.1)) in
+          written_value old ys w at end (power 2 k) (omega arith) (omega arith)
+          (row_step f rest ys row w s.checks (end - (at + 1)) (power 2 k) wide (omega (arith, s.size, s.most.0, s.most.1)) (omega arith)
           (omega arith) (omega arith) (omega arith) (power_byte 2 k (omega arith)) (s.generator k p (omega arith)) s.zeros sums);
       size = simp (length-append, length-take, length-drop) (omega arith);
       bytes =
-          written_bytes old ys (at + 1) (at + 1 + 80 - (at + 1)) bytes
-          (sum_bytes f rest ys row wide (All-drop (λ word. word < 256) (at + 1) old bytes) (omega arith) sums);
+          written_bytes old ys (at + 1) (at + 1 + w - (at + 1)) bytes
+          (sum_bytes f rest ys row w wide (All-drop (λ word. word < 256) (at + 1) old bytes) (omega arith) sums);
     }
