@@ -477,7 +477,7 @@ module _ {w1 w2 w3 w4 w5 w6 w7 w8 w9 : List (List ℕ)} {p0 p1 p2 p3 p4 p5 p6 p7
       (third_so (AreApart (made_of 2 100 199)) ((λ e. omega (arith, e)), inl (omega arith)))
       (perhaps_pairs a6.before.joint.content a6.after.joint.content (made_of 3 200 299) [] tt tt)))
 
-  asks : LinesAsk lines
+  abbrev asks : LinesAsk lines
   asks = record {
     places = p0;
     is_new = λ other named. (blank other).0;
@@ -516,11 +516,12 @@ module _ {w1 w2 w3 w4 w5 w6 w7 w8 w9 : List (List ℕ)} {p0 p1 p2 p3 p4 p5 p6 p7
 
     -- ---- what the law says
 
+    untouched : p8 path.now ≡ p0 path.now
+    untouched = a8.is_at.2 path.now (λ same. omega (arith, great_out, ap first_byte (same ∙ n8)))
+        ∙ stay path.now (λ same. omega (arith, ap first_byte (sym path_is ∙ same))) ∙ kept path.now great_out
+
     honest_out : IsTrue (p8 path.now).joint.is_honest
-    honest_out = subst (λ (f : DeskFiles). IsTrue f.joint.is_honest)
-        (sym (a8.is_at.2 path.now (λ same. omega (arith, great_out, ap first_byte (same ∙ n8)))
-        ∙ stay path.now (λ same. omega (arith, ap first_byte (sym path_is ∙ same))) ∙ kept path.now great_out))
-        (blank path.now).0.honest
+    honest_out = subst (λ (f : DeskFiles). IsTrue f.joint.is_honest) (sym untouched) (blank path.now).0.honest
 
     honest_labels : IsTrue (p7 (codes "labels")).joint.is_honest
     honest_labels = subst (λ (f : DeskFiles). IsTrue f.joint.is_honest) (sym (kept (codes "labels") (omega arith)))
@@ -545,18 +546,26 @@ module _ {w1 w2 w3 w4 w5 w6 w7 w8 w9 : List (List ℕ)} {p0 p1 p2 p3 p4 p5 p6 p7
         (also (inl refl) (also (inl refl) (also (inl refl) (also (inl refl) (also (inl refl) (also (inl refl)
         (also (inr refl) (also (inl refl) tt)))))))) the_document.1.printed) refl (omega arith)
 
-    pub go_well : map typed worked_words ≡ w1 ∷ w2 ∷ w3 ∷ w4 ∷ w5 ∷ w6 ∷ w7 ∷ w8 ∷ w9 ∷ [] → LinesGoWell
-    go_well words = record {
+    pub go_well : o5 ≡ codes "refused Old\n" → o6 ≡ codes "refused Device\n" →
+        map typed worked_words ≡ w1 ∷ w2 ∷ w3 ∷ w4 ∷ w5 ∷ w6 ∷ w7 ∷ w8 ∷ w9 ∷ [] → LinesGoWell
+    go_well old device words = record {
       earlier = earlier;
+      print = ran_here x7;
+      scan = ran_here x8;
       deliver = deliver;
       words = sym words;
       statuses = refl;
       commands = refl;
+      told = λ i. (x5.done.output_is ∙ ap Some old) i ∷ (x6.done.output_is ∙ ap Some device) i ∷ [];
       asks = asks;
+      blank = blank;
       vouched = vouched;
-      scan = ran_here x8;
-      scan_is = refl;
-      labels = put_there;
+      printed = refl;
+      print_read = refl;
+      scanned = refl;
+      labels = (o7, x7.done.output_is, put_there, refl);
+      nothing = subst (λ (p : List ℕ). (p8 p).joint.content ≡ None) path_is
+          (ap (λ (f : DeskFiles). f.joint.content) untouched ∙ (blank path.now).0.empty);
       document = subst (λ (text : List ℕ). IsDocumentOf (all_commands earlier) (all_commands lines) text (codes "1234")) id_is
           (subst (IsDocumentOf (all_commands earlier) (all_commands lines) id.now) is_1234 the_document.1);
       saved = subst (λ (p : List ℕ). (p9 p).joint.content ≡ Some (codes "1234")) path_is
@@ -616,4 +625,4 @@ module _ {c1 c2 c3 c4 c5 c6 c7 c8 c9 : Command} {k1 k2 k3 k4 k5 k6 k7 k8 k9 : Li
       (subst (λ (text : List ℕ). IsTextOf text ten_ticket) (sym w.tickets.0) ten_text)
       (subst (λ (text : List ℕ). IsTextOf text ten_ticket) (sym w.tickets.1) ten_text)
       (subst (λ (a : Result (Unit {0}) StoreFault). SavesNew (codes "labels") o7 p7 a q) done
-      (subst (λ (b : List ℕ). SavesNew (codes "labels") b p7 answer q) same7 put)) blank in_turn lets_out words
+      (subst (λ (b : List ℕ). SavesNew (codes "labels") b p7 answer q) same7 put)) blank in_turn lets_out old_is device_is words

@@ -1,6 +1,6 @@
 -- A worked list of typed lines, over places that hold nothing at first. It meets all premises of the laws of lines, and
 -- this is what the laws say of it.
-use Rattle.std.specs.Prelude.{◌≡◌, ◌++◌, ◌∷◌, ℕ, IsTrue, List, [], None, Option, Some, codes, length, map, slice_get, true}
+use Rattle.std.specs.Prelude.{◌≡◌, ◌++◌, ◌∷◌, ℕ, IsTrue, List, [], None, Option, Some, codes, drop, length, map, slice_get, take, true}
 use Rattle.std.specs.{Borrow.Bor, Global.Global}
 use Prim.Native.String.{String}
 use Rattle.std.specs.FinMap as finite
@@ -66,23 +66,34 @@ worked_words =
     ∷ ("relay" ∷ "scan" ∷ "--file" ∷ "d" ∷ [])
     ∷ ("relay" ∷ "deliver" ∷ "--file" ∷ "d" ∷ "--id" ∷ "010b" ∷ "--to" ∷ "out" ∷ []) ∷ []
 
+-- what a line left on its output
+abbrev pub output_of : LineRan Global → Option (List ℕ)
+output_of line = line.after.standard.output
+
 abbrev pub typed : List String → List (List ℕ)
 typed words = map codes words
 
--- These lines ran one after another, from places that hold nothing. Two were refused: a ticket that was taken before, and
--- a ledger whose save failed. The labels of the print were put into the file `labels`, and the scan read them there. The
--- lines meet all premises of the laws of lines, at all paths. So the last one delivers the one document of its ID, which
--- is what the print read.
+-- Nine lines with these words and statuses, one after another, from places that hold nothing. Two were refused: a ticket
+-- that was taken before, and a third ledger. What the print wrote stood in the file `labels`, and the scan read it. The
+-- lines meet all premises of the laws of lines, at all paths. So the last one saves the one document of its ID, which is
+-- what the print read, in a file that was not there.
 pub record LinesGoWell : Type 0 where
   pub earlier : List (LineRan Global)
+  pub print : LineRan Global
+  pub scan : LineRan Global
   pub deliver : LineRan Global
   pub words : map (λ line. line.words) (earlier ++ deliver ∷ []) ≡ map typed worked_words
   pub statuses : map (λ line. line.status) (earlier ++ deliver ∷ []) ≡ 0 ∷ 0 ∷ 0 ∷ 0 ∷ 1 ∷ 1 ∷ 0 ∷ 0 ∷ 0 ∷ []
   pub commands : length (all_commands (earlier ++ deliver ∷ [])) ≡ 9
+  pub told : take 2 (drop 4 (map output_of earlier)) ≡ Some (codes "refused Old\n") ∷ Some (codes "refused Device\n") ∷ []
   pub asks : LinesAsk (earlier ++ deliver ∷ [])
+  pub blank : (path : List ℕ) → AreBlank (asks.places path)
   pub vouched : AreVouchedFor (λ path. IsTrue true) (all_commands (earlier ++ deliver ∷ []))
-  pub scan : LineRan Global
-  pub scan_is : slice_get earlier 7 ≡ Some scan
-  pub labels : (scan.before.places (codes "labels")).joint.content ≡ scan.before.standard.input
+  pub printed : slice_get earlier 6 ≡ Some print
+  pub print_read : print.before.standard.input ≡ Some (codes "1234")
+  pub scanned : slice_get earlier 7 ≡ Some scan
+  pub labels : (bytes : List ℕ) × (output_of print ≡ Some bytes)
+      × ((scan.before.places (codes "labels")).joint.content ≡ Some bytes) × (scan.before.standard.input ≡ Some bytes)
   pub document : IsDocumentOf (all_commands earlier) (all_commands (earlier ++ deliver ∷ [])) (codes "010b") (codes "1234")
+  pub nothing : (deliver.before.places (codes "out")).joint.content ≡ None
   pub saved : (deliver.after.places (codes "out")).joint.content ≡ Some (codes "1234")
